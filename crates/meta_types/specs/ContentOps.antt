@@ -1,0 +1,97 @@
+-- What requests on content and on ingests do. The state is that before the request.
+use Rattle.std.specs.Prelude.{false, not, ◌||◌, List, [], ◌∷◌, Option, None, if◌then◌else◌, bytes_eq, is_some, is_none, option_map, pos, ◌+ℤ◌}
+use Rattle.std.specs.Option.{option_map_or}
+use Rattle.meta_types.specs.Text.{Text, is_short_name, is_name, is_digest}
+use Rattle.meta_types.specs.Time.{instant_of}
+use Rattle.meta_types.specs.Keys.{row_at, has_row, add_row, remove_row, change_row}
+use Rattle.meta_types.specs.Labels.{labels_of, are_labels, put_label}
+use Rattle.meta_types.specs.Rows.{State, content_key, ingest_key}
+use Rattle.meta_types.specs.Limits.{is_out_of_numbers}
+use Rattle.meta_types.specs.Changes.{with_content, with_ingests, with_blob, with_ingest_object, holding, is_allowed_if}
+use Rattle.meta_types.specs.Outcomes.{Outcome, reads, changes, relabels, row_reply, names_in, lacks}
+use Rattle.meta_types.specs.declared.instant.Instant.{Instant}
+use Rattle.meta_types.specs.declared.resource.Resource.TheVariants.{Content, Ingest}
+use Rattle.meta_types.specs.declared.reply.Row.TheVariants as W
+use Rattle.meta_types.specs.declared.reply.Reply.TheVariants as R
+
+-- ---- content
+
+-- adds content to a namespace, makes its blob where the backend doesn't hold it, and gives it to the lease (containerd content-flow.md)
+abbrev pub adds_content : State → Text → Text → List (Text × Text) → Option Text → Outcome
+adds_content state ns digest labels lease =
+    let rows = state.records.tables.content in
+    changes (is_short_name ns ∷ is_digest digest ∷ are_labels labels ∷ is_allowed_if is_name lease ∷ []) (lacks state ns lease) (has_row content_key (ns ∷ digest ∷ []) rows) false
+    (holding ns lease (Content digest) (with_blob digest (with_content state (add_row content_key (record { ns = ns; digest = digest; labels = labels_of labels }) rows))))
+
+-- removes content from a namespace; its blob goes at a later collection (containerd content store, Delete)
+abbrev pub removes_content : State → Text → Text → Outcome
+removes_content state ns digest =
+    let rows = state.records.tables.content in
+    changes (is_short_name ns ∷ is_digest digest ∷ []) (not (has_row content_key (ns ∷ digest ∷ []) rows)) false false
+    (with_content state (remove_row content_key (ns ∷ digest ∷ []) rows))
+
+-- shows content (containerd content store, Info)
+abbrev pub gets_content : State → Text → Text → Outcome
+gets_content state ns digest =
+    let found = row_at content_key (ns ∷ digest ∷ []) state.records.tables.content in
+    reads state (is_short_name ns ∷ is_digest digest ∷ []) (is_none found) (row_reply W.Content found)
+
+-- puts one label on content (containerd content store, Update)
+abbrev pub labels_content : State → Text → Text → Text → Text → Outcome
+labels_content state ns digest key value =
+    let rows = state.records.tables.content in
+    let found = row_at content_key (ns ∷ digest ∷ []) rows in
+    relabels (is_short_name ns ∷ is_digest digest ∷ []) (λ row. row.labels) key value found
+    (with_content state (change_row content_key (ns ∷ digest ∷ []) (λ row. record row { labels = put_label key value row.labels }) rows))
+
+-- the digests of a namespace's content (containerd content store, Walk)
+abbrev pub lists_content : State → Text → Outcome
+lists_content state ns =
+    reads state (is_short_name ns ∷ []) (lacks state ns None) (R.Names (names_in (λ row. row.ns) (λ row. row.digest) ns state.records.tables.content))
+
+-- ---- ingests
+
+-- an ingest that was begun at this time ends 24 hours later (containerd content-flow.md: ingests are cleaned up after a day; the end included: ours)
+abbrev pub end_of : Text → Option Instant
+end_of at = option_map (λ moment. record { 0 = moment +ℤ pos 86400000000000 }) (instant_of at)
+
+-- one that a lease holds has no end of its own (ours)
+abbrev pub own_end : Option Text → Text → Option Instant
+own_end lease at = if is_some lease then None else end_of at
+
+-- begins an ingest under the next backend number (containerd content-flow.md)
+abbrev pub begins_ingest : State → Text → Text → Text → Option Text → Option Text → Outcome
+begins_ingest state ns name at expected lease =
+    let rows = state.records.tables.ingests in
+    changes (is_short_name ns ∷ is_name name ∷ is_some (instant_of at) ∷ is_allowed_if is_digest expected ∷ is_allowed_if is_name lease ∷ [])
+    (lacks state ns lease) (has_row ingest_key (ns ∷ name ∷ []) rows) (is_out_of_numbers state)
+    (holding ns lease (Ingest name) (with_ingest_object (with_ingests state (add_row ingest_key (record { ns = ns; name = name; expected = expected; expires = own_end lease at; number = state.records.next }) rows))))
+
+-- commits an ingest as content, which isn't there yet and is the one expected; its backend object goes at a later collection (containerd content-flow.md)
+abbrev pub commits_ingest : State → Text → Text → Text → List (Text × Text) → Option Text → Outcome
+commits_ingest state ns name digest labels lease =
+    let rows = state.records.tables.ingests in
+    let found = row_at ingest_key (ns ∷ name ∷ []) rows in
+    let content = state.records.tables.content in
+    changes (is_short_name ns ∷ is_name name ∷ is_digest digest ∷ are_labels labels ∷ is_allowed_if is_name lease ∷ [])
+    (lacks state ns lease || is_none found) (has_row content_key (ns ∷ digest ∷ []) content)
+    (option_map_or (λ row. option_map_or (λ other. not (bytes_eq other digest)) row.expected false) found false)
+    (holding ns lease (Content digest) (with_blob digest (with_content (with_ingests state (remove_row ingest_key (ns ∷ name ∷ []) rows)) (add_row content_key (record { ns = ns; digest = digest; labels = labels_of labels }) content))))
+
+-- aborts an ingest; its backend object goes at a later collection (containerd content-flow.md)
+abbrev pub aborts_ingest : State → Text → Text → Outcome
+aborts_ingest state ns name =
+    let rows = state.records.tables.ingests in
+    changes (is_short_name ns ∷ is_name name ∷ []) (not (has_row ingest_key (ns ∷ name ∷ []) rows)) false false
+    (with_ingests state (remove_row ingest_key (ns ∷ name ∷ []) rows))
+
+-- shows an ingest (containerd content store, Status)
+abbrev pub gets_ingest : State → Text → Text → Outcome
+gets_ingest state ns name =
+    let found = row_at ingest_key (ns ∷ name ∷ []) state.records.tables.ingests in
+    reads state (is_short_name ns ∷ is_name name ∷ []) (is_none found) (row_reply W.Ingest found)
+
+-- the names of a namespace's ingests (containerd content store, ListStatuses)
+abbrev pub lists_ingests : State → Text → Outcome
+lists_ingests state ns =
+    reads state (is_short_name ns ∷ []) (lacks state ns None) (R.Names (names_in (λ row. row.ns) (λ row. row.name) ns state.records.tables.ingests))

@@ -1,0 +1,96 @@
+-- What requests on snapshots do. The state is that before the request.
+use Rattle.std.specs.Prelude.{Bool, true, false, not, ◌&&◌, ◌||◌, List, [], ◌∷◌, map, Option, None, filter, bytes_eq, is_some, is_none, option_map, option_and_then}
+use Rattle.std.specs.List.{list_any}
+use Rattle.std.specs.Option.{option_map_or}
+use Rattle.meta_types.specs.Text.{Text, is_short_name, is_name}
+use Rattle.meta_types.specs.Keys.{row_at, has_row, add_row, remove_row, change_row}
+use Rattle.meta_types.specs.Labels.{LabelList, labels_of, are_labels, put_label}
+use Rattle.meta_types.specs.Rows.{State, snap_key}
+use Rattle.meta_types.specs.Limits.{is_out_of_numbers}
+use Rattle.meta_types.specs.Changes.{with_snapshots, with_snapshot_object, holding, is_allowed_if}
+use Rattle.meta_types.specs.Outcomes.{Outcome, reads, changes, relabels, row_reply, lacks}
+use Rattle.meta_types.specs.declared.rows.SnapRow.{SnapRow}
+use Rattle.meta_types.specs.declared.rows.SnapKind.{SnapKind}
+use Rattle.meta_types.specs.declared.rows.SnapKind.TheVariants.{Active, View, Committed}
+use Rattle.meta_types.specs.declared.resource.Resource.TheVariants.{Snapshot}
+use Rattle.meta_types.specs.declared.reply.Row.TheVariants as W
+use Rattle.meta_types.specs.declared.reply.Reply.TheVariants as R
+
+-- others may stand over the snapshot (containerd snapshots service, KindCommitted)
+abbrev pub is_committed : SnapKind → Bool
+is_committed Committed = true
+is_committed Active = false
+is_committed View = false
+
+-- it can be committed (containerd snapshots service, KindActive)
+abbrev pub is_active : SnapKind → Bool
+is_active Active = true
+is_active Committed = false
+is_active View = false
+
+-- the row of a parent, where one is named (containerd snapshots service)
+abbrev pub parent_row : List SnapRow → Text → Text → Option Text → Option SnapRow
+parent_row rows ns snapshotter parent = option_and_then (λ name. row_at snap_key (ns ∷ snapshotter ∷ name ∷ []) rows) parent
+
+-- makes a snapshot over a committed parent or none, under the next backend number (containerd snapshots service, Prepare and View)
+abbrev pub prepares : State → SnapKind → Text → Text → Text → Option Text → List (Text × Text) → Option Text → Outcome
+prepares state kind ns snapshotter key parent labels lease =
+    let rows = state.records.tables.snapshots in
+    let above = parent_row rows ns snapshotter parent in
+    let new : SnapRow = record { key = record { ns = ns; snapshotter = snapshotter; name = key }; kind = kind; parent = parent; number = state.records.next; labels = labels_of labels } in
+    changes (is_short_name ns ∷ is_short_name snapshotter ∷ is_name key ∷ is_allowed_if is_name parent ∷ are_labels labels ∷ is_allowed_if is_name lease ∷ [])
+    (lacks state ns lease || is_some parent && is_none above)
+    (has_row snap_key (ns ∷ snapshotter ∷ key ∷ []) rows)
+    (option_map_or (λ row. not (is_committed row.kind)) above false || is_out_of_numbers state)
+    (holding ns lease (Snapshot snapshotter key) (with_snapshot_object snapshotter (option_map (λ row. row.number) above) (with_snapshots state (add_row snap_key new rows))))
+
+-- the rows with a key's row committed under a name, with its parent and number and with these labels (containerd snapshots service, Commit; the labels: ours)
+abbrev pub committed : Text → Text → Text → Text → LabelList → List SnapRow → List SnapRow
+committed ns snapshotter key name labels rows =
+    option_map_or (λ row. add_row snap_key (record row { key = record { ns = ns; snapshotter = snapshotter; name = name }; kind = Committed; labels = labels })
+    (remove_row snap_key (ns ∷ snapshotter ∷ key ∷ []) rows)) (row_at snap_key (ns ∷ snapshotter ∷ key ∷ []) rows) rows
+
+-- commits an active snapshot under a name that no snapshot has, itself included (containerd snapshots service, Commit)
+abbrev pub commits_snapshot : State → Text → Text → Text → Text → List (Text × Text) → Option Text → Outcome
+commits_snapshot state ns snapshotter key name labels lease =
+    let rows = state.records.tables.snapshots in
+    let found = row_at snap_key (ns ∷ snapshotter ∷ key ∷ []) rows in
+    changes (is_short_name ns ∷ is_short_name snapshotter ∷ is_name key ∷ is_name name ∷ are_labels labels ∷ is_allowed_if is_name lease ∷ [])
+    (lacks state ns lease || is_none found) (has_row snap_key (ns ∷ snapshotter ∷ name ∷ []) rows)
+    (option_map_or (λ row. not (is_active row.kind)) found false)
+    (holding ns lease (Snapshot snapshotter name) (with_snapshots state (committed ns snapshotter key name (labels_of labels) rows)))
+
+-- the snapshot's parent has this name, in this namespace and snapshotter (containerd snapshots service)
+abbrev pub is_child_of : Text → Text → Text → SnapRow → Bool
+is_child_of ns snapshotter key row = bytes_eq ns row.key.ns && bytes_eq snapshotter row.key.snapshotter && option_map_or (bytes_eq key) row.parent false
+
+-- removes a snapshot that is no parent; its backend object goes at a later collection (containerd snapshots service, Remove)
+abbrev pub removes_snapshot : State → Text → Text → Text → Outcome
+removes_snapshot state ns snapshotter key =
+    let rows = state.records.tables.snapshots in
+    changes (is_short_name ns ∷ is_short_name snapshotter ∷ is_name key ∷ []) (not (has_row snap_key (ns ∷ snapshotter ∷ key ∷ []) rows)) false
+    (list_any (is_child_of ns snapshotter key) rows)
+    (with_snapshots state (remove_row snap_key (ns ∷ snapshotter ∷ key ∷ []) rows))
+
+-- shows a snapshot (containerd snapshots service, Stat)
+abbrev pub gets_snapshot : State → Text → Text → Text → Outcome
+gets_snapshot state ns snapshotter key =
+    let found = row_at snap_key (ns ∷ snapshotter ∷ key ∷ []) state.records.tables.snapshots in
+    reads state (is_short_name ns ∷ is_short_name snapshotter ∷ is_name key ∷ []) (is_none found) (row_reply W.Snap found)
+
+-- puts one label on a snapshot (containerd snapshots service, Update)
+abbrev pub labels_snapshot : State → Text → Text → Text → Text → Text → Outcome
+labels_snapshot state ns snapshotter name key value =
+    let rows = state.records.tables.snapshots in
+    let found = row_at snap_key (ns ∷ snapshotter ∷ name ∷ []) rows in
+    relabels (is_short_name ns ∷ is_short_name snapshotter ∷ is_name name ∷ []) (λ row. row.labels) key value found
+    (with_snapshots state (change_row snap_key (ns ∷ snapshotter ∷ name ∷ []) (λ row. record row { labels = put_label key value row.labels }) rows))
+
+-- the names of a snapshotter's snapshots in a namespace (containerd snapshots service, List)
+abbrev pub snapshots_in : Text → Text → List SnapRow → List Text
+snapshots_in ns snapshotter rows = map (λ row. row.key.name) (filter (λ row. bytes_eq ns row.key.ns && bytes_eq snapshotter row.key.snapshotter) rows)
+
+-- lists them; a snapshotter that nobody used has none (containerd snapshots service, List)
+abbrev pub lists_snapshots : State → Text → Text → Outcome
+lists_snapshots state ns snapshotter =
+    reads state (is_short_name ns ∷ is_short_name snapshotter ∷ []) (lacks state ns None) (R.Names (snapshots_in ns snapshotter state.records.tables.snapshots))

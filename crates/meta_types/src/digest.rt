@@ -1,0 +1,134 @@
+//! Digests of content.
+ghost use Rattle.std.specs.Prelude.{◌≡◌, IfOk, Some, None, bytes_eq, refl};
+ghost use Rattle.std.specs.Arc.{arc_str_bytes};
+ghost use Rattle.std.specs.Ordering.{nat_cmp};
+ghost use Rattle.std.specs.Cmp.Lexicographic.{slice_cmp, nat_list_cmp_total, texts_po, texts_ties};
+ghost use Rattle.std.specs.Cmp.{partial_equiv_from_equiv};
+ghost use Rattle.std.specs.Cmp.Rules.{hashing};
+ghost use Rattle.std.specs.Hash as fed;
+ghost use Rattle.std.proofs.Common.{rules};
+ghost use Rattle.std.proofs.lemmas.Cmp.{nat_list_eq_equiv};
+ghost use Rattle.meta_types.specs.Text.{IsDigest, is_digest};
+ghost use Rattle.meta_types.specs.Faults.{Refuses, unless};
+ghost use Rattle.meta_types.specs.declared.fault.Fault.TheVariants.{InvalidArgument};
+
+use crate::fault::Fault;
+use crate::text::is_digest;
+use std::alloc::{AllocError, Global};
+use std::cmp::Ordering;
+use std::hash::{Hash, Hasher};
+use std::marker::Model;
+use std::sync::ArcStr;
+
+/// The digest of a blob (OCI image specification, descriptor.md).
+#[derive(Drop)]
+pub struct Digest {
+    text: ArcStr,
+}
+
+impl Model for Digest {
+    ghost use Rattle.std.specs.Prelude.{List, ℕ};
+    ghost use Rattle.std.specs.Arc.{arc_str_bytes};
+    ghost use Rattle.meta_types.specs.Text.{IsDigest};
+
+    ghost Value = { List ℕ };
+
+    ghost view = { λ n. arc_str_bytes n.text };
+
+    ghost invariant = { λ n. IsDigest (arc_str_bytes n.text) };
+}
+
+impl PartialEq for Digest {
+    ghost eq = { λ a b. bytes_eq a b };
+
+    ghost laws = { partial_equiv_from_equiv nat_list_eq_equiv };
+
+    fn eq(&self, other: &Digest) -> bool {
+        self.text.as_str() == other.text.as_str()
+    }
+}
+
+impl Eq for Digest {
+    ghost laws = { nat_list_eq_equiv };
+}
+
+/// Ordered by the bytes of the text.
+impl PartialOrd for Digest {
+    ghost partial_cmp = { λ a b. Some (slice_cmp nat_cmp a b) };
+
+    ghost laws = { texts_po };
+
+    fn partial_cmp(&self, other: &Digest) -> Option<Ordering> {
+        Some(self.cmp(other))
+    }
+}
+
+impl Ord for Digest {
+    ghost cmp = { λ a b. slice_cmp nat_cmp a b };
+
+    ghost total = { nat_list_cmp_total };
+
+    ghost matches_partial_cmp = { λ _ _. refl };
+
+    ghost matches_eq = { λ a b. texts_ties a b };
+
+    fn cmp(&self, other: &Digest) -> Ordering {
+        self.text.as_str().cmp(other.text.as_str())
+    }
+}
+
+impl Hash for Digest {
+    ghost hash_input = { λ n. fed.str n };
+
+    ghost respects_eq = { Prim.search (hashing, rules) };
+
+    fn hash<H: Hasher>(&self, state: &mut H) {
+        self.text.as_str().hash(state);
+    }
+}
+
+impl Digest {
+    /// Reads a text. Its bytes are copied once; all copies of the digest share them.
+    pub fn read(alloc: Global, text: &str) -> Result<Digest, Fault>
+        ensures fault { Refuses result (unless (is_digest text.now) InvalidArgument) }
+        ensures ok { IfOk result (λ n. n ≡ text.now) }
+    {
+        if !is_digest(text) {
+            return Err(Fault::InvalidArgument);
+        }
+        Digest::make(alloc, text)
+    }
+
+    /// The same of a text that is known to be allowed.
+    pub(crate) fn make(alloc: Global, text: &str) -> Result<Digest, Fault>
+        requires { IsDigest text.now }
+        ensures fault { Refuses result None }
+        ensures ok { IfOk result (λ n. n ≡ text.now) }
+    {
+        let text = ArcStr::from_str(alloc, text)?;
+        Ok(Digest { text })
+    }
+
+    /// Another of the same text. No bytes are copied.
+    pub fn copy(&self) -> Result<Digest, AllocError>
+        ensures ok { IfOk result (λ n. n ≡ self.now) }
+    {
+        let text = self.text.clone()?;
+        Ok(Digest { text })
+    }
+
+    /// The text as it was read.
+    pub fn text(&self) -> &str
+        ensures text { result.now ≡ self.now }
+        ensures valid { IsDigest self.now }
+    {
+        self.text.as_str()
+    }
+
+    /// The text, shared with this value.
+    pub(crate) fn shared(&self) -> Result<ArcStr, AllocError>
+        ensures ok { IfOk result (λ text. arc_str_bytes text ≡ self.now) }
+    {
+        self.text.clone()
+    }
+}

@@ -1,0 +1,83 @@
+//! Laws of the definitions, each as the contract of a function that does nothing. They say what
+//! every collection promises, and compute worked examples; nothing else forces them.
+ghost use Rattle.meta_types.specs.Promises.{SomeTestTells, ACollectionHasOneOutcome, ADryRunHasOneReport, NothingReachedIsRemoved, WhatIsNotReachedIsRemoved};
+ghost use Rattle.meta_types.specs.Again.{ASecondCollectionChangesNothing, ACollectedStoreIsSound};
+ghost use Rattle.meta_types.specs.WorkedTimes.{TimesAreRead, OthersAreNoTimes};
+ghost use Rattle.meta_types.specs.Worked.{AnImageKeepsItsContent, ACycleGoes, ACycleUnderAnImageStays, BothModesAreScanned, AFlatLeaseFollowsNoLabels, ALeaseHoldsAtItsExpiry, AnExpiredLeaseGoes};
+ghost use Rattle.meta_types.specs.WorkedObjects.{AFlatLeaseKeepsParents, ChildrenGoBeforeParents, AnIngestHoldsForADay, AnIngestGoesAfterADay, OnlyReferenceKeysReference, ContainersAndRootLabelsHold};
+ghost use Rattle.meta_types.specs.WorkedLater.{AnEmptyStoreIsCollected, AnImageHoldsAtItsExpiry, AnExpiredImageGoes, ALeaseGoesWithACollection};
+
+/// A collection is always defined, and what it reports and leaves is one; so of a dry run.
+pub fn collections_have_one_outcome()
+    ensures some_test_tells { SomeTestTells }
+    ensures a_collection_has_one_outcome { ACollectionHasOneOutcome }
+    ensures a_dry_run_has_one_report { ADryRunHasOneReport }
+{}
+
+/// Nothing that an image, a container, an unexpired lease or ingest or a root label leads to is
+/// removed.
+pub fn nothing_reached_is_removed()
+    ensures { NothingReachedIsRemoved }
+{}
+
+/// What none of these leads to is removed.
+pub fn what_is_not_reached_is_removed()
+    ensures { WhatIsNotReachedIsRemoved }
+{}
+
+/// A second collection at the same moment removes nothing more, and keeps what the first kept.
+pub fn a_second_collection_changes_nothing()
+    ensures { ASecondCollectionChangesNothing }
+{}
+
+/// A collection of a sound store leaves a sound store, whatever removals failed.
+pub fn a_collected_store_is_sound()
+    ensures { ACollectedStoreIsSound }
+{}
+
+/// Times and other texts, as RFC 3339 and our years read them.
+pub fn times_are_read()
+    ensures times { TimesAreRead }
+    ensures others { OthersAreNoTimes }
+{}
+
+/// Images, and the references of content.
+pub fn images_keep_content()
+    ensures an_image_keeps_its_content { AnImageKeepsItsContent }
+    ensures a_cycle_goes { ACycleGoes }
+    ensures a_cycle_under_an_image_stays { ACycleUnderAnImageStays }
+    ensures only_reference_keys_reference { OnlyReferenceKeysReference }
+{}
+
+/// Leases, flat or not, before and after their expiry.
+pub fn leases_hold_until_their_expiry()
+    ensures both_modes_are_scanned { BothModesAreScanned }
+    ensures a_flat_lease_follows_no_labels { AFlatLeaseFollowsNoLabels }
+    ensures a_lease_holds_at_its_expiry { ALeaseHoldsAtItsExpiry }
+    ensures an_expired_lease_goes { AnExpiredLeaseGoes }
+{}
+
+/// Snapshots, their parents, and containers.
+pub fn snapshots_keep_their_parents()
+    ensures a_flat_lease_keeps_parents { AFlatLeaseKeepsParents }
+    ensures children_go_before_parents { ChildrenGoBeforeParents }
+    ensures containers_and_root_labels_hold { ContainersAndRootLabelsHold }
+{}
+
+/// Ingests of their own hold for a day.
+pub fn ingests_hold_for_a_day()
+    ensures an_ingest_holds_for_a_day { AnIngestHoldsForADay }
+    ensures an_ingest_goes_after_a_day { AnIngestGoesAfterADay }
+{}
+
+/// Images that expire, in the profile that has them.
+pub fn images_expire_in_profile_two()
+    ensures an_empty_store_is_collected { AnEmptyStoreIsCollected }
+    ensures an_image_holds_at_its_expiry { AnImageHoldsAtItsExpiry }
+    ensures an_expired_image_goes { AnExpiredImageGoes }
+{}
+
+/// A removal with a collection is one event.
+pub fn a_lease_goes_with_a_collection()
+    ensures { ALeaseGoesWithACollection }
+{}

@@ -1,0 +1,34 @@
+//! Names, digests, labels, moments, faults and rows; and all definitions, with their laws.
+#![tactic(auto)]
+
+mod digest;
+mod fault;
+mod instant;
+mod labels;
+pub mod laws;
+mod limits;
+mod name;
+mod reply;
+mod request;
+mod resource;
+mod rows;
+mod short_name;
+#[cfg(test)]
+mod tests;
+#[cfg(test)]
+mod tests_labels;
+mod text;
+mod words;
+
+pub use digest::Digest;
+pub use fault::Fault;
+pub use instant::Instant;
+pub use labels::Labels;
+pub use limits::{MAX_NODES, MAX_NUMBER, MAX_WORKERS, is_worker_count};
+pub use name::Name;
+pub use reply::{Holdings, Listing, Reply, Row};
+pub use request::{Removal, Request};
+pub use resource::{Kind, Mode, Resource};
+pub use rows::{ContainerRow, ContentRow, ImageRow, IngestRow, SnapKey, SnapKind, SnapRow};
+pub use short_name::ShortName;
+pub use words::{Pairs, Words};

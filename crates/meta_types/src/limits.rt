@@ -1,0 +1,20 @@
+//! The limits that several layers share. All of them are ours.
+ghost use Rattle.std.specs.Prelude.{◌≡◌};
+ghost use Rattle.meta_types.specs.Limits.{is_worker_count};
+
+/// The largest number of workers that a collection may be asked to use.
+pub const MAX_WORKERS: usize = 16;
+
+/// The largest number of marking nodes of a collection: two for each content and snapshot row, one
+/// for each ingest.
+pub const MAX_NODES: usize = 16_777_216;
+
+/// The largest number of a backend snapshot or ingest.
+pub const MAX_NUMBER: u64 = 4_000_000_000;
+
+/// Whether a collection may be asked to use so many workers.
+pub fn is_worker_count(workers: usize) -> bool
+    ensures { result ≡ is_worker_count workers }
+{
+    1 <= workers && workers <= MAX_WORKERS
+}

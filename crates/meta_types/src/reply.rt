@@ -1,0 +1,138 @@
+//! What requests answer.
+ghost use Rattle.std.specs.Prelude.{◌≡◌, ◌++◌, ◌∷◌, [], map, None, OnOk, OnErr, IfOk};
+ghost use Rattle.std.specs.Arc.{arc_str_bytes};
+ghost use Rattle.meta_types.specs.Faults.{Refuses};
+
+use crate::digest::Digest;
+use crate::fault::Fault;
+use crate::labels::Labels;
+use crate::name::Name;
+use crate::resource::Resource;
+use crate::rows::{ContainerRow, ContentRow, ImageRow, IngestRow, SnapRow};
+use crate::short_name::ShortName;
+use std::alloc::Global;
+use std::marker::Model;
+use std::sync::ArcStr;
+
+/// The names of a listing, in its order. They share the texts of what was listed.
+#[derive(Drop)]
+pub struct Listing {
+    names: Vec<ArcStr>,
+}
+
+impl Model for Listing {
+    ghost use Rattle.std.specs.Prelude.{List, ℕ, map};
+    ghost use Rattle.std.specs.Arc.{arc_str_bytes};
+
+    ghost Value = { List (List ℕ) };
+
+    ghost view = { λ l. map arc_str_bytes l.names.items };
+}
+
+impl Listing {
+    /// No name.
+    pub fn new(alloc: Global) -> Listing
+        ensures { result ≡ [] }
+    {
+        Listing {
+            names: Vec::new(alloc),
+        }
+    }
+
+    /// The texts of the names.
+    pub fn texts(&self) -> &[ArcStr]
+        ensures { map arc_str_bytes result.now ≡ self.now }
+    {
+        &self.names
+    }
+
+    fn push(&mut self, text: ArcStr) -> Result<(), Fault>
+        ensures fault { Refuses result None }
+        ensures ok { OnOk result (self.new ≡ self.old ++ arc_str_bytes text ∷ []) }
+        ensures err { OnErr result (self.new ≡ self.old) }
+    {
+        self.names.push(text)?;
+        Ok(())
+    }
+
+    /// Adds a name at the end.
+    pub fn push_name(&mut self, name: &Name) -> Result<(), Fault>
+        ensures fault { Refuses result None }
+        ensures ok { OnOk result (self.new ≡ self.old ++ name.now ∷ []) }
+        ensures err { OnErr result (self.new ≡ self.old) }
+    {
+        let text = name.shared()?;
+        self.push(text)
+    }
+
+    /// Adds a digest at the end.
+    pub fn push_digest(&mut self, digest: &Digest) -> Result<(), Fault>
+        ensures fault { Refuses result None }
+        ensures ok { OnOk result (self.new ≡ self.old ++ digest.now ∷ []) }
+        ensures err { OnErr result (self.new ≡ self.old) }
+    {
+        let text = digest.shared()?;
+        self.push(text)
+    }
+
+    /// Adds the name of a namespace or a snapshotter at the end.
+    pub fn push_short_name(&mut self, name: &ShortName) -> Result<(), Fault>
+        ensures fault { Refuses result None }
+        ensures ok { OnOk result (self.new ≡ self.old ++ name.now ∷ []) }
+        ensures err { OnErr result (self.new ≡ self.old) }
+    {
+        let text = name.shared()?;
+        self.push(text)
+    }
+}
+
+/// The resources of one lease, in the order of their types and ids.
+#[derive(Drop)]
+pub struct Holdings {
+    resources: Vec<Resource>,
+}
+
+impl Model for Holdings {
+    ghost use Rattle.std.specs.Prelude.{List};
+    ghost use Rattle.meta_types.specs.declared.resource.Resource.{Resource};
+
+    ghost Value = { List Resource };
+
+    ghost view = { λ h. h.resources.items };
+}
+
+impl Holdings {
+    /// These resources.
+    pub fn new(resources: Vec<Resource>) -> Holdings
+        ensures { result ≡ resources.items }
+    {
+        Holdings { resources }
+    }
+
+    /// The resources.
+    pub fn resources(&self) -> &[Resource]
+        ensures { result.now ≡ self.now }
+    {
+        &self.resources
+    }
+}
+
+/// A row that was asked for; of a lease its id and its labels.
+#[derive(Drop)]
+pub enum Row {
+    Image(ImageRow),
+    Container(ContainerRow),
+    Content(ContentRow),
+    Ingest(IngestRow),
+    Snap(SnapRow),
+    Lease(Name, Labels),
+}
+
+/// What a request answers. One that changes the store answers `Done`.
+#[derive(Drop)]
+pub enum Reply {
+    Done,
+    Names(Listing),
+    Row(Row),
+    Resources(Holdings),
+}

@@ -1,0 +1,190 @@
+//! Rows: what a store keeps of each object.
+ghost use Rattle.std.specs.Prelude.{◌≡◌, IfOk, None};
+ghost use Rattle.meta_types.specs.Faults.{Refuses};
+
+use crate::digest::Digest;
+use crate::fault::Fault;
+use crate::instant::Instant;
+use crate::labels::Labels;
+use crate::name::Name;
+use crate::short_name::ShortName;
+use std::alloc::Global;
+
+/// An image: a name for the content that it runs from (containerd image store).
+#[derive(Drop)]
+pub struct ImageRow {
+    pub ns: ShortName,
+    pub name: Name,
+    pub target: Digest,
+    pub labels: Labels,
+}
+
+impl ImageRow {
+    /// Another of the same row.
+    pub fn copy(&self, alloc: Global) -> Result<ImageRow, Fault>
+        ensures fault { Refuses result None }
+        ensures ok { IfOk result (λ row. row ≡ self.now) }
+    {
+        let ns = self.ns.copy()?;
+        let name = self.name.copy()?;
+        let target = self.target.copy()?;
+        let labels = self.labels.copy(alloc)?;
+        Ok(ImageRow {
+            ns,
+            name,
+            target,
+            labels,
+        })
+    }
+}
+
+/// A container, with the snapshot that it runs on, if any (containerd container store).
+#[derive(Drop)]
+pub struct ContainerRow {
+    pub ns: ShortName,
+    pub name: Name,
+    pub snapshot: Option<(ShortName, Name)>,
+    pub labels: Labels,
+}
+
+impl ContainerRow {
+    /// Another of the same row.
+    pub fn copy(&self, alloc: Global) -> Result<ContainerRow, Fault>
+        ensures fault { Refuses result None }
+        ensures ok { IfOk result (λ row. row ≡ self.now) }
+    {
+        let ns = self.ns.copy()?;
+        let name = self.name.copy()?;
+        let snapshot = match &self.snapshot {
+            Some((snapshotter, key)) => Some((snapshotter.copy()?, key.copy()?)),
+            None => None,
+        };
+        let labels = self.labels.copy(alloc)?;
+        Ok(ContainerRow {
+            ns,
+            name,
+            snapshot,
+            labels,
+        })
+    }
+}
+
+/// A blob as one namespace sees it: the blob itself is kept once (containerd content-flow.md).
+#[derive(Drop)]
+pub struct ContentRow {
+    pub ns: ShortName,
+    pub digest: Digest,
+    pub labels: Labels,
+}
+
+impl ContentRow {
+    /// Another of the same row.
+    pub fn copy(&self, alloc: Global) -> Result<ContentRow, Fault>
+        ensures fault { Refuses result None }
+        ensures ok { IfOk result (λ row. row ≡ self.now) }
+    {
+        let ns = self.ns.copy()?;
+        let digest = self.digest.copy()?;
+        let labels = self.labels.copy(alloc)?;
+        Ok(ContentRow { ns, digest, labels })
+    }
+}
+
+/// Content that is being written (containerd content-flow.md, ingests). `expires` is its own end,
+/// which one that was begun under a lease doesn't have; `number` names it in the backend.
+#[derive(Drop)]
+pub struct IngestRow {
+    pub ns: ShortName,
+    pub name: Name,
+    pub expected: Option<Digest>,
+    pub expires: Option<Instant>,
+    pub number: u64,
+}
+
+impl IngestRow {
+    /// Another of the same row.
+    pub fn copy(&self) -> Result<IngestRow, Fault>
+        ensures fault { Refuses result None }
+        ensures ok { IfOk result (λ row. row ≡ self.now) }
+    {
+        let ns = self.ns.copy()?;
+        let name = self.name.copy()?;
+        let expected = match &self.expected {
+            Some(digest) => Some(digest.copy()?),
+            None => None,
+        };
+        Ok(IngestRow {
+            ns,
+            name,
+            expected,
+            expires: self.expires,
+            number: self.number,
+        })
+    }
+}
+
+/// Which snapshot: its namespace, its snapshotter and its name there.
+#[derive(Drop)]
+pub struct SnapKey {
+    pub ns: ShortName,
+    pub snapshotter: ShortName,
+    pub name: Name,
+}
+
+impl SnapKey {
+    /// Another of the same key.
+    pub fn copy(&self) -> Result<SnapKey, Fault>
+        ensures fault { Refuses result None }
+        ensures ok { IfOk result (λ key. key ≡ self.now) }
+    {
+        let ns = self.ns.copy()?;
+        let snapshotter = self.snapshotter.copy()?;
+        let name = self.name.copy()?;
+        Ok(SnapKey {
+            ns,
+            snapshotter,
+            name,
+        })
+    }
+}
+
+/// What may be done with a snapshot (containerd snapshots service, Kind).
+#[derive(Clone, Copy, PartialEq, Eq)]
+pub enum SnapKind {
+    Active,
+    View,
+    Committed,
+}
+
+/// A snapshot. `parent` is a name of the same namespace and snapshotter; `number` names it in the
+/// backend.
+#[derive(Drop)]
+pub struct SnapRow {
+    pub key: SnapKey,
+    pub kind: SnapKind,
+    pub parent: Option<Name>,
+    pub number: u64,
+    pub labels: Labels,
+}
+
+impl SnapRow {
+    /// Another of the same row.
+    pub fn copy(&self, alloc: Global) -> Result<SnapRow, Fault>
+        ensures fault { Refuses result None }
+        ensures ok { IfOk result (λ row. row ≡ self.now) }
+    {
+        let key = self.key.copy()?;
+        let parent = match &self.parent {
+            Some(name) => Some(name.copy()?),
+            None => None,
+        };
+        let labels = self.labels.copy(alloc)?;
+        Ok(SnapRow {
+            key,
+            kind: self.kind,
+            parent,
+            number: self.number,
+            labels,
+        })
+    }
+}
