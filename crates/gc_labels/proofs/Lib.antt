@@ -1,0 +1,4 @@
+pub mod Days
+pub mod Scales
+pub mod Places
+pub mod Wide

@@ -1,0 +1,80 @@
+//! Label keys, and what they say to the collector.
+ghost use Rattle.std.specs.Prelude.{◌≡◌, option_map};
+ghost use Rattle.meta_types.specs.Labels.{begins_with, is_content_key, snapshotter_in, is_marked_root, is_flat, expiry_of, is_unreadable};
+ghost use Rattle.gc_labels.specs.Ends.{end_of, is_unread};
+
+use crate::ends::Expiry;
+use crate::instants::read_instant;
+use meta_types::Labels;
+
+/// Marks content or a snapshot as a root, whatever its value (containerd garbage-collection.md).
+const ROOT: &str = "containerd.io/gc.root";
+/// Makes a lease hold its resources without their labels (containerd garbage-collection.md).
+const FLAT: &str = "containerd.io/gc.flat";
+/// The time after which a lease is collected (containerd garbage-collection.md).
+const EXPIRE: &str = "containerd.io/gc.expire";
+/// References content by its digest (containerd garbage-collection.md).
+const CONTENT: &str = "containerd.io/gc.ref.content";
+/// The same, with anything behind the `.`.
+const CONTENT_DOT: &str = "containerd.io/gc.ref.content.";
+/// The same, with anything behind the `/`. Ours.
+const CONTENT_SLASH: &str = "containerd.io/gc.ref.content/";
+/// References a snapshot of the snapshotter that follows (containerd garbage-collection.md).
+const SNAPSHOT: &str = "containerd.io/gc.ref.snapshot.";
+
+/// Whether labels with this key reference content.
+pub fn content_ref(key: &str) -> bool
+    ensures { result ≡ is_content_key key.now }
+{
+    let alone = key == CONTENT;
+    let dotted = begins_with(key, CONTENT_DOT);
+    let slashed = begins_with(key, CONTENT_SLASH);
+    alone || dotted || slashed
+}
+
+/// The snapshotter whose snapshots labels with this key reference. It may be no allowed name.
+pub fn snapshot_ref(key: &str) -> Option<&str>
+    ensures { option_map (λ s. s.now) result ≡ snapshotter_in key.now }
+{
+    match key.strip_prefix(SNAPSHOT) {
+        None => None,
+        Some(rest) => match rest.split_once('/') {
+            Some((snapshotter, _)) => Some(snapshotter),
+            None => Some(rest),
+        },
+    }
+}
+
+/// Whether the labels mark a root. Asked of content and snapshots alone.
+pub fn is_root(labels: &Labels) -> bool
+    ensures { result ≡ is_marked_root labels.now }
+{
+    labels.get(ROOT).is_some()
+}
+
+/// Whether the labels make a lease flat. Asked of leases alone.
+pub fn is_flat(labels: &Labels) -> bool
+    ensures { result ≡ is_flat labels.now }
+{
+    labels.get(FLAT).is_some()
+}
+
+/// When an object with these labels ends.
+pub fn expiry(labels: &Labels) -> Expiry
+    ensures end { end_of result ≡ expiry_of labels.now }
+    ensures unread { is_unread result ≡ is_unreadable labels.now }
+{
+    match labels.get(EXPIRE) {
+        None => Expiry::Never,
+        Some(text) => match read_instant(text) {
+            Some(instant) => Expiry::At(instant),
+            None => Expiry::Unreadable,
+        },
+    }
+}
+
+fn begins_with(text: &str, prefix: &str) -> bool
+    ensures { result ≡ begins_with prefix.now text.now }
+{
+    text.as_bytes().starts_with(prefix.as_bytes())
+}

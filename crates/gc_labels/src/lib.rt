@@ -1,0 +1,14 @@
+//! What labels say to the collector, and moments as texts.
+#![tactic(auto)]
+
+mod dates;
+mod digits;
+mod ends;
+mod instants;
+mod keys;
+#[cfg(test)]
+mod tests;
+
+pub use ends::Expiry;
+pub use instants::read_instant;
+pub use keys::{content_ref, expiry, is_flat, is_root, snapshot_ref};
