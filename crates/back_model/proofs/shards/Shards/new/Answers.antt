@@ -1,0 +1,8 @@
+use Rattle.std.proofs.Common.{sym, subst, map, List}
+use Rattle.back_model.specs.Shown.{AreApart}
+use Rattle.back_model.proofs.Places.{none_apart}
+use Rattle.back_model.proofs.shards.Shards.new.Goals as goal
+
+-- there is no shard
+pub invariant_of-result : goal.invariant_of-result
+invariant_of-result g c = rw c.new.ensures.items none_apart

@@ -1,0 +1,9 @@
+use Rattle.std.proofs.Common.{rules, ◌≡◌, []}
+use Rattle.back_model.proofs.Places.{none_apart}
+use Rattle.back_model.proofs.shards.Shards.take.Goals as goal
+
+-- no shard is left
+pub invariant_of-self : goal.invariant_of-self
+invariant_of-self g c =
+    let none : c.replace.new.dest.items ≡ [] = search rules in
+    rw none none_apart

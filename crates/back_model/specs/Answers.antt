@@ -1,0 +1,36 @@
+-- What a backend answers, and when.
+use Rattle.std.specs.Prelude.{◌≡◌, ℕ, Bool, true, false, Result, Ok, Err}
+use Rattle.back_model.specs.declared.faults.MakeFault.{MakeFault}
+use Rattle.back_model.specs.declared.faults.MakeFault.TheVariants as M
+use Rattle.back_model.specs.declared.faults.RemoveFault.{RemoveFault}
+use Rattle.back_model.specs.declared.faults.RemoveFault.TheVariants as R
+
+-- an object is Taken where it is held, else Missing where its parent isn't; else it is made, or the device failed, or memory was wanting (ours)
+abbrev pub Makes : Result (Unit {0}) MakeFault → Bool → Bool → Type 0
+Makes (Ok _) held parent = (held ≡ false) × (parent ≡ true)
+Makes (Err M.Taken) held parent = held ≡ true
+Makes (Err M.Missing) held parent = (held ≡ false) × (parent ≡ false)
+Makes (Err M.Device) held parent = (held ≡ false) × (parent ≡ true)
+Makes (Err M.Memory) held parent = (held ≡ false) × (parent ≡ true)
+
+-- an object is Missing where it isn't held, else it HasChildren where it is a parent; else it is removed, or the device failed (containerd snapshots service: a parent isn't removed before its children)
+abbrev pub Removes : Result (Unit {0}) RemoveFault → Bool → Bool → Type 0
+Removes (Ok _) held child = (held ≡ true) × (child ≡ false)
+Removes (Err R.Missing) held child = held ≡ false
+Removes (Err R.HasChildren) held child = (held ≡ true) × (child ≡ true)
+Removes (Err R.Device) held child = (held ≡ true) × (child ≡ false)
+
+-- how many failures of the device a making adds (ours)
+abbrev pub make_fails : Result (Unit {0}) MakeFault → ℕ
+make_fails (Ok _) = 0
+make_fails (Err M.Taken) = 0
+make_fails (Err M.Missing) = 0
+make_fails (Err M.Device) = 1
+make_fails (Err M.Memory) = 0
+
+-- how many failures of the device a removal adds (ours)
+abbrev pub remove_fails : Result (Unit {0}) RemoveFault → ℕ
+remove_fails (Ok _) = 0
+remove_fails (Err R.Missing) = 0
+remove_fails (Err R.HasChildren) = 0
+remove_fails (Err R.Device) = 1

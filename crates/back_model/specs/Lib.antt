@@ -1,0 +1,5 @@
+pub mod Answers
+pub mod Snaps
+pub mod Objects
+pub mod Fuses
+pub mod Shown

@@ -1,0 +1,23 @@
+/// Why an object wasn't made.
+#[derive(Clone, Copy, Debug, PartialEq, Eq)]
+pub enum MakeFault {
+    /// An object of this name is there.
+    Taken,
+    /// The parent isn't there.
+    Missing,
+    /// The device failed in this call.
+    Device,
+    /// A growth was refused.
+    Memory,
+}
+
+/// Why an object wasn't removed.
+#[derive(Clone, Copy, Debug, PartialEq, Eq)]
+pub enum RemoveFault {
+    /// No object of this name is there.
+    Missing,
+    /// The snapshot is the parent of another.
+    HasChildren,
+    /// The device failed in this call.
+    Device,
+}

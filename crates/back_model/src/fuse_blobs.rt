@@ -1,0 +1,83 @@
+//! Blobs in memory, with a device that can be made to fail.
+ghost use Rattle.std.specs.Prelude.{◌≡◌, ◌+◌, ◌↔◌, Err, OnOk, OnErr, not, IsTrue};
+ghost use Rattle.std.specs.Prelude.{true, false};
+ghost use Rattle.meta_types.specs.Changes.{put_blob};
+ghost use Rattle.back_model.specs.Objects.{has_blob, without_blob};
+ghost use Rattle.back_model.specs.Answers.{Makes, Removes, make_fails, remove_fails};
+ghost use Rattle.back_model.specs.Fuses.{armed_for, is_failed, after_call};
+
+use crate::faults::{MakeFault, RemoveFault};
+use crate::fuse::Fuse;
+use crate::mem_blobs::MemBlobs;
+use crate::traits::BlobBackend;
+use meta_types::{Digest, Fault};
+use std::alloc::Global;
+
+/// Blobs in memory, with a device that fails once where it is armed.
+#[derive(Drop)]
+pub struct FuseBlobs {
+    inner: MemBlobs,
+    fuse: Fuse,
+}
+
+impl FuseBlobs {
+    /// Passes so many calls of `make` and `remove`, fails the next that reaches the device, and passes all later ones.
+    pub fn arm(&mut self, passes: u64)
+        ensures { self.new ≡ record self.old { fuse = armed_for passes self.old.fuse } }
+    {
+        self.fuse.arm(passes);
+    }
+}
+
+impl BlobBackend for FuseBlobs {
+    ghost contents = { λ b. b.inner };
+
+    ghost fails = { λ b. b.fuse.fails };
+
+    fn fresh(alloc: Global) -> FuseBlobs {
+        FuseBlobs {
+            inner: MemBlobs::fresh(alloc),
+            fuse: Fuse::new(),
+        }
+    }
+
+    fn make(&mut self, alloc: Global, digest: &Digest) -> Result<(), MakeFault>
+        ensures fault { Makes result (has_blob digest.now self.old.inner) (true) }
+        ensures ok { OnOk result (self.new.inner ≡ put_blob digest.now self.old.inner) }
+        ensures err { OnErr result (self.new.inner ≡ self.old.inner) }
+        ensures fails { self.new.fuse.fails ≡ self.old.fuse.fails + make_fails result }
+        ensures fuse { self.new.fuse ≡ after_call (has_blob digest.now self.old.inner) self.old.fuse }
+    {
+        let is_refused = self.inner.holds(digest);
+        if self.fuse.fails_call(is_refused) {
+            return Err(MakeFault::Device);
+        }
+        self.inner.make(alloc, digest)
+    }
+
+    fn remove(&mut self, digest: &Digest) -> Result<(), RemoveFault>
+        ensures fault { Removes result (has_blob digest.now self.old.inner) (false) }
+        ensures ok { OnOk result (self.new.inner ≡ without_blob digest.now self.old.inner) }
+        ensures err { OnErr result (self.new.inner ≡ self.old.inner) }
+        ensures fails { self.new.fuse.fails ≡ self.old.fuse.fails + remove_fails result }
+        ensures fuse { self.new.fuse ≡ after_call (not (has_blob digest.now self.old.inner)) self.old.fuse }
+    {
+        let is_refused = !self.inner.holds(digest);
+        if self.fuse.fails_call(is_refused) {
+            return Err(RemoveFault::Device);
+        }
+        self.inner.remove(digest)
+    }
+
+    fn holds(&self, digest: &Digest) -> bool {
+        self.inner.holds(digest)
+    }
+
+    fn digests(&self, alloc: Global) -> Result<Vec<Digest>, Fault> {
+        self.inner.digests(alloc)
+    }
+
+    fn failures(&self) -> u64 {
+        self.fuse.failures()
+    }
+}

@@ -1,0 +1,33 @@
+//! What all backends hold, as lists.
+ghost use Rattle.std.specs.Prelude.{◌≡◌, ◌++◌, map, OnOk, None};
+ghost use Rattle.meta_types.specs.Faults.{Refuses};
+ghost use Rattle.back_model.specs.Shown.{shown, snaps_in, listed_snap};
+
+use crate::traits::SnapBackend;
+use meta_types::{Digest, Fault, ShortName};
+use std::alloc::Global;
+
+/// All objects of the backends: digests, snapshots by snapshotter and number with their parents, and numbers of ingests.
+#[derive(Drop)]
+pub struct BackLists {
+    pub blobs: Vec<Digest>,
+    pub snapshots: Vec<(ShortName, u64, Option<u64>)>,
+    pub ingests: Vec<u64>,
+}
+
+// Lists the snapshots of one shard behind the others.
+pub(crate) fn push_snaps<S: SnapBackend>(
+    alloc: Global,
+    snapshotter: &ShortName,
+    shard: &S,
+    into: &mut Vec<(ShortName, u64, Option<u64>)>,
+) -> Result<(), Fault>
+    ensures fault { Refuses result None }
+    ensures ok { OnOk result (map listed_snap into.new.items ≡ map listed_snap into.old.items ++ snaps_in (shown S.contents S.fails (snapshotter.now, shard.now))) }
+{
+    let numbers = shard.numbers(alloc)?;
+    for number in &numbers {
+        into.push((snapshotter.copy()?, *number, shard.parent(*number)))?;
+    }
+    Ok(())
+}
