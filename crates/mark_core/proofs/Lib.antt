@@ -1,0 +1,14 @@
+pub mod BitLemmas
+pub mod Counts
+pub mod ClaimLemmas
+pub mod Walks
+pub mod Explores
+pub mod Workers
+pub mod Keeping
+pub mod Looking
+pub mod Moving
+pub mod Dealing
+pub mod Starting
+pub mod Ending
+pub mod Running
+pub mod OneAnswer

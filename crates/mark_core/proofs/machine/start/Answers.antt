@@ -1,0 +1,25 @@
+use Rattle.std.proofs.Common.{◌<◌, sym, subst, arith}
+use Rattle.std.proofs.lemmas.Bool.Decides.{nat_tests}
+use Rattle.mark_core.specs.Boards.{machine_of}
+use Rattle.mark_core.proofs.Keeping.{Keeps}
+use Rattle.mark_core.proofs.Starting.{start_keeps}
+use Rattle.mark_core.proofs.Ending.{idle_marked}
+use Rattle.mark_core.proofs.machine.start.Goals as goal
+
+-- a wrong number was refused before
+some_workers : (c : goal.In_ok-board) → 0 < c.args.workers
+some_workers c = grind (arith, nat_tests)
+
+-- the board is the machine's start, which is sound
+keeps : (c : goal.In_ok-board) → Keeps c.args.graph.now (machine_of c.in_ok-board.board)
+keeps c =
+    subst (Keeps c.args.graph.now) (sym c.in_ok-board.ensures.start)
+    (start_keeps c.args.graph.now c.args.workers (some_workers c))
+
+-- the start is sound
+pub returns-clause-sound : goal.returns-clause-sound
+returns-clause-sound c = (keeps c).sound
+
+-- with nothing to be scanned there is no root
+pub returns-clause-marked : goal.returns-clause-marked
+returns-clause-marked c = idle_marked c.args.graph.now (machine_of c.in_ok-board.board) (keeps c)

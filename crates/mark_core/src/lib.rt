@@ -1,0 +1,26 @@
+//! A numbered graph, its marking by one thread, and the mark machine: what workers may do.
+#![tactic(auto)]
+
+mod board;
+mod desk;
+mod event;
+mod found;
+mod graph;
+mod laws;
+mod machine;
+mod marks;
+mod plain;
+mod replay_fault;
+mod state;
+mod steps;
+#[cfg(test)]
+mod tests;
+
+pub use event::MarkEvent;
+pub use graph::Graph;
+pub use laws::{a_run_has_one_answer, roots_are_dealt_in_turn};
+pub use machine::{replay, start};
+pub use marks::Marks;
+pub use plain::mark_plain;
+pub use replay_fault::ReplayFault;
+pub use state::MarkState;
