@@ -1,0 +1,90 @@
+-- Workers in threads.
+use Rattle.std.proofs.Common.{◌≡◌, ◌≢◌, ℕ, ◌<◌, List, [], ◌∷◌, length, get_or, set, map, refl, sym, ap, ◌∙◌, subst, arith}
+use Rattle.std.specs.Prelude.{All}
+use Rattle.std.specs.Arc.{arc_value}
+use Rattle.std.proofs.lemmas.List.{length-map, get_or-map, length-set, get_or-set_same, get_or-set_other, get_or_default}
+use Rattle.std.proofs.lemmas.List.Elements.{All-set}
+use native.Mathlib.Decide.{ℕ_discrete}
+use mathlib.Core.Logic.{dite}
+use Rattle.std.specs.declared.thread.PromisedHandle.{PromisedHandle}
+use Rattle.crossbeam_deque.specs.Handles.{stealer_deque}
+use Rattle.steal_mark.specs.declared.deal.Rest.{Rest}
+use Rattle.steal_mark.specs.declared.marker.Marker.{Marker}
+use Rattle.steal_mark.specs.declared.other.Other.{Other}
+use Rattle.steal_mark.specs.declared.threads.SameAs.{SameAs}
+use Rattle.steal_mark.specs.Closing.{Id}
+use Rattle.steal_mark.specs.Working.{IsSound, SameMarker}
+use Rattle.steal_mark.specs.Team.{AreWorked, IsOne, IsTeam}
+
+-- the worker that a thread began with
+abbrev pub began : PromisedHandle Marker SameAs → Marker
+began h = h.promise.0.value
+
+-- the deques of the stealers are as before
+id_of_all : (xs : List Other) → map (λ (o : Other). stealer_deque o.stealer) xs ≡ map (λ s. stealer_deque s) (map (λ (o : Other). o.stealer) xs)
+id_of_all [] = refl
+id_of_all (x ∷ xs) = ap (λ l. stealer_deque x.stealer ∷ l) (id_of_all xs)
+
+-- a turn changes neither the deque nor the stealers, so the worker is still one of the marking
+same_one : (r : Rest) (ids : List Id) (a b : Marker) → SameMarker a b → IsOne (arc_value r.board) ids a → IsOne (arc_value r.board) ids b
+same_one r ids a b s o = record {
+  board = s.board ∙ o.board;
+  deque = s.deque ∙ o.deque ∙ (λ i. get_or ids (sym s.number i) (sym s.deque i));
+  order = id_of_all b.others.items ∙ ap (map (λ x. stealer_deque x)) s.stealers ∙ sym (id_of_all a.others.items) ∙ o.order;
+}
+
+-- a list that is not empty has a worker
+some_of : (xs : List Marker) → 0 < length xs → Marker
+some_of [] h = absurd (omega arith)
+some_of (x ∷ xs) h = x
+
+-- turns leave each worker at its place
+pub team_after : (r : Rest) (old new : List Marker) → IsTeam r old → AreWorked old new → IsTeam r new
+team_after r old new t w = record {
+  ids = t.ids;
+  workers = t.workers;
+  sound = w.sound;
+  each = λ k d h. let m = w.many in let i : k < length old = omega arith in same_one r t.ids (get_or old k d) (get_or new k d) (w.same k d d i) (t.each k d i);
+  order = λ e k d h. let m = w.many in let i : k < length old = omega arith in (w.same k d d i).number ∙ t.order (omega arith) k d i;
+}
+
+-- each thread promised that its worker comes back as the same
+pub all_worked : (ms rs : List Marker) (hs : List (PromisedHandle Marker SameAs)) → map began hs ≡ ms → length rs ≡ length hs
+    → ((i : ℕ) (d : Marker) → i < length hs → (h : PromisedHandle Marker SameAs) × (h ≡ get_or hs i h) × SameMarker (began h) (get_or rs i d) × IsSound (get_or rs i d)) → AreWorked ms rs
+all_worked ms rs hs is many each =
+    let l = length-map hs began in let e = ap length is in record {
+      many = omega arith;
+      same = λ k a b i.
+          let x = each k b (omega arith) in
+          let at : began x.0 ≡ get_or ms k a = ap began x.1 ∙ sym (get_or-map began hs k x.0 a (omega arith)) ∙ ap (λ z. get_or z k a) is in
+          subst (λ z. SameMarker z (get_or rs k b)) at x.2;
+      sound = λ k d h. (each k d (omega arith)).3;
+    }
+
+-- a list of no length is empty
+pub empty_is : {A : Type 0} (xs : List A) → length xs ≡ 0 → xs ≡ []
+empty_is [] e = refl
+empty_is (x ∷ xs) e = absurd (omega arith)
+
+-- a worker is the same as itself
+same_marker : (m : Marker) → SameMarker m m
+same_marker m = record { number = refl; board = refl; table = refl; deque = refl; stealers = refl }
+
+-- one of the workers took a turn, and the others stayed as they were
+worked_one : (ms : List Marker) (place : ℕ) (old new : Marker) → place < length ms → old ≡ get_or ms place old → SameMarker old new → IsSound new → All IsSound ms → AreWorked ms (set ms place new)
+worked_one ms place old new inside is same sound all = record {
+  many = length-set ms place new;
+  same = λ k a b h. dite (ℕ_discrete k place)
+      (λ (e : k ≡ place).
+      let was : get_or ms k a ≡ old = ap (λ i. get_or ms i a) e ∙ get_or_default ms place a old inside ∙ sym is in
+      let now : get_or (set ms place new) k b ≡ new = ap (λ i. get_or (set ms place new) i b) e ∙ get_or-set_same ms place new b inside in
+      subst (λ x. SameMarker x (get_or (set ms place new) k b)) (sym was) (subst (SameMarker old) (sym now) same))
+      (λ (ne : k ≢ place).
+      let now : get_or (set ms place new) k b ≡ get_or ms k a = get_or-set_other ms place k new b ne ∙ get_or_default ms k b a h in
+      subst (SameMarker (get_or ms k a)) (sym now) (same_marker (get_or ms k a)));
+  sound = All-set IsSound ms place new sound all;
+}
+
+-- a turn of one worker leaves the team a team
+pub team_turned : (r : Rest) (ms : List Marker) (place : ℕ) (old new : Marker) → place < length ms → old ≡ get_or ms place old → SameMarker old new → IsSound new → IsTeam r ms → IsTeam r (set ms place new)
+team_turned r ms place old new inside is same sound t = team_after r ms (set ms place new) t (worked_one ms place old new inside is same sound t.sound)

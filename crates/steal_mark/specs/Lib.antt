@@ -1,0 +1,13 @@
+pub mod Parts
+pub mod Claiming
+pub mod Dealing
+pub mod Growing
+pub mod Stealing
+pub mod Working
+pub mod Listing
+pub mod Draining
+pub mod Closing
+pub mod Refusing
+pub mod Team
+pub mod Starting
+pub mod Hinting

@@ -1,0 +1,27 @@
+-- The parts of a marking, by short names.
+use Rattle.std.specs.Prelude.{ℕ}
+use Rattle.std.proofs.Common.{Global, Vec}
+use Rattle.atomic_table.specs.declared.owned.Table.{Table}
+use Rattle.crossbeam_deque.specs.declared.handles.Worker.{Worker}
+use Rattle.mark_core.specs.declared.graph.Graph.{Graph}
+use Rattle.steal_mark.specs.declared.claims.Claims.{Claims}
+use Rattle.steal_mark.specs.declared.claims.ClaimRule.{ClaimRule}
+use Rattle.steal_mark.specs.declared.hands.Hand.{Hand}
+use Rattle.steal_mark.specs.declared.hands.DealRule.{DealRule}
+use Rattle.steal_mark.specs.declared.other.Other.{Other}
+
+-- the claim words of a marking, under their rule (ours)
+abbrev pub Board : Type 0
+Board = Table (Unit {0}) Claims Graph ClaimRule Global
+
+-- the deque of one worker, under its rule (ours)
+abbrev pub Deque : Type 0
+Deque = Worker ℕ Global Hand DealRule
+
+-- the passes of one worker, one on each deque (ours)
+abbrev pub Row : Type 0
+Row = Vec Other Global
+
+-- the nodes that one worker has scanned, in order (ours)
+abbrev pub NodeList : Type 0
+NodeList = Vec ℕ Global

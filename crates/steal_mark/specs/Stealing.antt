@@ -1,0 +1,40 @@
+-- The passes of a worker on the deques.
+use Rattle.std.specs.Prelude.{◌≡◌, ◌≢◌, ℕ, ◌<◌, List, [], ◌∷◌, ◌++◌, length, map, slice_index, slice_set, Some}
+use mathlib.Core.Option.{some}
+use lib.ListN.{get_elem?}
+use Rattle.crossbeam_deque.specs.Handles.{view, IsPassOf, stealer_deque, stealer_flavor}
+use Rattle.mark_core.specs.declared.graph.Graph.{Graph}
+use Rattle.steal_mark.specs.declared.hands.Hand.{Hand}
+use Rattle.steal_mark.specs.declared.other.Other.{Other}
+use Rattle.steal_mark.specs.Dealing.{hand}
+
+-- a pass on a deque of this graph's marking (ours)
+pub record IsOther (g : Graph) (o : Other) : Type 0 where
+  pub pass : IsPassOf (stealer_deque o.stealer) o.pass
+  pub fifo : stealer_flavor o.stealer ≡ 0
+  pub graph : (view o.pass).graph ≡ Some g
+  pub unpushed : (view o.pass).pushed ≡ []
+
+-- what a pass has pushed and taken (ours)
+abbrev pub hand_of : Other → Hand
+hand_of o = view o.pass
+
+-- what each pass has pushed and taken (ours)
+abbrev pub hands : List Other → List Hand
+hands others = map hand_of others
+
+-- how many parts each pass has (ours)
+abbrev pub parts_of : List Other → List ℕ
+parts_of others = map (λ (o : Other). (hand_of o).parts) others
+
+-- a worker has one part of each deque, but none of its own beside the owner's (ours)
+abbrev pub IsPlaced : ℕ → List ℕ → Type 0
+IsPlaced number parts = (k : ℕ) → k < length parts → (k ≡ number → slice_index parts k ≡ 0) × (k ≢ number → slice_index parts k ≡ 1)
+
+-- the view after n was taken (ours)
+abbrev pub took : ℕ → Hand → Hand
+took n v = hand v.parts v.graph v.pushed (v.taken ++ n ∷ [])
+
+-- one of the passes has taken n (ours)
+abbrev pub TookOne : ℕ → List Hand → List Hand → Type 0
+TookOne n vs ws = (k : ℕ) × (v : Hand) × (get_elem? vs k ≡ some v) × (ws ≡ slice_set vs k (took n v))

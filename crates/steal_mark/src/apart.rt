@@ -1,0 +1,45 @@
+//! Markers are taken apart.
+ghost use Rattle.std.specs.Prelude.{◌≡◌, ◌<◌, All, IfOk};
+ghost use Rattle.steal_mark.specs.Team.{Apart, IsLoose};
+
+use crate::board::{Board, ClaimSeat};
+use crate::claims::Deal;
+use crate::hands::Deque;
+use crate::marker::Marker;
+use crate::other::Other;
+use std::alloc::{AllocError, Global};
+
+// Joins the markers' seats to this one, and gives their deques, their passes and their lists.
+pub fn take_apart(
+    alloc: Global,
+    board: &Board,
+    seat: &mut ClaimSeat,
+    markers: Vec<Marker>,
+) -> Result<(Vec<Deque>, Vec<Vec<Other>>, Vec<Vec<u32>>), AllocError>
+    requires wide { 0 < board.now.shared.table_id.words }
+    requires seat { (seat.old.table_id ≡ board.now.shared.table_id) × (0 < seat.old.me.0.parts) }
+    requires markers { All (IsLoose board.now.shared.table_id) markers.items }
+    ensures same { (seat.new.table_id ≡ seat.old.table_id) × (seat.new.me.1 ≡ seat.old.me.1) }
+    ensures apart { IfOk result (λ p. Apart markers.items p.0.items p.1.items p.2.items
+        seat.old.me.0 seat.new.me.0) }
+{
+    let mut deques = Vec::new(alloc);
+    let mut rows = Vec::new(alloc);
+    let mut lists = Vec::new(alloc);
+    for marker in markers {
+        let Marker {
+            number: _,
+            board: _,
+            seat: theirs,
+            deque,
+            others,
+            scanned,
+            refused: _,
+        } = marker;
+        board.shared.join_seat::<Deal>(seat, theirs);
+        deques.push(deque)?;
+        rows.push(others)?;
+        lists.push(scanned)?;
+    }
+    Ok((deques, rows, lists))
+}
