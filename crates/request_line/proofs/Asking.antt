@@ -1,0 +1,58 @@
+-- On what a line asks for.
+use Rattle.std.proofs.Common.{◌≡◌, ◌∙◌, ap, refl, ℕ, List, true, false, Option, Some, None, option_and_then, Result, Ok, Err, IfErr, inl}
+use Rattle.std.specs.Str.{is_utf8}
+use Rattle.serde_json.specs.Data.{Data, Members}
+use Rattle.serde_json.specs.Find.{as_object}
+use Rattle.serde_json.specs.Read.{read}
+use Rattle.meta_types.specs.Faults.{Refuses}
+use Rattle.meta_types.specs.declared.fault.Fault.{Fault}
+use Rattle.request_line.specs.Refusals.{IsUnread}
+use Rattle.request_line.specs.declared.asked.Asked.{Asked}
+use Rattle.request_line.specs.declared.op.Op.{Op}
+use Rattle.request_line.specs.Table.{members_of}
+use Rattle.request_line.specs.Lines.{op_in, are_of, asked_of, asked_with, asked_by, asked_from, asked_in}
+
+-- a value that names an op and has its members asks for it
+pub asked_by-op : (ms : Members) (op : Op) → op_in ms ≡ Some op → are_of (members_of op) ms ≡ true → asked_by ms ≡ Some (asked_of op ms)
+unfolding asked_by
+asked_by-op ms op named fits = ap (option_and_then (asked_with ms)) named ∙ rw fits refl
+
+-- one that hasn't its members asks for nothing
+pub asked_by-misfit : (ms : Members) (op : Op) → op_in ms ≡ Some op → are_of (members_of op) ms ≡ false → asked_by ms ≡ None
+unfolding asked_by
+asked_by-misfit ms op named fits = ap (option_and_then (asked_with ms)) named ∙ rw fits refl
+
+-- one that names no op asks for nothing
+pub asked_by-no_op : (ms : Members) → op_in ms ≡ None → asked_by ms ≡ None
+unfolding asked_by
+asked_by-no_op ms named = ap (option_and_then (asked_with ms)) named
+
+-- an object asks for what its members ask for
+pub asked_from-object : (d : Data) (ms : Members) → as_object d ≡ Some ms → asked_from d ≡ asked_by ms
+unfolding asked_from
+asked_from-object d ms is = ap (option_and_then asked_by) is
+
+-- another value asks for nothing
+pub asked_from-other : (d : Data) → as_object d ≡ None → asked_from d ≡ None
+unfolding asked_from
+asked_from-other d is = ap (option_and_then asked_by) is
+
+-- a line of JSON asks for what its value asks for
+pub asked_in-value : (line : List ℕ) (d : Data) → is_utf8 line ≡ true → read line ≡ Some d → asked_in line ≡ asked_from d
+unfolding asked_in
+asked_in-value line d text value = rw (text, value) refl
+
+-- a text that is no JSON asks for nothing
+pub asked_in-no_value : (line : List ℕ) → is_utf8 line ≡ true → read line ≡ None → asked_in line ≡ None
+unfolding asked_in
+asked_in-no_value line text value = rw (text, value) refl
+
+-- a line that is no text asks for nothing
+pub asked_in-no_text : (line : List ℕ) → is_utf8 line ≡ false → asked_in line ≡ None
+unfolding asked_in
+asked_in-no_text line text = rw text refl
+
+-- where memory alone was wanting, the line is unread for want of it
+pub unread_of_memory : {X : Type 0} (r : Result X Fault) (asked : Option Asked) → Refuses r None → IfErr r (IsUnread asked)
+unread_of_memory (Ok x) asked wants = tt
+unread_of_memory (Err fault) asked wants = inl wants

@@ -1,0 +1,103 @@
+-- What a line asks for.
+use Rattle.std.specs.Prelude.{ℕ, List, [], ◌∷◌, Bool, true, false, ◌&&◌, ◌||◌, if◌then◌else◌, Option, Some, None, is_some, unwrap_or, option_and_then, codes}
+use Rattle.std.specs.List.{list_any, list_all}
+use Rattle.std.specs.Option.{option_map_or}
+use Rattle.std.specs.Str.{bytes_eq, is_utf8}
+use Rattle.serde_json.specs.Data as json
+use Rattle.serde_json.specs.Find.{get_member, as_str, as_object}
+use Rattle.serde_json.specs.Read.{read}
+use Rattle.meta_types.specs.Text.{Text}
+use Rattle.meta_types.specs.declared.request.Request.TheVariants as R
+use Rattle.request_line.specs.Table.{Members, members_of, op_named}
+use Rattle.request_line.specs.declared.asked.Asked.{Asked}
+use Rattle.request_line.specs.declared.asked.Asked.TheVariants as A
+use Rattle.request_line.specs.declared.op.Op.{Op}
+use Rattle.request_line.specs.declared.op.Op.TheVariants.{NsAdd, NsList, ImageAdd, ImageRemove, ContentAdd, GcRun}
+
+-- ---- which objects are requests
+
+-- a JSON text (ours)
+abbrev pub is_text : json.Data → Bool
+is_text d = is_some (as_str d)
+
+-- members whose values are all texts (ours)
+abbrev pub are_texts : json.Members → Bool
+are_texts json.no_members = true
+are_texts (json.member k d ms) = is_text d && are_texts ms
+
+-- an object whose values are all texts (ours)
+abbrev pub are_labels : json.Data → Bool
+are_labels d = option_map_or are_texts (as_object d) false
+
+-- all members are texts, but `labels` (ours)
+abbrev pub has_kind : Text → json.Data → Bool
+has_kind key d = if bytes_eq key (codes "labels") then are_labels d else is_text d
+
+-- the key is one of these (ours)
+abbrev pub is_among : Text → List Text → Bool
+is_among key keys = list_any (λ k. bytes_eq k key) keys
+
+-- a member with this name may stand in the line (ours)
+abbrev pub is_listed : Members → Text → Bool
+is_listed row key = bytes_eq key (codes "op") || (is_among key row.required || is_among key row.optional)
+
+-- each member may stand in the line, and is of its kind (ours)
+abbrev pub are_listed : Members → json.Members → Bool
+are_listed row json.no_members = true
+are_listed row (json.member k d ms) = (is_listed row k && has_kind k d) && are_listed row ms
+
+-- each member that must stand in the line is there (ours)
+abbrev pub has_required : Members → json.Members → Bool
+has_required row ms = list_all (λ k. is_some (get_member k ms)) row.required
+
+-- the members of a row, and no others (ours)
+abbrev pub are_of : Members → json.Members → Bool
+are_of row ms = are_listed row ms && has_required row ms
+
+-- ---- what they ask for
+
+-- the text of a member; of a repeated member JSON keeps the last (ours)
+abbrev pub text_at : Text → json.Members → Text
+text_at key ms = unwrap_or (option_and_then as_str (get_member key ms)) []
+
+-- the text of a member that may be left out (ours)
+abbrev pub text_if_any : Text → json.Members → Option Text
+text_if_any key ms = option_and_then as_str (get_member key ms)
+
+-- the keys and values of an object of texts, by the bytes of the keys (ours)
+abbrev pub pairs_from : json.Members → List (Text × Text)
+pairs_from json.no_members = []
+pairs_from (json.member k d ms) = (k, unwrap_or (as_str d) []) ∷ pairs_from ms
+
+-- the labels, which may be left out (ours)
+abbrev pub labels_at : json.Members → List (Text × Text)
+labels_at ms = option_map_or pairs_from (option_and_then as_object (get_member (codes "labels") ms)) []
+
+-- what each op asks for with these members (ours)
+abbrev pub asked_of : Op → json.Members → Asked
+asked_of NsAdd ms = A.Request (R.NsAdd (text_at (codes "ns") ms))
+asked_of NsList ms = A.Request R.NsList
+asked_of ImageAdd ms = A.Request (R.ImageAdd (text_at (codes "ns") ms) (text_at (codes "name") ms) (text_at (codes "target") ms) (labels_at ms))
+asked_of ImageRemove ms = A.Request (R.ImageRemove (text_at (codes "ns") ms) (text_at (codes "name") ms))
+asked_of ContentAdd ms = A.Request (R.ContentAdd (text_at (codes "ns") ms) (text_at (codes "digest") ms) (labels_at ms) None)
+asked_of GcRun ms = A.Collect (text_at (codes "at") ms) false
+
+-- what an op asks for, where the object has its members (ours)
+abbrev pub asked_with : json.Members → Op → Option Asked
+asked_with ms op = if are_of (members_of op) ms then Some (asked_of op ms) else None
+
+-- the op that an object names (ours)
+abbrev pub op_in : json.Members → Option Op
+op_in ms = option_and_then op_named (text_if_any (codes "op") ms)
+
+-- what an object asks for, where it is a request (ours)
+unfoldable pub asked_by : json.Members → Option Asked
+asked_by ms = option_and_then (asked_with ms) (op_in ms)
+
+-- what a value asks for: no other value is a request (ours)
+unfoldable pub asked_from : json.Data → Option Asked
+asked_from d = option_and_then asked_by (as_object d)
+
+-- what a line asks for, where it is UTF-8, JSON and a request (ours)
+unfoldable pub asked_in : List ℕ → Option Asked
+asked_in line = if is_utf8 line then option_and_then asked_from (read line) else None
