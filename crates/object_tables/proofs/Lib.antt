@@ -1,0 +1,9 @@
+pub mod KeyOrder
+pub mod Positions
+pub mod Kept
+pub mod Relabelled
+pub mod Ordering
+pub mod Retained
+pub mod Committing
+pub mod Snapshotters
+pub mod SnapshottersSorted

@@ -1,0 +1,91 @@
+//! Containers, with the snapshots that they run on.
+ghost use Rattle.std.specs.Prelude.{◌≡◌, ◌∷◌, [], map, None, IfOk, OnOk, OnErr, option_copied};
+ghost use Rattle.meta_types.specs.Keys.{row_at, has_row, add_row, remove_row, change_row};
+ghost use Rattle.meta_types.specs.Labels.{put_label};
+ghost use Rattle.meta_types.specs.Rows.{container_key};
+ghost use Rattle.meta_types.specs.Faults.{Refuses, OnlyRefuses};
+ghost use Rattle.object_tables.specs.Calls.{adding_fault, missing_fault, labelling_fault};
+
+use crate::tables::Tables;
+use meta_types::{ContainerRow, Fault, Name, ShortName};
+use std::alloc::Global;
+
+impl Tables {
+    /// The row of a container.
+    pub fn get_container(&self, ns: &ShortName, name: &Name) -> Option<&ContainerRow>
+        ensures { option_copied result ≡ row_at container_key (ns.now ∷ name.now
+            ∷ []) self.now.containers }
+    {
+        self.containers.get(&[ns.text(), name.text()])
+    }
+
+    /// Whether the container is there.
+    pub fn has_container(&self, ns: &ShortName, name: &Name) -> bool
+        ensures { result ≡ has_row container_key (ns.now ∷ name.now ∷ []) self.now.containers }
+    {
+        self.containers.has(&[ns.text(), name.text()])
+    }
+
+    /// The rows, in the order of their keys.
+    pub fn container_rows(&self, alloc: Global) -> Result<Vec<&ContainerRow>, Fault>
+        ensures fault { Refuses result None }
+        ensures ok { IfOk result (λ rows. map (λ row. row.now) rows.items ≡ self.now.containers) }
+    {
+        self.containers.borrowed(alloc)
+    }
+
+    /// Adds a container's row.
+    pub fn add_container(&mut self, _alloc: Global, row: ContainerRow) -> Result<(), Fault>
+        ensures fault { Refuses result (adding_fault self.old row.ns (has_row container_key
+            (container_key row) self.old.containers)) }
+        ensures ok { OnOk result (self.new ≡ record self.old
+            { containers = add_row container_key row self.old.containers }) }
+        ensures err { OnErr result (self.new ≡ self.old) }
+    {
+        if !self.has_ns(&row.ns) {
+            return Err(Fault::NotFound);
+        }
+        if self.has_container(&row.ns, &row.name) {
+            return Err(Fault::AlreadyExists);
+        }
+        self.containers.add(row)
+    }
+
+    /// Removes a container's row. It takes no memory.
+    pub fn remove_container(&mut self, ns: &ShortName, name: &Name) -> Result<(), Fault>
+        ensures fault { OnlyRefuses result (missing_fault (has_row container_key (ns.now
+            ∷ name.now ∷ []) self.old.containers)) }
+        ensures left { self.new ≡ record self.old {
+          containers = remove_row container_key (ns.now
+              ∷ name.now ∷ []) self.old.containers;
+        } }
+        ensures err { OnErr result (self.new ≡ self.old) }
+    {
+        if self.containers.remove(&[ns.text(), name.text()]) {
+            Ok(())
+        } else {
+            Err(Fault::NotFound)
+        }
+    }
+
+    /// Puts one label on a container.
+    pub fn relabel_container(
+        &mut self,
+        alloc: Global,
+        ns: &ShortName,
+        name: &Name,
+        key: &str,
+        value: &str,
+    ) -> Result<(), Fault>
+        ensures fault { Refuses result (labelling_fault (λ row. row.labels) key.now value.now
+            (row_at container_key (ns.now ∷ name.now ∷ []) self.old.containers)) }
+        ensures ok { OnOk result (self.new ≡ record self.old {
+          containers = change_row container_key (ns.now ∷ name.now ∷ []) (λ row. record row
+              { labels = put_label key.now value.now row.labels }) self.old.containers;
+        }) }
+        ensures err { OnErr result (self.new ≡ self.old) }
+    {
+        self.containers
+            .relabel(alloc, &[ns.text(), name.text()], key, value)
+    }
+}

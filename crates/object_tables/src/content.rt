@@ -1,0 +1,100 @@
+//! Content, as each namespace sees it.
+ghost use Rattle.std.specs.Prelude.{◌≡◌, ◌∷◌, [], map, None, IfOk, OnOk, OnErr, option_copied, length};
+ghost use Rattle.meta_types.specs.Keys.{row_at, has_row, add_row, remove_row, change_row};
+ghost use Rattle.meta_types.specs.Labels.{put_label};
+ghost use Rattle.meta_types.specs.Rows.{content_key};
+ghost use Rattle.meta_types.specs.Faults.{Refuses, OnlyRefuses};
+ghost use Rattle.object_tables.specs.Calls.{adding_fault, missing_fault, kept, labelling_fault};
+
+use crate::tables::Tables;
+use meta_types::{ContentRow, Digest, Fault, ShortName};
+use std::alloc::Global;
+
+impl Tables {
+    /// The row of content.
+    pub fn get_content(&self, ns: &ShortName, digest: &Digest) -> Option<&ContentRow>
+        ensures { option_copied result ≡ row_at content_key (ns.now ∷ digest.now
+            ∷ []) self.now.content }
+    {
+        self.content.get(&[ns.text(), digest.text()])
+    }
+
+    /// Whether the content is there.
+    pub fn has_content(&self, ns: &ShortName, digest: &Digest) -> bool
+        ensures { result ≡ has_row content_key (ns.now ∷ digest.now ∷ []) self.now.content }
+    {
+        self.content.has(&[ns.text(), digest.text()])
+    }
+
+    /// The rows, in the order of their keys.
+    pub fn content_rows(&self, alloc: Global) -> Result<Vec<&ContentRow>, Fault>
+        ensures fault { Refuses result None }
+        ensures ok { IfOk result (λ rows. map (λ row. row.now) rows.items ≡ self.now.content) }
+    {
+        self.content.borrowed(alloc)
+    }
+
+    /// Adds a row of content.
+    pub fn add_content(&mut self, _alloc: Global, row: ContentRow) -> Result<(), Fault>
+        ensures fault { Refuses result (adding_fault self.old row.ns (has_row content_key
+            (content_key row) self.old.content)) }
+        ensures ok { OnOk result (self.new ≡ record self.old
+            { content = add_row content_key row self.old.content }) }
+        ensures err { OnErr result (self.new ≡ self.old) }
+    {
+        if !self.has_ns(&row.ns) {
+            return Err(Fault::NotFound);
+        }
+        if self.has_content(&row.ns, &row.digest) {
+            return Err(Fault::AlreadyExists);
+        }
+        self.content.add(row)
+    }
+
+    /// Removes a row of content. It takes no memory.
+    pub fn remove_content(&mut self, ns: &ShortName, digest: &Digest) -> Result<(), Fault>
+        ensures fault { OnlyRefuses result (missing_fault (has_row content_key (ns.now
+            ∷ digest.now ∷ []) self.old.content)) }
+        ensures left { self.new ≡ record self.old {
+          content = remove_row content_key (ns.now
+              ∷ digest.now ∷ []) self.old.content;
+        } }
+        ensures err { OnErr result (self.new ≡ self.old) }
+    {
+        if self.content.remove(&[ns.text(), digest.text()]) {
+            Ok(())
+        } else {
+            Err(Fault::NotFound)
+        }
+    }
+
+    /// Puts one label on content.
+    pub fn relabel_content(
+        &mut self,
+        alloc: Global,
+        ns: &ShortName,
+        digest: &Digest,
+        key: &str,
+        value: &str,
+    ) -> Result<(), Fault>
+        ensures fault { Refuses result (labelling_fault (λ row. row.labels) key.now value.now
+            (row_at content_key (ns.now ∷ digest.now ∷ []) self.old.content)) }
+        ensures ok { OnOk result (self.new ≡ record self.old {
+          content = change_row content_key
+              (ns.now ∷ digest.now ∷ []) (λ row. record row
+              { labels = put_label key.now value.now row.labels }) self.old.content;
+        }) }
+        ensures err { OnErr result (self.new ≡ self.old) }
+    {
+        self.content
+            .relabel(alloc, &[ns.text(), digest.text()], key, value)
+    }
+
+    /// Leaves the rows whose places are marked. It takes no memory.
+    pub fn retain_content(&mut self, keep: &[bool])
+        requires { length keep.now ≡ length self.old.content }
+        ensures { self.new ≡ record self.old { content = kept keep.now self.old.content } }
+    {
+        self.content.retain(keep);
+    }
+}

@@ -1,0 +1,77 @@
+//! Ingests: content that is being written.
+ghost use Rattle.std.specs.Prelude.{◌≡◌, ◌∷◌, [], map, None, IfOk, OnOk, OnErr, option_copied, length};
+ghost use Rattle.meta_types.specs.Keys.{row_at, has_row, add_row, remove_row};
+ghost use Rattle.meta_types.specs.Rows.{ingest_key};
+ghost use Rattle.meta_types.specs.Faults.{Refuses, OnlyRefuses};
+ghost use Rattle.object_tables.specs.Calls.{adding_fault, missing_fault, kept};
+
+use crate::tables::Tables;
+use meta_types::{Fault, IngestRow, Name, ShortName};
+use std::alloc::Global;
+
+impl Tables {
+    /// The row of an ingest.
+    pub fn get_ingest(&self, ns: &ShortName, name: &Name) -> Option<&IngestRow>
+        ensures { option_copied result ≡ row_at ingest_key (ns.now ∷ name.now
+            ∷ []) self.now.ingests }
+    {
+        self.ingests.get(&[ns.text(), name.text()])
+    }
+
+    /// Whether the ingest is there.
+    pub fn has_ingest(&self, ns: &ShortName, name: &Name) -> bool
+        ensures { result ≡ has_row ingest_key (ns.now ∷ name.now ∷ []) self.now.ingests }
+    {
+        self.ingests.has(&[ns.text(), name.text()])
+    }
+
+    /// The rows, in the order of their keys.
+    pub fn ingest_rows(&self, alloc: Global) -> Result<Vec<&IngestRow>, Fault>
+        ensures fault { Refuses result None }
+        ensures ok { IfOk result (λ rows. map (λ row. row.now) rows.items ≡ self.now.ingests) }
+    {
+        self.ingests.borrowed(alloc)
+    }
+
+    /// Adds an ingest's row.
+    pub fn add_ingest(&mut self, _alloc: Global, row: IngestRow) -> Result<(), Fault>
+        ensures fault { Refuses result (adding_fault self.old row.ns (has_row ingest_key
+            (ingest_key row) self.old.ingests)) }
+        ensures ok { OnOk result (self.new ≡ record self.old
+            { ingests = add_row ingest_key row self.old.ingests }) }
+        ensures err { OnErr result (self.new ≡ self.old) }
+    {
+        if !self.has_ns(&row.ns) {
+            return Err(Fault::NotFound);
+        }
+        if self.has_ingest(&row.ns, &row.name) {
+            return Err(Fault::AlreadyExists);
+        }
+        self.ingests.add(row)
+    }
+
+    /// Removes an ingest's row. It takes no memory.
+    pub fn remove_ingest(&mut self, ns: &ShortName, name: &Name) -> Result<(), Fault>
+        ensures fault { OnlyRefuses result (missing_fault (has_row ingest_key (ns.now ∷ name.now
+            ∷ []) self.old.ingests)) }
+        ensures left { self.new ≡ record self.old {
+          ingests = remove_row ingest_key (ns.now
+              ∷ name.now ∷ []) self.old.ingests;
+        } }
+        ensures err { OnErr result (self.new ≡ self.old) }
+    {
+        if self.ingests.remove(&[ns.text(), name.text()]) {
+            Ok(())
+        } else {
+            Err(Fault::NotFound)
+        }
+    }
+
+    /// Leaves the rows whose places are marked. It takes no memory.
+    pub fn retain_ingests(&mut self, keep: &[bool])
+        requires { length keep.now ≡ length self.old.ingests }
+        ensures { self.new ≡ record self.old { ingests = kept keep.now self.old.ingests } }
+    {
+        self.ingests.retain(keep);
+    }
+}

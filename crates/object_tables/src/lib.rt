@@ -1,0 +1,15 @@
+//! Rows of images, containers, content, ingests and snapshots, by namespace.
+#![tactic(auto)]
+
+mod containers;
+mod content;
+mod images;
+mod ingests;
+mod keyed;
+mod snapshots;
+mod table;
+mod tables;
+#[cfg(test)]
+mod tests;
+
+pub use tables::{Counts, Tables};

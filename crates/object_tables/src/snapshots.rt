@@ -1,0 +1,342 @@
+//! Snapshots, each over a committed parent or none.
+ghost use Rattle.std.specs.Prelude.{◌≡◌, ◌∷◌, [], map, false, None, IfOk, OnOk, OnErr, option_copied, length, IsTrue, bytes_eq, ◌&&◌, not};
+ghost use Rattle.std.specs.Option.{option_map_or};
+ghost use Rattle.std.specs.List.{list_any};
+ghost use Rattle.std.specs.List.Sorted.{IsStrictlySortedBy};
+ghost use Rattle.meta_types.specs.Text.{text_cmp};
+ghost use Rattle.meta_types.specs.Keys.{row_at, has_row, add_row, change_row, are_in_order};
+ghost use Rattle.meta_types.specs.Labels.{put_label};
+ghost use Rattle.meta_types.specs.Rows.{snap_key};
+ghost use Rattle.meta_types.specs.Faults.{Refuses, OnlyRefuses};
+ghost use Rattle.meta_types.specs.SnapshotOps.{is_child_of, committed, snapshots_in};
+ghost use Rattle.meta_types.specs.Changes.{has_namespace};
+ghost use Rattle.meta_types.specs.declared.rows.SnapKind.TheVariants.{Committed};
+ghost use Rattle.object_tables.specs.Calls.{adding_snap_fault, removing_snap_fault, committing_fault, without_snap, labelling_fault, missing_fault, children_of, kept, snapshotters_in};
+
+use crate::tables::Tables;
+use meta_types::{Fault, Labels, Listing, Name, ShortName, SnapKey, SnapKind, SnapRow};
+use std::alloc::Global;
+
+impl Tables {
+    /// The row of a snapshot.
+    pub fn get_snap(&self, key: &SnapKey) -> Option<&SnapRow>
+        ensures { option_copied result ≡ row_at snap_key (key.now.ns ∷ key.now.snapshotter
+            ∷ key.now.name ∷ []) self.now.snapshots }
+    {
+        self.snapshots
+            .get(&[key.ns.text(), key.snapshotter.text(), key.name.text()])
+    }
+
+    /// Whether the snapshot is there.
+    pub fn has_snap(&self, key: &SnapKey) -> bool
+        ensures { result ≡ has_row snap_key (key.now.ns ∷ key.now.snapshotter ∷ key.now.name
+            ∷ []) self.now.snapshots }
+    {
+        self.snapshots
+            .has(&[key.ns.text(), key.snapshotter.text(), key.name.text()])
+    }
+
+    /// The rows, in the order of their keys.
+    pub fn snap_rows(&self, alloc: Global) -> Result<Vec<&SnapRow>, Fault>
+        ensures fault { Refuses result None }
+        ensures ok { IfOk result (λ rows. map (λ row. row.now) rows.items ≡ self.now.snapshots) }
+    {
+        self.snapshots.borrowed(alloc)
+    }
+
+    /// Puts one label on a snapshot.
+    pub fn relabel_snap(
+        &mut self,
+        alloc: Global,
+        at: &SnapKey,
+        key: &str,
+        value: &str,
+    ) -> Result<(), Fault>
+        ensures fault { Refuses result (labelling_fault (λ row. row.labels) key.now value.now
+            (row_at snap_key (at.now.ns ∷ at.now.snapshotter ∷ at.now.name
+            ∷ []) self.old.snapshots)) }
+        ensures ok { OnOk result (self.new ≡ record self.old {
+          snapshots = change_row snap_key
+              (at.now.ns ∷ at.now.snapshotter ∷ at.now.name ∷ []) (λ row. record row
+              { labels = put_label key.now value.now row.labels }) self.old.snapshots;
+        }) }
+        ensures err { OnErr result (self.new ≡ self.old) }
+    {
+        self.snapshots.relabel(
+            alloc,
+            &[at.ns.text(), at.snapshotter.text(), at.name.text()],
+            key,
+            value,
+        )
+    }
+
+    /// Adds a snapshot's row, with the backend number that the caller chose.
+    pub fn add_snap(&mut self, _alloc: Global, row: SnapRow) -> Result<(), Fault>
+        ensures fault { Refuses result (adding_snap_fault self.old row) }
+        ensures ok { OnOk result (self.new ≡ record self.old
+            { snapshots = add_row snap_key row self.old.snapshots }) }
+        ensures err { OnErr result (self.new ≡ self.old) }
+    {
+        self.check_add(&row)?;
+        self.snapshots.add(row)
+    }
+
+    // What would refuse a snapshot, but memory.
+    fn check_add(&self, row: &SnapRow) -> Result<(), Fault>
+        ensures fault { OnlyRefuses result (adding_snap_fault self.now row.now) }
+        ensures free { OnOk result (has_row snap_key (snap_key row.now) self.now.snapshots
+            ≡ false) }
+    {
+        if !self.has_ns(&row.key.ns) {
+            return Err(Fault::NotFound);
+        }
+        let committed = match &row.parent {
+            Some(parent) => {
+                let key = &[row.key.ns.text(), row.key.snapshotter.text(), parent.text()];
+                match self.snapshots.get(key) {
+                    Some(above) => above.kind == SnapKind::Committed,
+                    None => return Err(Fault::NotFound),
+                }
+            }
+            None => true,
+        };
+        if self.has_snap(&row.key) {
+            return Err(Fault::AlreadyExists);
+        }
+        if !committed {
+            return Err(Fault::FailedPrecondition);
+        }
+        Ok(())
+    }
+
+    /// What would refuse a commit, but memory.
+    pub fn check_commit(&self, key: &SnapKey, name: &Name) -> Result<(), Fault>
+        ensures fault { OnlyRefuses result
+            (committing_fault key.now.ns key.now.snapshotter key.now.name name.now
+            self.now.snapshots) }
+        ensures free { OnOk result (has_row snap_key (key.now.ns ∷ key.now.snapshotter ∷ name.now
+            ∷ []) self.now.snapshots ≡ false) }
+        ensures order { IsTrue (are_in_order snap_key self.now.snapshots) }
+    {
+        let _ = self.snapshots.rows();
+        let Some(row) = self.get_snap(key) else {
+            return Err(Fault::NotFound);
+        };
+        let place = &[key.ns.text(), key.snapshotter.text(), name.text()];
+        if self.snapshots.has(place) {
+            return Err(Fault::AlreadyExists);
+        }
+        if row.kind != SnapKind::Active {
+            return Err(Fault::FailedPrecondition);
+        }
+        Ok(())
+    }
+
+    /// Removes a snapshot that is no parent. It takes no memory.
+    pub fn remove_snap(&mut self, key: &SnapKey) -> Result<(), Fault>
+        ensures fault { OnlyRefuses result
+            (removing_snap_fault key.now.ns key.now.snapshotter key.now.name self.old.snapshots) }
+        ensures left { self.new ≡ record self.old {
+          snapshots = without_snap key.now.ns key.now.snapshotter key.now.name
+              self.old.snapshots;
+        } }
+        ensures err { OnErr result (self.new ≡ self.old) }
+    {
+        if !self.has_snap(key) {
+            return Err(Fault::NotFound);
+        }
+        if has_children(self.snapshots.rows(), key) {
+            return Err(Fault::FailedPrecondition);
+        }
+        self.snapshots
+            .remove(&[key.ns.text(), key.snapshotter.text(), key.name.text()]);
+        Ok(())
+    }
+
+    /// Commits an active snapshot under a name that none has, with its parent and its number.
+    pub fn commit_snap(
+        &mut self,
+        _alloc: Global,
+        key: &SnapKey,
+        name: Name,
+        labels: Labels,
+    ) -> Result<(), Fault>
+        ensures fault { Refuses result
+            (committing_fault key.now.ns key.now.snapshotter key.now.name name self.old.snapshots) }
+        ensures ok { OnOk result (self.new ≡ record self.old {
+          snapshots = committed key.now.ns key.now.snapshotter key.now.name name labels
+              self.old.snapshots;
+        }) }
+        ensures err { OnErr result (self.new ≡ self.old) }
+    {
+        self.check_commit(key, &name)?;
+        let Some(row) = self.get_snap(key) else {
+            return Err(Fault::NotFound);
+        };
+        let row = committed_row(row, key, name, labels)?;
+        self.snapshots.add(row)?;
+        self.snapshots
+            .remove(&[key.ns.text(), key.snapshotter.text(), key.name.text()]);
+        Ok(())
+    }
+
+    /// The keys of a snapshot's children, in their order.
+    pub fn children(&self, alloc: Global, key: &SnapKey) -> Result<Vec<SnapKey>, Fault>
+        ensures fault { Refuses result None }
+        ensures ok { IfOk result (λ keys. keys.items
+            ≡ children_of key.now.ns key.now.snapshotter key.now.name self.now.snapshots) }
+    {
+        children_in(self.snapshots.rows(), alloc, key)
+    }
+
+    /// The names of a snapshotter's snapshots in a namespace, by their bytes.
+    pub fn list_snaps(
+        &self,
+        alloc: Global,
+        ns: &ShortName,
+        snapshotter: &ShortName,
+    ) -> Result<Listing, Fault>
+        ensures fault { Refuses result (missing_fault (has_namespace self.now ns.now)) }
+        ensures ok { IfOk result (λ names. names
+            ≡ snapshots_in ns.now snapshotter.now self.now.snapshots) }
+    {
+        if !self.has_ns(ns) {
+            return Err(Fault::NotFound);
+        }
+        snapshots_of(self.snapshots.rows(), alloc, ns, snapshotter)
+    }
+
+    /// The snapshotters that have a snapshot in a namespace, each once, by their bytes.
+    pub fn snapshotters(&self, alloc: Global, ns: &ShortName) -> Result<Listing, Fault>
+        ensures fault { Refuses result (missing_fault (has_namespace self.now ns.now)) }
+        ensures ok { IfOk result (λ names. names ≡ snapshotters_in ns.now self.now.snapshots) }
+        ensures order { IfOk result (λ names. IsStrictlySortedBy text_cmp names) }
+    {
+        if !self.has_ns(ns) {
+            return Err(Fault::NotFound);
+        }
+        snapshotters_of(self.snapshots.rows(), alloc, ns)
+    }
+
+    /// Leaves the rows whose places are marked. It takes no memory.
+    pub fn retain_snapshots(&mut self, keep: &[bool])
+        requires { length keep.now ≡ length self.old.snapshots }
+        ensures { self.new ≡ record self.old { snapshots = kept keep.now self.old.snapshots } }
+    {
+        self.snapshots.retain(keep);
+    }
+}
+
+fn is_child(row: &SnapRow, key: &SnapKey) -> bool
+    ensures { result ≡ is_child_of key.now.ns key.now.snapshotter key.now.name row.now }
+{
+    if key.ns != row.key.ns || key.snapshotter != row.key.snapshotter {
+        return false;
+    }
+    match &row.parent {
+        Some(parent) => key.name == *parent,
+        None => false,
+    }
+}
+
+fn has_children(rows: &[SnapRow], key: &SnapKey) -> bool
+    ensures { result ≡ list_any (is_child_of key.now.ns key.now.snapshotter key.now.name) rows.now }
+{
+    for row in rows {
+        if is_child(row, key) {
+            return true;
+        }
+    }
+    false
+}
+
+fn children_in(rows: &[SnapRow], alloc: Global, key: &SnapKey) -> Result<Vec<SnapKey>, Fault>
+    ensures fault { Refuses result None }
+    ensures ok { IfOk result (λ keys. keys.items
+        ≡ children_of key.now.ns key.now.snapshotter key.now.name rows.now) }
+{
+    let mut keys = Vec::new(alloc);
+    for row in rows {
+        if is_child(row, key) {
+            let copy = row.key.copy()?;
+            keys.push(copy)?;
+        }
+    }
+    Ok(keys)
+}
+
+fn snapshots_of(
+    rows: &[SnapRow],
+    alloc: Global,
+    ns: &ShortName,
+    snapshotter: &ShortName,
+) -> Result<Listing, Fault>
+    ensures fault { Refuses result None }
+    ensures ok { IfOk result (λ names. names ≡ snapshots_in ns.now snapshotter.now rows.now) }
+{
+    let mut names = Listing::new(alloc);
+    for row in rows {
+        if *ns == row.key.ns && *snapshotter == row.key.snapshotter {
+            names.push_name(&row.key.name)?;
+        }
+    }
+    Ok(names)
+}
+
+fn snapshotters_of(rows: &[SnapRow], alloc: Global, ns: &ShortName) -> Result<Listing, Fault>
+    ensures fault { Refuses result None }
+    ensures ok { IfOk result (λ names. names ≡ snapshotters_in ns.now rows.now) }
+{
+    let mut names = Listing::new(alloc);
+    let mut last = None;
+    for row in rows {
+        if is_next(last, ns, row) {
+            names.push_short_name(&row.key.snapshotter)?;
+            last = Some(&row.key.snapshotter);
+        }
+    }
+    Ok(names)
+}
+
+// Whether the row is of the namespace, and its snapshotter another than the last.
+fn is_next(last: Option<&ShortName>, ns: &ShortName, row: &SnapRow) -> bool
+    ensures { result ≡ (bytes_eq ns.now row.now.key.ns && not (option_map_or (bytes_eq
+        row.now.key.snapshotter) (option_copied last.entry) false)) }
+{
+    if *ns != row.key.ns {
+        return false;
+    }
+    match last {
+        Some(last) => row.key.snapshotter != *last,
+        None => true,
+    }
+}
+
+// The row that a commit makes. Its texts are shared.
+fn committed_row(row: &SnapRow, key: &SnapKey, name: Name, labels: Labels) -> Result<SnapRow, Fault>
+    ensures fault { Refuses result None }
+    ensures ok { IfOk result (λ new. new ≡ record row.now {
+      key = record
+          { ns = key.now.ns; snapshotter = key.now.snapshotter; name = name };
+      kind = Committed;
+      labels = labels;
+    }) }
+{
+    let ns = key.ns.copy()?;
+    let snapshotter = key.snapshotter.copy()?;
+    let parent = match &row.parent {
+        Some(parent) => Some(parent.copy()?),
+        None => None,
+    };
+    Ok(SnapRow {
+        key: SnapKey {
+            ns,
+            snapshotter,
+            name,
+        },
+        kind: SnapKind::Committed,
+        parent,
+        number: row.number,
+        labels,
+    })
+}

@@ -1,0 +1,339 @@
+//! Rows of one kind, in the order of their keys.
+ghost use Rattle.std.specs.Prelude.{◌≡◌, ◌∷◌, [], map, Some, None, IfOk, IfErr, OnOk, OnErr, IsTrue, false, is_ok, length, option_copied, bytes_eq};
+ghost use Rattle.std.specs.Bool.{OnFalse};
+ghost use Rattle.std.specs.List.{position, position_or_len, list_any};
+ghost use Rattle.std.specs.Cmp.Lexicographic.{slice_cmp};
+ghost use Rattle.meta_types.specs.Text.{text_cmp};
+ghost use Rattle.meta_types.specs.Keys.{is_key, is_before, row_at, has_row, add_row, remove_row, change_row, are_in_order};
+ghost use Rattle.meta_types.specs.Labels.{is_label, put_label};
+ghost use Rattle.meta_types.specs.Rows.{image_key};
+ghost use Rattle.meta_types.specs.Faults.{Refuses};
+ghost use Rattle.meta_types.specs.Outcomes.{names_in};
+ghost use Rattle.object_tables.specs.Calls.{labelling_fault, kept};
+
+use crate::keyed::{Keyed, Labelled};
+use meta_types::{Digest, Fault, ImageRow, Listing, ShortName};
+use std::alloc::Global;
+use std::cmp::Ordering;
+use std::marker::Model;
+
+/// Rows of one kind. Each look-up halves them.
+#[derive(Drop)]
+pub(crate) struct Table<R: Keyed> {
+    rows: Vec<R>,
+}
+
+impl<R: Keyed> Model for Table<R> {
+    ghost use Rattle.std.specs.Prelude.{List, IsTrue};
+    ghost use Rattle.meta_types.specs.Keys.{are_in_order};
+
+    ghost Value = { List R };
+
+    ghost view = { λ t. t.rows.items };
+
+    ghost invariant = { λ t. IsTrue (are_in_order R.key_of t.rows.items) };
+}
+
+impl<R: Keyed> Table<R> {
+    pub(crate) fn new(alloc: Global) -> Table<R>
+        ensures { result ≡ [] }
+    {
+        Table {
+            rows: Vec::new(alloc),
+        }
+    }
+
+    pub(crate) fn rows(&self) -> &[R]
+        ensures rows { result.now ≡ self.now }
+        ensures order { IsTrue (are_in_order R.key_of self.now) }
+    {
+        &self.rows
+    }
+
+    pub(crate) fn len(&self) -> usize
+        ensures { result ≡ length self.now }
+    {
+        self.rows.len()
+    }
+
+    pub(crate) fn has(&self, key: &[&str]) -> bool
+        ensures { result ≡ has_row R.key_of (map (λ s. s.now) key.now) self.now }
+    {
+        search(&self.rows, key).is_ok()
+    }
+
+    pub(crate) fn get(&self, key: &[&str]) -> Option<&R>
+        ensures { option_copied result ≡ row_at R.key_of (map (λ s. s.now) key.now) self.now }
+    {
+        row_in(&self.rows, key)
+    }
+
+    pub(crate) fn add(&mut self, row: R) -> Result<(), Fault>
+        requires { has_row R.key_of (R.key_of row) self.old ≡ false }
+        ensures fault { Refuses result None }
+        ensures ok { OnOk result (self.new ≡ add_row R.key_of row self.old) }
+        ensures err { OnErr result (self.new ≡ self.old) }
+    {
+        insert_row(&mut self.rows, row)
+    }
+
+    pub(crate) fn remove(&mut self, key: &[&str]) -> bool
+        ensures found { result ≡ has_row R.key_of (map (λ s. s.now) key.now) self.old }
+        ensures left { self.new ≡ remove_row R.key_of (map (λ s. s.now) key.now) self.old }
+        ensures same { OnFalse result (self.new ≡ self.old) }
+    {
+        take_row(&mut self.rows, key)
+    }
+
+    pub(crate) fn copy(&self, alloc: Global) -> Result<Table<R>, Fault>
+        ensures fault { Refuses result None }
+        ensures ok { IfOk result (λ table. table ≡ self.now) }
+    {
+        let rows = copy_rows(&self.rows, alloc)?;
+        Ok(Table { rows })
+    }
+
+    pub(crate) fn any_in(&self, ns: &ShortName) -> bool
+        ensures { result ≡ list_any (λ row. bytes_eq ns.now (R.ns_of row)) self.now }
+    {
+        any_row_in(&self.rows, ns)
+    }
+
+    pub(crate) fn names(&self, alloc: Global, ns: &ShortName) -> Result<Listing, Fault>
+        ensures fault { Refuses result None }
+        ensures ok { IfOk result (λ names. names ≡ names_in R.ns_of R.name_of ns.now self.now) }
+    {
+        names_of(&self.rows, alloc, ns)
+    }
+
+    pub(crate) fn all_names(&self, alloc: Global) -> Result<Listing, Fault>
+        ensures fault { Refuses result None }
+        ensures ok { IfOk result (λ names. names ≡ map R.name_of self.now) }
+    {
+        all_names_of(&self.rows, alloc)
+    }
+
+    pub(crate) fn borrowed(&self, alloc: Global) -> Result<Vec<&R>, Fault>
+        ensures fault { Refuses result None }
+        ensures ok { IfOk result (λ rows. map (λ row. row.now) rows.items ≡ self.now) }
+    {
+        borrow_rows(&self.rows, alloc)
+    }
+
+    /// Leaves the rows whose places are marked.
+    pub(crate) fn retain(&mut self, keep: &[bool])
+        requires { length keep.now ≡ length self.old }
+        ensures { self.new ≡ kept keep.now self.old }
+    {
+        retain_rows(&mut self.rows, keep);
+    }
+}
+
+impl<R: Labelled> Table<R> {
+    pub(crate) fn relabel(
+        &mut self,
+        alloc: Global,
+        at: &[&str],
+        key: &str,
+        value: &str,
+    ) -> Result<(), Fault>
+        ensures fault { Refuses result (labelling_fault R.labels_in key.now value.now
+            (row_at R.key_of (map (λ s. s.now) at.now) self.old)) }
+        ensures ok { OnOk result (self.new ≡ change_row R.key_of (map (λ s. s.now) at.now)
+            (λ row. R.with_labels (put_label key.now value.now (R.labels_in row)) row) self.old) }
+        ensures err { OnErr result (self.new ≡ self.old) }
+    {
+        relabel_row(&mut self.rows, alloc, at, key, value)
+    }
+}
+
+impl Table<ImageRow> {
+    pub(crate) fn set_target(&mut self, at: &[&str], target: Digest) -> bool
+        ensures found { result ≡ has_row image_key (map (λ s. s.now) at.now) self.old }
+        ensures left { self.new ≡ change_row image_key (map (λ s. s.now) at.now)
+            (λ row. record row { target = target }) self.old }
+        ensures same { OnFalse result (self.new ≡ self.old) }
+    {
+        target_row(&mut self.rows, at, target)
+    }
+}
+
+// Where the row of a key is, or where it would go.
+fn search<R: Keyed>(rows: &[R], key: &[&str]) -> Result<usize, usize>
+    requires { IsTrue (are_in_order R.key_of rows.now) }
+    ensures there { is_ok result ≡ has_row R.key_of (map (λ s. s.now) key.now) rows.now }
+    ensures found { IfOk result (λ place. Some place ≡ position (λ row. is_key (map
+        (λ s. s.now) key.now) (R.key_of row)) rows.now) }
+{
+    rows.binary_search_by(
+        |row: &R| -> Ordering
+            ensures { result ≡ slice_cmp text_cmp (R.key_of row.now) (map
+                (λ s. s.now) key.entry.now) }
+        { row.order(key) },
+    )
+}
+
+// Where a row would go.
+fn gap<R: Keyed>(rows: &[R], row: &R) -> Result<usize, usize>
+    requires { IsTrue (are_in_order R.key_of rows.now) }
+    ensures there { is_ok result ≡ has_row R.key_of (R.key_of row.now) rows.now }
+    ensures absent { IfErr result (λ place. place ≡ position_or_len (λ other. is_before
+        (R.key_of row.now) (R.key_of other)) rows.now) }
+{
+    rows.binary_search_by(
+        |other: &R| -> Ordering
+            ensures { result ≡ slice_cmp text_cmp (R.key_of other.now) (R.key_of row.entry.now) }
+        { other.order_of(row) },
+    )
+}
+
+fn row_in<'a, R: Keyed>(rows: &'a [R], key: &[&str]) -> Option<&'a R>
+    requires { IsTrue (are_in_order R.key_of rows.now) }
+    ensures { option_copied result ≡ row_at R.key_of (map (λ s. s.now) key.now) rows.now }
+{
+    match search(rows, key) {
+        Ok(place) => Some(&rows[place]),
+        Err(_) => None,
+    }
+}
+
+fn insert_row<R: Keyed>(rows: &mut Vec<R>, row: R) -> Result<(), Fault>
+    requires order { IsTrue (are_in_order R.key_of rows.old.items) }
+    requires free { has_row R.key_of (R.key_of row) rows.old.items ≡ false }
+    ensures fault { Refuses result None }
+    ensures ok { OnOk result (rows.new.items ≡ add_row R.key_of row rows.old.items) }
+    ensures err { OnErr result (rows.new.items ≡ rows.old.items) }
+{
+    let Err(place) = gap(rows, &row) else {
+        return Err(Fault::OutOfMemory);
+    };
+    rows.insert(place, row)?;
+    Ok(())
+}
+
+fn take_row<R: Keyed>(rows: &mut Vec<R>, key: &[&str]) -> bool
+    requires { IsTrue (are_in_order R.key_of rows.old.items) }
+    ensures found { result ≡ has_row R.key_of (map (λ s. s.now) key.now) rows.old.items }
+    ensures left { rows.new.items ≡ remove_row R.key_of (map (λ s. s.now) key.now) rows.old.items }
+    ensures same { OnFalse result (rows.new.items ≡ rows.old.items) }
+{
+    let Ok(place) = search(rows, key) else {
+        return false;
+    };
+    let _row = rows.remove(place);
+    true
+}
+
+fn copy_rows<R: Keyed>(rows: &[R], alloc: Global) -> Result<Vec<R>, Fault>
+    ensures fault { Refuses result None }
+    ensures ok { IfOk result (λ copies. copies.items ≡ rows.now) }
+{
+    let mut copies = Vec::new(alloc);
+    for row in rows {
+        let copy = row.copy_row(alloc)?;
+        copies.push(copy)?;
+    }
+    Ok(copies)
+}
+
+fn any_row_in<R: Keyed>(rows: &[R], ns: &ShortName) -> bool
+    ensures { result ≡ list_any (λ row. bytes_eq ns.now (R.ns_of row)) rows.now }
+{
+    for row in rows {
+        if row.is_of(ns) {
+            return true;
+        }
+    }
+    false
+}
+
+fn names_of<R: Keyed>(rows: &[R], alloc: Global, ns: &ShortName) -> Result<Listing, Fault>
+    ensures fault { Refuses result None }
+    ensures ok { IfOk result (λ names. names ≡ names_in R.ns_of R.name_of ns.now rows.now) }
+{
+    let mut names = Listing::new(alloc);
+    for row in rows {
+        if row.is_of(ns) {
+            row.list_in(&mut names)?;
+        }
+    }
+    Ok(names)
+}
+
+fn all_names_of<R: Keyed>(rows: &[R], alloc: Global) -> Result<Listing, Fault>
+    ensures fault { Refuses result None }
+    ensures ok { IfOk result (λ names. names ≡ map R.name_of rows.now) }
+{
+    let mut names = Listing::new(alloc);
+    for row in rows {
+        row.list_in(&mut names)?;
+    }
+    Ok(names)
+}
+
+fn borrow_rows<'a, R: Keyed>(rows: &'a [R], alloc: Global) -> Result<Vec<&'a R>, Fault>
+    ensures fault { Refuses result None }
+    ensures ok { IfOk result (λ list. map (λ row. row.now) list.items ≡ rows.now) }
+{
+    let mut list = Vec::new(alloc);
+    for row in rows {
+        list.push(row)?;
+    }
+    Ok(list)
+}
+
+// Each row that stays goes to the first place that is free.
+fn retain_rows<R: Keyed>(rows: &mut Vec<R>, keep: &[bool])
+    requires { length keep.now ≡ length rows.old.items }
+    ensures { rows.new.items ≡ kept keep.now rows.old.items }
+{
+    let mut next = 0;
+    for place in 0..keep.len() {
+        if keep[place] {
+            rows.swap(next, place);
+            next += 1;
+        }
+    }
+    rows.truncate(next);
+}
+
+fn relabel_row<R: Labelled>(
+    rows: &mut Vec<R>,
+    alloc: Global,
+    at: &[&str],
+    key: &str,
+    value: &str,
+) -> Result<(), Fault>
+    requires { IsTrue (are_in_order R.key_of rows.old.items) }
+    ensures fault { Refuses result (labelling_fault R.labels_in key.now value.now
+        (row_at R.key_of (map (λ s. s.now) at.now) rows.old.items)) }
+    ensures ok { OnOk result (rows.new.items ≡ change_row R.key_of (map (λ s. s.now) at.now)
+        (λ row. R.with_labels (put_label key.now value.now (R.labels_in row)) row) rows.old.items) }
+    ensures err { OnErr result (rows.new.items ≡ rows.old.items) }
+{
+    match search(rows, at) {
+        Ok(place) => rows[place].relabel(alloc, key, value),
+        Err(_) if !is_label(key, value) => Err(Fault::InvalidArgument),
+        Err(_) => Err(Fault::NotFound),
+    }
+}
+
+fn is_label(key: &str, value: &str) -> bool
+    ensures { result ≡ is_label key.now value.now }
+{
+    value == "" || (key != "" && value.len() <= 4096 && key.len() <= 4096 - value.len())
+}
+
+fn target_row(rows: &mut Vec<ImageRow>, at: &[&str], target: Digest) -> bool
+    requires { IsTrue (are_in_order image_key rows.old.items) }
+    ensures found { result ≡ has_row image_key (map (λ s. s.now) at.now) rows.old.items }
+    ensures left { rows.new.items ≡ change_row image_key (map (λ s. s.now) at.now)
+        (λ row. record row { target = target }) rows.old.items }
+    ensures same { OnFalse result (rows.new.items ≡ rows.old.items) }
+{
+    let Ok(place) = search(rows, at) else {
+        return false;
+    };
+    rows[place].target = target;
+    true
+}

@@ -1,0 +1,201 @@
+//! The tables: rows of five kinds, and the namespaces that they are in.
+ghost use Rattle.std.specs.Prelude.{◌≡◌, ◌∷◌, [], ◌||◌, not, false, None, IfOk, OnOk, OnErr, length};
+ghost use Rattle.meta_types.specs.Keys.{add_row, remove_row};
+ghost use Rattle.meta_types.specs.Rows.{namespace_key};
+ghost use Rattle.meta_types.specs.Changes.{has_namespace, is_in_use};
+ghost use Rattle.meta_types.specs.Faults.{Refuses, OnlyRefuses, least_of};
+ghost use Rattle.object_tables.specs.Calls.{AreInOrder, missing_fault, names_of_kind};
+
+use crate::table::Table;
+use meta_types::{
+    ContainerRow, ContentRow, Fault, ImageRow, IngestRow, Kind, Listing, ShortName, SnapRow,
+};
+use std::alloc::Global;
+use std::marker::Model;
+
+/// Rows of all kinds, by namespace.
+#[derive(Drop)]
+pub struct Tables {
+    pub(crate) namespaces: Table<ShortName>,
+    pub(crate) images: Table<ImageRow>,
+    pub(crate) containers: Table<ContainerRow>,
+    pub(crate) content: Table<ContentRow>,
+    pub(crate) ingests: Table<IngestRow>,
+    pub(crate) snapshots: Table<SnapRow>,
+}
+
+impl Model for Tables {
+    ghost use Rattle.meta_types.specs.Rows.{Tables};
+
+    ghost Value = { Tables };
+
+    ghost view = { λ t. record {
+      namespaces = t.namespaces;
+      images = t.images;
+      containers = t.containers;
+      content = t.content;
+      ingests = t.ingests;
+      snapshots = t.snapshots;
+    } };
+}
+
+/// How many rows there are of each kind.
+#[derive(Clone, Copy, Debug, PartialEq, Eq)]
+pub struct Counts {
+    pub namespaces: u128,
+    pub images: u128,
+    pub containers: u128,
+    pub content: u128,
+    pub ingests: u128,
+    pub snapshots: u128,
+}
+
+impl Tables {
+    /// No namespace, and no row. It takes no memory.
+    pub fn new(alloc: Global) -> Tables
+        ensures { result ≡ record {
+          namespaces = [];
+          images = [];
+          containers = [];
+          content = [];
+          ingests = [];
+          snapshots = [];
+        } }
+    {
+        Tables {
+            namespaces: Table::new(alloc),
+            images: Table::new(alloc),
+            containers: Table::new(alloc),
+            content: Table::new(alloc),
+            ingests: Table::new(alloc),
+            snapshots: Table::new(alloc),
+        }
+    }
+
+    /// Other tables of the same rows, which share their texts.
+    pub fn copy(&self, alloc: Global) -> Result<Tables, Fault>
+        ensures fault { Refuses result None }
+        ensures ok { IfOk result (λ tables. tables ≡ self.now) }
+    {
+        let namespaces = self.namespaces.copy(alloc)?;
+        let images = self.images.copy(alloc)?;
+        let containers = self.containers.copy(alloc)?;
+        let content = self.content.copy(alloc)?;
+        let ingests = self.ingests.copy(alloc)?;
+        let snapshots = self.snapshots.copy(alloc)?;
+        Ok(Tables {
+            namespaces,
+            images,
+            containers,
+            content,
+            ingests,
+            snapshots,
+        })
+    }
+
+    /// How many rows there are of each kind.
+    pub fn counts(&self) -> Counts
+        ensures namespaces { result.namespaces ≡ length self.now.namespaces }
+        ensures images { result.images ≡ length self.now.images }
+        ensures containers { result.containers ≡ length self.now.containers }
+        ensures content { result.content ≡ length self.now.content }
+        ensures ingests { result.ingests ≡ length self.now.ingests }
+        ensures snapshots { result.snapshots ≡ length self.now.snapshots }
+    {
+        Counts {
+            namespaces: self.namespaces.len() as u128,
+            images: self.images.len() as u128,
+            containers: self.containers.len() as u128,
+            content: self.content.len() as u128,
+            ingests: self.ingests.len() as u128,
+            snapshots: self.snapshots.len() as u128,
+        }
+    }
+
+    /// Whether the namespace is there. Each caller learns here how rows are ordered.
+    pub fn has_ns(&self, ns: &ShortName) -> bool
+        ensures there { result ≡ has_namespace self.now ns.now }
+        ensures order { AreInOrder self.now }
+    {
+        let _ = self.images.rows();
+        let _ = self.containers.rows();
+        let _ = self.content.rows();
+        let _ = self.ingests.rows();
+        let _ = self.snapshots.rows();
+        let _ = self.namespaces.rows();
+        self.namespaces.has(&[ns.text()])
+    }
+
+    /// The namespaces, by their bytes.
+    pub fn list_ns(&self, alloc: Global) -> Result<Listing, Fault>
+        ensures fault { Refuses result None }
+        ensures ok { IfOk result (λ names. names ≡ self.now.namespaces) }
+    {
+        self.namespaces.all_names(alloc)
+    }
+
+    /// Adds a namespace, which has no row yet.
+    pub fn add_ns(&mut self, _alloc: Global, ns: ShortName) -> Result<(), Fault>
+        ensures fault { Refuses result (least_of false false (has_namespace self.old ns) false) }
+        ensures ok { OnOk result (self.new ≡ record self.old
+            { namespaces = add_row namespace_key ns self.old.namespaces }) }
+        ensures err { OnErr result (self.new ≡ self.old) }
+    {
+        if self.has_ns(&ns) {
+            return Err(Fault::AlreadyExists);
+        }
+        self.namespaces.add(ns)
+    }
+
+    /// Removes a namespace that has no row. Whether a lease is in it, the caller asks.
+    pub fn remove_ns(&mut self, ns: &ShortName) -> Result<(), Fault>
+        ensures fault { OnlyRefuses result (least_of false (not
+            (has_namespace self.old ns.now)) false (is_in_use self.old ns.now)) }
+        ensures ok { OnOk result (self.new ≡ record self.old
+            { namespaces = remove_row namespace_key (ns.now ∷ []) self.old.namespaces }) }
+        ensures err { OnErr result (self.new ≡ self.old) }
+    {
+        if !self.has_ns(ns) {
+            return Err(Fault::NotFound);
+        }
+        if self.is_in_use(ns) {
+            return Err(Fault::FailedPrecondition);
+        }
+        self.namespaces.remove(&[ns.text()]);
+        Ok(())
+    }
+
+    fn is_in_use(&self, ns: &ShortName) -> bool
+        ensures { result ≡ is_in_use self.now ns.now }
+    {
+        if self.images.any_in(ns) {
+            return true;
+        }
+        if self.containers.any_in(ns) {
+            return true;
+        }
+        if self.content.any_in(ns) {
+            return true;
+        }
+        if self.ingests.any_in(ns) {
+            return true;
+        }
+        self.snapshots.any_in(ns)
+    }
+
+    /// The names of a kind's rows in a namespace, by their bytes.
+    pub fn list(&self, alloc: Global, kind: Kind, ns: &ShortName) -> Result<Listing, Fault>
+        ensures fault { Refuses result (missing_fault (has_namespace self.now ns.now)) }
+        ensures ok { IfOk result (λ names. names ≡ names_of_kind kind self.now ns.now) }
+    {
+        if !self.has_ns(ns) {
+            return Err(Fault::NotFound);
+        }
+        match kind {
+            Kind::Image => self.images.names(alloc, ns),
+            Kind::Container => self.containers.names(alloc, ns),
+            Kind::Content => self.content.names(alloc, ns),
+            Kind::Ingest => self.ingests.names(alloc, ns),
+        }
+    }
+}

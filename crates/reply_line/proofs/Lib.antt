@@ -1,0 +1,2 @@
+pub mod WithLabels
+pub mod Plain

@@ -1,0 +1,12 @@
+//! Writes answers: the exact bytes of a reply.
+#![tactic(auto)]
+
+mod answer;
+mod parts;
+mod reply;
+mod rows;
+#[cfg(test)]
+mod tests;
+
+pub use answer::Answer;
+pub use reply::reply_text;
