@@ -1,0 +1,71 @@
+//! The program: runs a script of requests on standard input and output.
+#![tactic(auto)]
+
+mod answering;
+mod args;
+mod blobs;
+mod collecting;
+mod laws;
+mod line_buffer;
+mod lines;
+mod marking;
+mod script;
+mod serving;
+mod store;
+#[cfg(test)]
+mod tests;
+mod writing;
+
+use args::{ArgFault, parse_args};
+use meta_types::Fault;
+use script::run_script;
+use std::alloc::Global;
+use std::process::ExitCode;
+use std::{env, io};
+
+// The number of workers that the program's words ask for.
+fn workers(rt: &HostRuntime, alloc: Global) -> Result<usize, ArgFault> {
+    let Ok(args) = env::args(rt) else {
+        return Err(ArgFault::OutOfMemory);
+    };
+    let texts: Vec<String> = args.collect(alloc)?;
+    let mut words: Vec<&str> = Vec::new(alloc);
+    for text in &texts {
+        words.push(text.as_str())?;
+    }
+    parse_args(alloc, &words)
+}
+
+// Runs standard input as a script.
+fn run(rt: &HostRuntime, alloc: Global, workers: usize) -> Result<(), Fault> {
+    let Ok(mut reader) = io::BufReader::new(alloc, rt.reader()) else {
+        return Err(Fault::OutOfMemory);
+    };
+    let Ok(mut writer) = io::BufWriter::new(alloc, io::writer(rt)) else {
+        return Err(Fault::OutOfMemory);
+    };
+    run_script(alloc, &mut reader, &mut writer, workers)
+}
+
+fn main(rt: HostRuntime) -> ExitCode {
+    let alloc = rt.alloc();
+    let workers = match workers(&rt, alloc) {
+        Ok(workers) => workers,
+        Err(fault) => {
+            let _told = eprintln!(rt; "{fault}");
+            return match fault {
+                ArgFault::Usage => ExitCode::from(2),
+                ArgFault::OutOfMemory => ExitCode::from(1),
+            };
+        }
+    };
+    match run(&rt, alloc, workers) {
+        Ok(()) => ExitCode::SUCCESS,
+        Err(fault) => {
+            let number = fault.number();
+            let name = fault.name();
+            let _told = eprintln!(rt; "metad: fault {number} {name}");
+            ExitCode::from(1)
+        }
+    }
+}
