@@ -1,6 +1,6 @@
 -- What an edit at the place that a search found makes of rows in the order of their keys.
-use Rattle.std.proofs.Common.{◌≡◌, ℕ, ◌<◌, ◌≤◌, Bool, true, false, List, [], ◌∷◌, length, get_or, slice_get, Result, Ok, Err, Option, Some, None, cond, refl, sym, ap, subst, ◌∙◌, arith, inl, inr}
-use Rattle.std.specs.Prelude.{slice_set, is_ok, IfOk, IfErr, OnOk, OnErr, is_some, not}
+use Rattle.std.proofs.Common.{◌≡◌, ℕ, ◌≤◌, Bool, true, false, List, [], ◌∷◌, length, get_or, slice_get, Result, Ok, Err, Option, Some, None, cond, refl, sym, ap, ◌∙◌, arith, inl, inr}
+use Rattle.std.specs.Prelude.{slice_set, OnOk, OnErr, is_some, not}
 use Rattle.std.specs.List.{insert, remove, position, position_or_len}
 use Rattle.std.proofs.Math.Numerals.{one-add}
 use Rattle.std.proofs.lemmas.Bool.{cases_Bool, and_parts, and_from}

@@ -1,3 +1,4 @@
 pub mod Changed
 pub mod Created
 pub mod Retained
+pub mod Together

@@ -2,9 +2,8 @@
 use Rattle.std.specs.Prelude.{Bool, false, true, not, List, [], ◌∷◌, map, Option, filter, is_none, bytes_eq, if◌then◌else◌}
 use Rattle.std.specs.Option.{option_map_or}
 use Rattle.meta_types.specs.Text.{Text}
-use Rattle.meta_types.specs.Keys.{row_at, has_row}
 use Rattle.meta_types.specs.Labels.{is_label, has_room}
-use Rattle.meta_types.specs.Rows.{LeaseRow, lease_key}
+use Rattle.meta_types.specs.Rows.{LeaseRow}
 use Rattle.meta_types.specs.Changes.{all_of}
 use Rattle.meta_types.specs.Faults.{least_of}
 use Rattle.meta_types.specs.declared.fault.Fault.{Fault}

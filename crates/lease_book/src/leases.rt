@@ -172,7 +172,7 @@ impl Leases {
     pub fn any_in(&self, ns: &ShortName) -> bool
         ensures { result ≡ has_lease_in self.now ns.now }
     {
-        rows::any_in(&self.rows, ns)
+        !rows::of_namespace(&self.rows, ns).is_empty()
     }
 
     /// The ids of a namespace's leases, in the order of their bytes.

@@ -1,7 +1,7 @@
 //! Leases in the order of namespaces and ids, found by halving.
-ghost use Rattle.std.specs.Prelude.{◌≡◌, ◌<◌, length, ◌∷◌, ◌++◌, bytes_eq, [], Some, None, not, position, is_ok, vec_len, option_copied, IfOk, IfErr, OnOk, OnErr, IsTrue};
+ghost use Rattle.std.specs.Prelude.{◌≡◌, ◌<◌, length, ◌∷◌, ◌++◌, bytes_eq, filter, [], Some, None, not, position, is_ok, vec_len, option_copied, IfOk, IfErr, OnOk, OnErr, IsTrue};
 ghost use Rattle.std.specs.Bool.{OnFalse};
-ghost use Rattle.std.specs.List.{position_or_len, list_any};
+ghost use Rattle.std.specs.List.{position_or_len};
 ghost use Rattle.std.specs.Cmp.Lexicographic.{slice_cmp};
 ghost use Rattle.meta_types.specs.Text.{text_cmp};
 ghost use Rattle.meta_types.specs.Keys.{are_in_order, is_key, is_before, row_at, has_row, add_row, remove_row, change_row};
@@ -158,23 +158,25 @@ pub(crate) fn release(rows: &mut Vec<Lease>, ns: &ShortName, id: &Name, resource
     }
 }
 
-/// Whether some lease is of the namespace.
-pub(crate) fn any_in(rows: &[Lease], ns: &ShortName) -> bool
-    ensures { result ≡ list_any (λ row. bytes_eq ns.now row.ns) rows.now }
+/// The leases of a namespace, which stand together.
+pub(crate) fn of_namespace<'a>(rows: &'a [Lease], ns: &ShortName) -> &'a [Lease]
+    requires { IsTrue (are_in_order lease_key rows.now) }
+    ensures { result.now ≡ filter (λ row. bytes_eq ns.now row.ns) rows.now }
 {
-    rows.iter().any(|lease| ns.text() == lease.ns().text())
+    let begin = rows.partition_point(|lease| lease.ns().text().cmp(ns.text()).is_lt());
+    let end = rows.partition_point(|lease| lease.ns().text().cmp(ns.text()).is_le());
+    &rows[begin..end]
 }
 
 /// The ids of a namespace's leases, in their order.
 pub(crate) fn ids_in(rows: &[Lease], alloc: Global, ns: &ShortName) -> Result<Vec<Name>, Fault>
+    requires { IsTrue (are_in_order lease_key rows.now) }
     ensures fault { Refuses result None }
     ensures ok { IfOk result (λ ids. ids.items ≡ ids_in ns.now rows.now) }
 {
     let mut ids = Vec::new(alloc);
-    for lease in rows {
-        if ns.text() == lease.ns().text() {
-            push_id(&mut ids, lease.id())?;
-        }
+    for lease in of_namespace(rows, ns) {
+        push_id(&mut ids, lease.id())?;
     }
     Ok(ids)
 }

@@ -17,6 +17,8 @@ mod short_name;
 mod tests;
 #[cfg(test)]
 mod tests_labels;
+#[cfg(test)]
+mod tests_rows;
 mod text;
 mod words;
 

@@ -1,20 +1,10 @@
-use Rattle.std.proofs.Common.{◌≡◌, ◌∙◌, ap, sym, subst, true, false, arith, [], ◌∷◌, Some, ℕ}
-use Rattle.std.specs.Prelude.{List, Option, position, OnOk, slice_set, is_some}
+use Rattle.std.proofs.Common.{◌≡◌, ◌∙◌, ap, arith, [], ◌∷◌}
+use Rattle.std.specs.Prelude.{List}
 use Rattle.std.specs.List.{position_or_len}
-use Rattle.std.specs.Option.{option_map_or}
-use Rattle.std.proofs.lemmas.Result.{on_ok_weaker}
-use Rattle.meta_types.specs.Keys.{has_row, is_key, is_before, row_at, remove_row, are_in_order}
-use Rattle.meta_types.specs.Resources.{resource_key, held}
-use Rattle.meta_types.specs.Labels.{put_label, is_label, has_room}
+use Rattle.meta_types.specs.Keys.{is_before}
 use Rattle.meta_types.specs.Rows.{LeaseRow, lease_key}
-use Rattle.meta_types.specs.Faults.{Refuses, unless}
-use Rattle.meta_types.specs.declared.fault.Fault.{Fault}
-use Rattle.meta_types.specs.declared.fault.Fault.TheVariants.{InvalidArgument}
-use Rattle.meta_types.proofs.Ordered.{in_order_removed}
-use Rattle.meta_types.proofs.Puts.{remove_absent}
-use Rattle.lease_book.specs.Calls.{labelling_fault}
-use Rattle.lease_book.proofs.Changed.{gap_within, removed_at, row_found, changed_at, unchanged, in_order_changed, after_change}
-use Rattle.lease_book.proofs.Created.{added_at, after_create, labelling_there}
+use Rattle.lease_book.proofs.Changed.{gap_within}
+use Rattle.lease_book.proofs.Created.{added_at}
 use Rattle.std.specs.List.{insert}
 use Rattle.lease_book.proofs.rows.create.Goals as goal
 
