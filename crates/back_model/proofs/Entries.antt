@@ -10,7 +10,7 @@ use Rattle.std.specs.Cmp.{nat_cmp_total, eq_by_cmp_equiv}
 use Rattle.std.specs.FinMap as finmap
 use Rattle.std.specs.FinMap.Entries.{is_sorted, below_all}
 use Rattle.std.specs.Map.{lookup, keys_of, values_of}
-use Rattle.std.specs.BTreeMap.{BTreeMap, is_at, get, IsOrdered}
+use Rattle.std.specs.BTreeMap.{is_at}
 use Rattle.std.specs.List.Sorted.{IsStrictlySortedBy}
 use Rattle.std.proofs.lemmas.Map.Keys.{sorted_head, sorted_tail}
 use Rattle.back_model.specs.Snaps.{Snaps, is_number, has_child}
@@ -20,11 +20,11 @@ abbrev pub Parents : Type 0
 Parents = List (ℕ × Option ℕ)
 
 -- the snapshots of entries
-abbrev pub snaps_of : Parents → Snaps
-snaps_of es = finmap.from_entries {R = nat_cmp} es
+abbrev pub from_parents : Parents → Snaps
+from_parents es = finmap.from_entries {R = nat_cmp} es
 
 -- a look-up finds what the finite map has
-pub looked_up : (es : Parents) (q : ℕ) → finmap.get (snaps_of es) q ≡ lookup (is_at (nat_cmp q)) es
+pub looked_up : (es : Parents) (q : ℕ) → finmap.get (from_parents es) q ≡ lookup (is_at (nat_cmp q)) es
 looked_up es q = finmap.get-from_entries nat_cmp_total es q ∙ found es
   where
     found : (fs : Parents) → finmap.find nat_cmp q fs ≡ lookup (is_at (nat_cmp q)) fs
@@ -32,30 +32,30 @@ looked_up es q = finmap.get-from_entries nat_cmp_total es q ∙ found es
     found (e ∷ fs) = ap (cond (eq_by_cmp nat_cmp q e.0) (Some e.1)) (found fs)
 
 -- what the model's map has at a number
-pub found_in : (es : Parents) (m : Snaps) (q : ℕ) → snaps_of es ≡ m → lookup (is_at (nat_cmp q)) es ≡ finmap.get m q
+pub found_in : (es : Parents) (m : Snaps) (q : ℕ) → from_parents es ≡ m → lookup (is_at (nat_cmp q)) es ≡ finmap.get m q
 found_in es m q view = sym (looked_up es q) ∙ ap (λ (x : Snaps). finmap.get x q) view
 
 -- a map that has the value at the key, and elsewhere what it had, is the map with that entry put in
-pub put_in : (new old : BTreeMap ℕ (Option ℕ)) (m : Snaps) (n : ℕ) (p : Option ℕ) → snaps_of old.entries ≡ m
-    → ((q : ℕ) → get nat_cmp new q ≡ cond (is_at (nat_cmp n) q) (Some p) (get nat_cmp old q))
-    → snaps_of new.entries ≡ finmap.insert m n p
+pub put_in : (new old : Parents) (m : Snaps) (n : ℕ) (p : Option ℕ) → from_parents old ≡ m
+    → ((q : ℕ) → lookup (is_at (nat_cmp q)) new ≡ cond (is_at (nat_cmp n) q) (Some p) (lookup (is_at (nat_cmp q)) old))
+    → from_parents new ≡ finmap.insert m n p
 put_in new old m n p view is =
     finmap.same_map nat_cmp_total finmap.nat_cmp-IsAntisymmetric _ _ (λ q.
-    looked_up new.entries q
+    looked_up new q
     ∙ is q
-    ∙ ap (λ (o : Option (Option ℕ)). cond (eq_by_cmp nat_cmp n q) (Some p) o) (found_in old.entries m q view)
+    ∙ ap (λ (o : Option (Option ℕ)). cond (eq_by_cmp nat_cmp n q) (Some p) o) (found_in old m q view)
     ∙ ap (λ (b : Bool). cond b (Some p) (finmap.get m q)) ((eq_by_cmp_equiv nat_cmp_total).symm n q)
     ∙ sym (finmap.get-insert nat_cmp_total m n p q))
 
 -- a map that has no value at the key, and elsewhere what it had, is the map with that entry taken out
-pub taken_out : (new old : BTreeMap ℕ (Option ℕ)) (m : Snaps) (n : ℕ) → snaps_of old.entries ≡ m
-    → ((q : ℕ) → get nat_cmp new q ≡ cond (is_at (nat_cmp n) q) None (get nat_cmp old q))
-    → snaps_of new.entries ≡ finmap.remove m n
+pub taken_out : (new old : Parents) (m : Snaps) (n : ℕ) → from_parents old ≡ m
+    → ((q : ℕ) → lookup (is_at (nat_cmp q)) new ≡ cond (is_at (nat_cmp n) q) None (lookup (is_at (nat_cmp q)) old))
+    → from_parents new ≡ finmap.remove m n
 taken_out new old m n view is =
     finmap.same_map nat_cmp_total finmap.nat_cmp-IsAntisymmetric _ _ (λ q.
-    looked_up new.entries q
+    looked_up new q
     ∙ is q
-    ∙ ap (λ (o : Option (Option ℕ)). cond (eq_by_cmp nat_cmp n q) None o) (found_in old.entries m q view)
+    ∙ ap (λ (o : Option (Option ℕ)). cond (eq_by_cmp nat_cmp n q) None o) (found_in old m q view)
     ∙ ap (λ (b : Bool). cond b None (finmap.get m q)) ((eq_by_cmp_equiv nat_cmp_total).symm n q)
     ∙ sym (finmap.get-remove nat_cmp_total m n q))
 
@@ -73,14 +73,14 @@ sorted (e ∷ es) h =
     both (below_all nat_cmp e.0 es) (is_sorted nat_cmp es) (below e.0 es (sorted_head nat_cmp e.0 (keys_of es) h)) (sorted es (sorted_tail nat_cmp e.0 (keys_of es) h))
 
 -- entries in order are those of their finite map
-pub entries_of : (es : Parents) (m : Snaps) → snaps_of es ≡ m → IsStrictlySortedBy nat_cmp (keys_of es) → finmap.entries m ≡ es
+pub entries_of : (es : Parents) (m : Snaps) → from_parents es ≡ m → IsStrictlySortedBy nat_cmp (keys_of es) → finmap.entries m ≡ es
 entries_of es m view ordered =
     let in_order = sorted es ordered in
-    let same : finmap.from_sorted {R = nat_cmp} es ≡ snaps_of es = finmap.same_map nat_cmp_total finmap.nat_cmp-IsAntisymmetric _ _ (λ q. finmap.get-from_sorted nat_cmp es q in_order ∙ sym (finmap.get-from_entries nat_cmp_total es q)) in
+    let same : finmap.from_sorted {R = nat_cmp} es ≡ from_parents es = finmap.same_map nat_cmp_total finmap.nat_cmp-IsAntisymmetric _ _ (λ q. finmap.get-from_sorted nat_cmp es q in_order ∙ sym (finmap.get-from_entries nat_cmp_total es q)) in
     ap finmap.entries (sym view) ∙ ap finmap.entries (sym same) ∙ finmap.entries-from_sorted nat_cmp es in_order
 
 -- the entries' values are passed over
-pub any_parent : (es : Parents) (m : Snaps) (n : ℕ) → snaps_of es ≡ m → IsStrictlySortedBy nat_cmp (keys_of es) → list_any (is_number n) (values_of es) ≡ has_child m n
+pub any_parent : (es : Parents) (m : Snaps) (n : ℕ) → from_parents es ≡ m → IsStrictlySortedBy nat_cmp (keys_of es) → list_any (is_number n) (values_of es) ≡ has_child m n
 any_parent es m n view ordered = any_value es ∙ ap (λ (fs : Parents). list_any (λ e. is_number n e.1) fs) (sym (entries_of es m view ordered))
   where
     any_value : (fs : Parents) → list_any (is_number n) (values_of fs) ≡ list_any (λ (e : ℕ × Option ℕ). is_number n e.1) fs

@@ -1,4 +1,6 @@
+pub mod Counts
 pub mod Entries
+pub mod Recounts
 pub mod Sets
 pub mod Places
 pub mod Listed

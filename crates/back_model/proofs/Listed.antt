@@ -1,10 +1,10 @@
 -- The snapshots of all shards as one list.
 use Rattle.std.proofs.Common.{◌≡◌, ℕ, ◌+◌, List, [], ◌∷◌, ◌++◌, map, length, Bool, true, false, refl, sym, ◌∙◌, ap, subst, arith}
-use Rattle.std.specs.Prelude.{Option, Some, None, cond, is_some, bytes_eq, nat_lt, ◌==◌}
+use Rattle.std.specs.Prelude.{Option, Some, None, is_some, bytes_eq, nat_lt, ◌==◌}
 use Rattle.std.specs.List.{AllByRecursion}
 use Rattle.std.specs.declared.cmp.Ordering.{Ordering}
 use Rattle.std.specs.declared.cmp.Ordering.TheVariants.{Less, Equal, Greater}
-use Rattle.std.specs.Ordering.{is_eq, match_ordering, nat_cmp}
+use Rattle.std.specs.Ordering.{is_eq, nat_cmp}
 use Rattle.std.specs.Cmp.{nat_cmp_total}
 use Rattle.std.specs.Cmp.Lexicographic.{nat_list_cmp_total}
 use Rattle.std.specs.FinMap as finmap
@@ -16,7 +16,7 @@ use Rattle.meta_types.specs.Keys.{put_in_order}
 use Rattle.meta_types.specs.Changes.{stands_before}
 use Rattle.meta_types.specs.Rows.{BackSnap}
 use Rattle.back_model.specs.Snaps.{Snaps, is_held}
-use Rattle.back_model.specs.Shown.{Shard, AreApart, shard_at, snaps_at, failures_at, put_shard, back_snap, snaps_in, all_snaps, all_failures}
+use Rattle.back_model.specs.Shown.{Shard, AreApart, snaps_at, failures_at, put_shard, back_snap, snaps_in, all_snaps, all_failures}
 use Rattle.back_model.proofs.Entries.{Parents}
 use Rattle.back_model.proofs.Places.{none_at, apart_rest, apart_head, behind, same_name}
 

@@ -1,4 +1,5 @@
 pub mod Answers
+pub mod Nodes
 pub mod Snaps
 pub mod Objects
 pub mod Fuses

@@ -38,7 +38,8 @@ impl<S: SnapBackend, B: BlobBackend, I: IngestBackend> Backends<S, B, I> {
 
     /// The shard of a snapshotter, if one was set or made.
     pub fn shard(&self, snapshotter: &ShortName) -> Option<&S>
-        ensures shard { option_map (λ s. shown S.contents S.fails (snapshotter.now, s.now)) result ≡ shard_at snapshotter.now self.now.shards }
+        ensures shard { option_map (λ s. shown S.contents S.fails (snapshotter.now, s.now)) result
+            ≡ shard_at snapshotter.now self.now.shards }
         ensures order { AreApart self.now.shards }
     {
         self.shards.get(snapshotter)
@@ -52,7 +53,10 @@ impl<S: SnapBackend, B: BlobBackend, I: IngestBackend> Backends<S, B, I> {
         shard: S,
     ) -> Result<(), Fault>
         ensures fault { Refuses result None }
-        ensures ok { OnOk result (self.new ≡ record self.old { shards = put_shard (shown S.contents S.fails (snapshotter, shard)) self.old.shards }) }
+        ensures ok { OnOk result (self.new ≡ record self.old {
+          shards = put_shard
+              (shown S.contents S.fails (snapshotter, shard)) self.old.shards;
+        }) }
         ensures err { OnErr result (self.new ≡ self.old) }
     {
         let _ = alloc;
@@ -67,11 +71,15 @@ impl<S: SnapBackend, B: BlobBackend, I: IngestBackend> Backends<S, B, I> {
         number: u64,
         parent: Option<u64>,
     ) -> Result<(), MakeFault>
-        ensures fault { Makes result (is_held (snaps_at snapshotter.now self.old.shards) number) (is_parent_held (snaps_at snapshotter.now self.old.shards) parent) }
-        ensures ok { OnOk result (self.new.shards ≡ put_shard (shard_after result snapshotter.now self.old.shards number parent) self.old.shards) }
-        ensures listed { OnOk result (all_snaps self.new.shards ≡ put_in_order stands_before (back_snap snapshotter.now (number, parent)) (all_snaps self.old.shards)) }
+        ensures fault { Makes result (is_held (snaps_at snapshotter.now self.old.shards) number)
+            (is_parent_held (snaps_at snapshotter.now self.old.shards) parent) }
+        ensures ok { OnOk result (self.new.shards ≡ put_shard
+            (shard_after result snapshotter.now self.old.shards number parent) self.old.shards) }
+        ensures listed { OnOk result (all_snaps self.new.shards ≡ put_in_order stands_before
+            (back_snap snapshotter.now (number, parent)) (all_snaps self.old.shards)) }
         ensures err { OnErr result (all_snaps self.new.shards ≡ all_snaps self.old.shards) }
-        ensures fails { all_failures self.new.shards ≡ all_failures self.old.shards + make_fails result }
+        ensures fails { all_failures self.new.shards
+            ≡ all_failures self.old.shards + make_fails result }
         ensures others { (self.new.blobs ≡ self.old.blobs) × (self.new.ingests ≡ self.old.ingests) }
     {
         self.shards.make(alloc, snapshotter, number, parent)
@@ -89,7 +97,8 @@ impl<S: SnapBackend, B: BlobBackend, I: IngestBackend> Backends<S, B, I> {
     /// Puts these in the place of all shards. It takes no memory.
     pub fn put_shards(&mut self, shards: Vec<(ShortName, S)>)
         requires { AreApart (map (shown S.contents S.fails) shards.items) }
-        ensures { self.new ≡ record self.old { shards = map (shown S.contents S.fails) shards.items } }
+        ensures { self.new
+            ≡ record self.old { shards = map (shown S.contents S.fails) shards.items } }
     {
         self.shards.put(shards);
     }
@@ -103,7 +112,8 @@ impl<S: SnapBackend, B: BlobBackend, I: IngestBackend> Backends<S, B, I> {
 
     /// The blobs, to be changed.
     pub fn blobs_mut(&mut self) -> &mut B
-        ensures* writes_back { sem 𝓛 (Lends (the_row S.row B.row I.row S.SnapBackend) B.row self.entry result (λ w. record self.old { blobs = w })) }
+        ensures* writes_back { sem 𝓛 (Lends (the_row S.row B.row I.row S.SnapBackend) B.row
+            self.entry result (λ w. record self.old { blobs = w })) }
         ensures value { result.now ≡ self.old.blobs }
     {
         &mut self.blobs
@@ -111,7 +121,8 @@ impl<S: SnapBackend, B: BlobBackend, I: IngestBackend> Backends<S, B, I> {
 
     /// The objects of ingests, to be changed.
     pub fn ingests_mut(&mut self) -> &mut I
-        ensures* writes_back { sem 𝓛 (Lends (the_row S.row B.row I.row S.SnapBackend) I.row self.entry result (λ w. record self.old { ingests = w })) }
+        ensures* writes_back { sem 𝓛 (Lends (the_row S.row B.row I.row S.SnapBackend) I.row
+            self.entry result (λ w. record self.old { ingests = w })) }
         ensures value { result.now ≡ self.old.ingests }
     {
         &mut self.ingests
@@ -128,7 +139,8 @@ impl<S: SnapBackend, B: BlobBackend, I: IngestBackend> Backends<S, B, I> {
     pub fn lists(&self, alloc: Global) -> Result<BackLists, Fault>
         ensures fault { Refuses result None }
         ensures blobs { IfOk result (λ lists. lists.blobs.items ≡ B.contents self.now.blobs) }
-        ensures snapshots { IfOk result (λ lists. map listed_snap lists.snapshots.items ≡ all_snaps self.now.shards) }
+        ensures snapshots { IfOk result (λ lists. map listed_snap lists.snapshots.items
+            ≡ all_snaps self.now.shards) }
         ensures ingests { IfOk result (λ lists. lists.ingests.items ≡ I.contents self.now.ingests) }
     {
         let blobs = self.blobs.digests(alloc)?;

@@ -30,7 +30,8 @@ impl Fuse {
         self.passes = passes;
     }
 
-    // Counts a call, and tells whether the device fails it. A refused call doesn't reach the device.
+    // Counts a call, and tells whether the device fails it. A refused call doesn't reach the
+    // device.
     pub(crate) fn fails_call(&mut self, is_refused: bool) -> bool
         ensures fails { result ≡ is_failed is_refused self.old }
         ensures fuse { self.new ≡ after_call is_refused self.old }

@@ -20,7 +20,8 @@ pub struct FuseBackend {
 }
 
 impl FuseBackend {
-    /// Passes so many calls of `make` and `remove`, fails the next that reaches the device, and passes all later ones.
+    /// Passes so many calls of `make` and `remove`, fails the next that reaches the device, and
+    /// passes all later ones.
     pub fn arm(&mut self, passes: u64)
         ensures { self.new ≡ record self.old { fuse = armed_for passes self.old.fuse } }
     {
@@ -41,11 +42,13 @@ impl SnapBackend for FuseBackend {
     }
 
     fn make(&mut self, alloc: Global, number: u64, parent: Option<u64>) -> Result<(), MakeFault>
-        ensures fault { Makes result (is_held self.old.inner number) (is_parent_held self.old.inner parent) }
+        ensures fault { Makes result (is_held self.old.inner number)
+            (is_parent_held self.old.inner parent) }
         ensures ok { OnOk result (self.new.inner ≡ finmap.insert self.old.inner number parent) }
         ensures err { OnErr result (self.new.inner ≡ self.old.inner) }
         ensures fails { self.new.fuse.fails ≡ self.old.fuse.fails + make_fails result }
-        ensures fuse { self.new.fuse ≡ after_call (not (accepts self.old.inner number parent)) self.old.fuse }
+        ensures fuse { self.new.fuse
+            ≡ after_call (not (accepts self.old.inner number parent)) self.old.fuse }
     {
         let is_refused = !self.inner.accepts(number, parent);
         if self.fuse.fails_call(is_refused) {
@@ -55,11 +58,13 @@ impl SnapBackend for FuseBackend {
     }
 
     fn remove(&mut self, number: u64) -> Result<(), RemoveFault>
-        ensures fault { Removes result (is_held self.old.inner number) (has_child self.old.inner number) }
+        ensures fault { Removes result (is_held self.old.inner number)
+            (has_child self.old.inner number) }
         ensures ok { OnOk result (self.new.inner ≡ finmap.remove self.old.inner number) }
         ensures err { OnErr result (self.new.inner ≡ self.old.inner) }
         ensures fails { self.new.fuse.fails ≡ self.old.fuse.fails + remove_fails result }
-        ensures fuse { self.new.fuse ≡ after_call (not (gives_up self.old.inner number)) self.old.fuse }
+        ensures fuse { self.new.fuse
+            ≡ after_call (not (gives_up self.old.inner number)) self.old.fuse }
     {
         let is_refused = !self.inner.gives_up(number);
         if self.fuse.fails_call(is_refused) {

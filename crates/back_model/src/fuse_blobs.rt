@@ -21,7 +21,8 @@ pub struct FuseBlobs {
 }
 
 impl FuseBlobs {
-    /// Passes so many calls of `make` and `remove`, fails the next that reaches the device, and passes all later ones.
+    /// Passes so many calls of `make` and `remove`, fails the next that reaches the device, and
+    /// passes all later ones.
     pub fn arm(&mut self, passes: u64)
         ensures { self.new ≡ record self.old { fuse = armed_for passes self.old.fuse } }
     {
@@ -46,7 +47,8 @@ impl BlobBackend for FuseBlobs {
         ensures ok { OnOk result (self.new.inner ≡ put_blob digest.now self.old.inner) }
         ensures err { OnErr result (self.new.inner ≡ self.old.inner) }
         ensures fails { self.new.fuse.fails ≡ self.old.fuse.fails + make_fails result }
-        ensures fuse { self.new.fuse ≡ after_call (has_blob digest.now self.old.inner) self.old.fuse }
+        ensures fuse { self.new.fuse
+            ≡ after_call (has_blob digest.now self.old.inner) self.old.fuse }
     {
         let is_refused = self.inner.holds(digest);
         if self.fuse.fails_call(is_refused) {
@@ -60,7 +62,8 @@ impl BlobBackend for FuseBlobs {
         ensures ok { OnOk result (self.new.inner ≡ without_blob digest.now self.old.inner) }
         ensures err { OnErr result (self.new.inner ≡ self.old.inner) }
         ensures fails { self.new.fuse.fails ≡ self.old.fuse.fails + remove_fails result }
-        ensures fuse { self.new.fuse ≡ after_call (not (has_blob digest.now self.old.inner)) self.old.fuse }
+        ensures fuse { self.new.fuse
+            ≡ after_call (not (has_blob digest.now self.old.inner)) self.old.fuse }
     {
         let is_refused = !self.inner.holds(digest);
         if self.fuse.fails_call(is_refused) {

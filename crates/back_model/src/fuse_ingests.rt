@@ -20,7 +20,8 @@ pub struct FuseIngests {
 }
 
 impl FuseIngests {
-    /// Passes so many calls of `make` and `remove`, fails the next that reaches the device, and passes all later ones.
+    /// Passes so many calls of `make` and `remove`, fails the next that reaches the device, and
+    /// passes all later ones.
     pub fn arm(&mut self, passes: u64)
         ensures { self.new ≡ record self.old { fuse = armed_for passes self.old.fuse } }
     {
@@ -59,7 +60,8 @@ impl IngestBackend for FuseIngests {
         ensures ok { OnOk result (self.new.inner ≡ without_number number self.old.inner) }
         ensures err { OnErr result (self.new.inner ≡ self.old.inner) }
         ensures fails { self.new.fuse.fails ≡ self.old.fuse.fails + remove_fails result }
-        ensures fuse { self.new.fuse ≡ after_call (not (has_number number self.old.inner)) self.old.fuse }
+        ensures fuse { self.new.fuse
+            ≡ after_call (not (has_number number self.old.inner)) self.old.fuse }
     {
         let is_refused = !self.inner.holds(number);
         if self.fuse.fails_call(is_refused) {

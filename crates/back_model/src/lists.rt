@@ -7,7 +7,8 @@ use crate::traits::SnapBackend;
 use meta_types::{Digest, Fault, ShortName};
 use std::alloc::Global;
 
-/// All objects of the backends: digests, snapshots by snapshotter and number with their parents, and numbers of ingests.
+/// All objects of the backends: digests, snapshots by snapshotter and number with their parents,
+/// and numbers of ingests.
 #[derive(Drop)]
 pub struct BackLists {
     pub blobs: Vec<Digest>,
@@ -23,7 +24,8 @@ pub(crate) fn push_snaps<S: SnapBackend>(
     into: &mut Vec<(ShortName, u64, Option<u64>)>,
 ) -> Result<(), Fault>
     ensures fault { Refuses result None }
-    ensures ok { OnOk result (map listed_snap into.new.items ≡ map listed_snap into.old.items ++ snaps_in (shown S.contents S.fails (snapshotter.now, shard.now))) }
+    ensures ok { OnOk result (map listed_snap into.new.items ≡ map listed_snap into.old.items
+        ++ snaps_in (shown S.contents S.fails (snapshotter.now, shard.now))) }
 {
     let numbers = shard.numbers(alloc)?;
     for number in &numbers {

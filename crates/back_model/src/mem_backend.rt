@@ -1,10 +1,11 @@
 //! Snapshots in memory.
-ghost use Rattle.std.specs.Prelude.{◌≡◌};
-ghost use Rattle.std.specs.List.{list_any};
+ghost use Rattle.std.specs.Prelude.{◌≡◌, ◌+◌, ℕ, false, nat_lt, option_map, IfSome, IsSome};
 ghost use Rattle.std.specs.FinMap as finmap;
-ghost use Rattle.std.specs.BTreeMap.{values, IsOrdered};
+ghost use Rattle.std.specs.BTreeMap.{get, IsOrdered};
+ghost use Rattle.std.specs.Option.{option_map_or};
 ghost use Rattle.std.specs.Ordering.{nat_cmp};
-ghost use Rattle.back_model.specs.Snaps.{has_child, is_number, accepts, gives_up};
+ghost use Rattle.back_model.specs.Snaps.{has_child, is_parent_held, accepts, gives_up};
+ghost use Rattle.back_model.specs.Nodes.{snaps_of, one_if, children_of, counted, AreCounted};
 
 use crate::faults::{MakeFault, RemoveFault};
 use crate::traits::SnapBackend;
@@ -13,10 +14,17 @@ use std::alloc::Global;
 use std::collections::BTreeMap;
 use std::marker::Model;
 
+// A snapshot's parent, and how many snapshots have it as theirs.
+#[derive(Clone, Copy)]
+struct Node {
+    parent: Option<u64>,
+    children: u64,
+}
+
 /// Snapshots in memory. No device fails.
 #[derive(Drop)]
 pub struct MemBackend {
-    parents: BTreeMap<u64, Option<u64>>,
+    nodes: BTreeMap<u64, Node>,
 }
 
 impl Model for MemBackend {
@@ -24,33 +32,42 @@ impl Model for MemBackend {
     ghost use Rattle.std.specs.Ordering.{nat_cmp};
     ghost use Rattle.std.specs.FinMap as finmap;
     ghost use Rattle.std.specs.Coded.{coded_ℕ, coded_option};
+    ghost use Rattle.back_model.specs.Nodes.{snaps_of, AreCounted};
 
     ghost Value = { finmap.FinMap nat_cmp (Option ℕ) };
 
     ghost coded = { finmap.code coded_ℕ (coded_option coded_ℕ) };
 
-    ghost view = { λ b. finmap.from_entries b.parents.entries };
+    ghost view = { λ b. snaps_of b.nodes };
+
+    ghost invariant = { λ b. AreCounted b.nodes };
 }
 
 impl MemBackend {
-    // The parent of a snapshot that is there.
-    fn entry(&self, number: u64) -> Option<Option<u64>>
-        ensures { result ≡ finmap.get self.now number }
+    // The snapshot, where it is there.
+    fn node(&self, number: u64) -> Option<Node>
+        ensures parent { option_map (λ node. node.parent) result ≡ finmap.get self.now number }
+        ensures child { option_map_or (λ node. nat_lt 0 node.children) result false
+            ≡ has_child self.now number }
     {
-        self.parents.get(&number).copied()
+        self.nodes.get(&number).copied()
+    }
+
+    // Whether the parent that is named is there, if one is named.
+    fn holds_parent(&self, parent: Option<u64>) -> bool
+        ensures { result ≡ is_parent_held self.now parent }
+    {
+        match parent {
+            Some(above) => self.holds(above),
+            None => true,
+        }
     }
 
     // Whether the contents don't refuse that the snapshot is made.
     pub(crate) fn accepts(&self, number: u64, parent: Option<u64>) -> bool
         ensures { result ≡ accepts self.now number parent }
     {
-        if self.holds(number) {
-            return false;
-        }
-        match parent {
-            Some(above) => self.holds(above),
-            None => true,
-        }
+        !self.holds(number) && self.holds_parent(parent)
     }
 
     // Whether the contents don't refuse that the snapshot is removed.
@@ -60,20 +77,51 @@ impl MemBackend {
         self.holds(number) && !self.is_parent(number)
     }
 
-    // Passes over all snapshots.
     fn is_parent(&self, number: u64) -> bool
         ensures { result ≡ has_child self.now number }
     {
-        is_among(&self.parents, number)
+        match self.node(number) {
+            Some(node) => node.children > 0,
+            None => false,
+        }
     }
 }
 
-// Whether the number is among the parents.
-fn is_among(parents: &BTreeMap<u64, Option<u64>>, number: u64) -> bool
-    ensures among { result ≡ list_any (is_number number) (values parents.now) }
-    ensures ordered { IsOrdered nat_cmp parents.now }
+// Counts one child more of the parent of a snapshot that was put in.
+fn add_child(nodes: &mut BTreeMap<u64, Node>, parent: Option<u64>)
+    requires order { IsOrdered nat_cmp nodes.old }
+    requires held { IfSome parent (λ above. IsSome (get nat_cmp nodes.old above)) }
+    requires counted { (n : ℕ) → counted n nodes.old + one_if n parent ≡ children_of n nodes.old }
+    ensures same { snaps_of nodes.new ≡ snaps_of nodes.old }
+    ensures counted { AreCounted nodes.new }
 {
-    parents.values().any(|parent| *parent == Some(number))
+    let Some(above) = parent else {
+        return;
+    };
+    let Some(node) = nodes.get(&above).copied() else {
+        unreachable!()
+    };
+    // There are no more children than snapshots, whose number fits.
+    let _ = nodes.len();
+    let children = node.children + 1;
+    let _ = nodes.insert(above, Node { children, ..node });
+}
+
+// Counts one child less of the parent of a snapshot that was taken out.
+fn drop_child(nodes: &mut BTreeMap<u64, Node>, parent: Option<u64>)
+    requires order { IsOrdered nat_cmp nodes.old }
+    requires counted { (n : ℕ) → counted n nodes.old ≡ children_of n nodes.old + one_if n parent }
+    ensures same { snaps_of nodes.new ≡ snaps_of nodes.old }
+    ensures counted { AreCounted nodes.new }
+{
+    let Some(above) = parent else {
+        return;
+    };
+    let Some(node) = nodes.get(&above).copied() else {
+        unreachable!()
+    };
+    let children = node.children - 1;
+    let _ = nodes.insert(above, Node { children, ..node });
 }
 
 impl SnapBackend for MemBackend {
@@ -83,7 +131,7 @@ impl SnapBackend for MemBackend {
 
     fn fresh(alloc: Global) -> MemBackend {
         MemBackend {
-            parents: BTreeMap::new(alloc),
+            nodes: BTreeMap::new(alloc),
         }
     }
 
@@ -91,14 +139,17 @@ impl SnapBackend for MemBackend {
         if self.holds(number) {
             return Err(MakeFault::Taken);
         }
-        if let Some(above) = parent
-            && !self.holds(above)
-        {
+        if !self.holds_parent(parent) {
             return Err(MakeFault::Missing);
         }
-        if self.parents.insert(number, parent).is_err() {
+        let node = Node {
+            parent,
+            children: 0,
+        };
+        if self.nodes.insert(number, node).is_err() {
             return Err(MakeFault::Memory);
         }
+        add_child(&mut self.nodes, parent);
         Ok(())
     }
 
@@ -109,24 +160,26 @@ impl SnapBackend for MemBackend {
         if self.is_parent(number) {
             return Err(RemoveFault::HasChildren);
         }
-        let _ = self.parents.remove(&number);
+        if let Some(node) = self.nodes.remove(&number) {
+            drop_child(&mut self.nodes, node.parent);
+        }
         Ok(())
     }
 
     fn holds(&self, number: u64) -> bool {
-        self.entry(number).is_some()
+        self.node(number).is_some()
     }
 
     fn parent(&self, number: u64) -> Option<u64> {
-        match self.entry(number) {
-            Some(parent) => parent,
+        match self.node(number) {
+            Some(node) => node.parent,
             None => None,
         }
     }
 
     fn numbers(&self, alloc: Global) -> Result<Vec<u64>, Fault> {
         let mut numbers = Vec::new(alloc);
-        for number in self.parents.keys() {
+        for number in self.nodes.keys() {
             numbers.push(*number)?;
         }
         Ok(numbers)

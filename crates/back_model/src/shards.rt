@@ -36,7 +36,8 @@ impl<S: SnapBackend> Model for Shards<S> {
     ghost invariant = { λ s. AreApart (map (shown S.contents S.fails) s.shards.items) };
 }
 
-// Where the snapshotter's shard is, or else where it would stand. Snapshotters are few, so they are passed over.
+// Where the snapshotter's shard is, or else where it would stand. Snapshotters are few, so they are
+// passed over.
 fn place<S: SnapBackend>(shards: &[(ShortName, S)], snapshotter: &ShortName) -> Result<usize, usize>
     ensures { IsPlace (λ e. e.0) snapshotter.now shards.now result }
 {
@@ -63,7 +64,8 @@ impl<S: SnapBackend> Shards<S> {
     }
 
     pub(crate) fn get(&self, snapshotter: &ShortName) -> Option<&S>
-        ensures shard { option_map (λ s. shown S.contents S.fails (snapshotter.now, s.now)) result ≡ shard_at snapshotter.now self.now }
+        ensures shard { option_map (λ s. shown S.contents S.fails (snapshotter.now, s.now)) result
+            ≡ shard_at snapshotter.now self.now }
         ensures order { AreApart self.now }
     {
         match place(&self.shards, snapshotter) {
@@ -74,7 +76,8 @@ impl<S: SnapBackend> Shards<S> {
 
     pub(crate) fn set(&mut self, snapshotter: ShortName, shard: S) -> Result<(), Fault>
         ensures fault { Refuses result None }
-        ensures ok { OnOk result (self.new ≡ put_shard (shown S.contents S.fails (snapshotter, shard)) self.old) }
+        ensures ok { OnOk result (self.new
+            ≡ put_shard (shown S.contents S.fails (snapshotter, shard)) self.old) }
         ensures err { OnErr result (self.new ≡ self.old) }
     {
         match place(&self.shards, &snapshotter) {
@@ -93,8 +96,10 @@ impl<S: SnapBackend> Shards<S> {
         parent: Option<u64>,
     ) -> Result<(), MakeFault>
         requires { shard_at snapshotter.now self.old ≢ None }
-        ensures fault { Makes result (is_held (snaps_at snapshotter.now self.old) number) (is_parent_held (snaps_at snapshotter.now self.old) parent) }
-        ensures put { self.new ≡ put_shard (shard_after result snapshotter.now self.old number parent) self.old }
+        ensures fault { Makes result (is_held (snaps_at snapshotter.now self.old) number)
+            (is_parent_held (snaps_at snapshotter.now self.old) parent) }
+        ensures put { self.new
+            ≡ put_shard (shard_after result snapshotter.now self.old number parent) self.old }
     {
         match place(&self.shards, snapshotter) {
             Ok(at) => {
@@ -113,9 +118,12 @@ impl<S: SnapBackend> Shards<S> {
         number: u64,
         parent: Option<u64>,
     ) -> Result<(), MakeFault>
-        ensures fault { Makes result (is_held (snaps_at snapshotter.now self.old) number) (is_parent_held (snaps_at snapshotter.now self.old) parent) }
-        ensures ok { OnOk result (self.new ≡ put_shard (shard_after result snapshotter.now self.old number parent) self.old) }
-        ensures listed { OnOk result (all_snaps self.new ≡ put_in_order stands_before (back_snap snapshotter.now (number, parent)) (all_snaps self.old)) }
+        ensures fault { Makes result (is_held (snaps_at snapshotter.now self.old) number)
+            (is_parent_held (snaps_at snapshotter.now self.old) parent) }
+        ensures ok { OnOk result (self.new
+            ≡ put_shard (shard_after result snapshotter.now self.old number parent) self.old) }
+        ensures listed { OnOk result (all_snaps self.new ≡ put_in_order stands_before
+            (back_snap snapshotter.now (number, parent)) (all_snaps self.old)) }
         ensures err { OnErr result (all_snaps self.new ≡ all_snaps self.old) }
         ensures fails { all_failures self.new ≡ all_failures self.old + make_fails result }
     {

@@ -27,14 +27,17 @@ pub trait SnapBackend: Send + Drop {
 
     /// Makes a snapshot, over a parent that is there, or over none.
     fn make(&mut self, alloc: Global, number: u64, parent: Option<u64>) -> Result<(), MakeFault>
-        ensures fault { Makes result (is_held (contents self.old) number) (is_parent_held (contents self.old) parent) }
-        ensures ok { OnOk result (contents self.new ≡ finmap.insert (contents self.old) number parent) }
+        ensures fault { Makes result (is_held (contents self.old) number)
+            (is_parent_held (contents self.old) parent) }
+        ensures ok { OnOk result (contents self.new ≡ finmap.insert
+            (contents self.old) number parent) }
         ensures err { OnErr result (contents self.new ≡ contents self.old) }
         ensures fails { fails self.new ≡ fails self.old + make_fails result };
 
     /// Removes a snapshot that is no parent. It takes no memory.
     fn remove(&mut self, number: u64) -> Result<(), RemoveFault>
-        ensures fault { Removes result (is_held (contents self.old) number) (has_child (contents self.old) number) }
+        ensures fault { Removes result (is_held (contents self.old) number)
+            (has_child (contents self.old) number) }
         ensures ok { OnOk result (contents self.new ≡ finmap.remove (contents self.old) number) }
         ensures err { OnErr result (contents self.new ≡ contents self.old) }
         ensures fails { fails self.new ≡ fails self.old + remove_fails result };

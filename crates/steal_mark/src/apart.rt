@@ -33,6 +33,7 @@ pub fn take_apart(
             seat: theirs,
             deque,
             others,
+            ahead: _,
             scanned,
             refused: _,
         } = marker;

@@ -11,6 +11,7 @@ ghost use Rattle.steal_mark.specs.Claiming.{claims, IsSeatOf};
 ghost use Rattle.steal_mark.specs.Closing.{ids_of, pushed_in};
 ghost use Rattle.steal_mark.specs.Starting.{AreNewRows, Begins, IsSpread, Starts, pushed_to};
 
+use crate::ahead::Ahead;
 use crate::board::{Board, ClaimSeat};
 use crate::claims::{Gift, Give};
 use crate::deal::{Rest, deal, new_board, new_deques};
@@ -78,6 +79,7 @@ fn assemble(
             seat: theirs,
             deque,
             others,
+            ahead: Ahead::new(alloc),
             scanned: Vec::new(alloc),
             refused: false,
         };

@@ -10,11 +10,12 @@ use crate::drain::drain;
 use crate::hands::Deque;
 use crate::other::Other;
 use mark_core::Graph;
-use std::alloc::AllocError;
+use std::alloc::{AllocError, Global};
 
 // Closes the deques from the last to the first, and scans what each still holds, at the end of
 // its owner's list.
 pub fn close_all(
+    alloc: Global,
     board: &Board,
     seat: &mut ClaimSeat,
     mut deques: Vec<Deque>,
@@ -32,7 +33,14 @@ pub fn close_all(
 {
     while let Some(mut deque) = deques.pop() {
         close(&mut deque, rows, graph, deques.as_slice());
-        drain(board, seat, &mut deque, graph, &mut lists[deques.len()])?;
+        drain(
+            alloc,
+            board,
+            seat,
+            &mut deque,
+            graph,
+            &mut lists[deques.len()],
+        )?;
     }
     Ok(())
 }

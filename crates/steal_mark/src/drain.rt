@@ -7,12 +7,13 @@ ghost use Rattle.steal_mark.specs.Claiming.{Knows, IsSeatOf};
 ghost use Rattle.steal_mark.specs.Dealing.{SameDeque, NoMore};
 ghost use Rattle.steal_mark.specs.Draining.{DrainsAll};
 
+use crate::ahead::Ahead;
 use crate::board::{Board, ClaimSeat, take};
 use crate::claims::Learn;
 use crate::hands::{Deque, Naming, Total};
 use crate::scan::scan;
 use mark_core::Graph;
-use std::alloc::AllocError;
+use std::alloc::{AllocError, Global};
 use std::marker::Brand;
 
 // Tells who has every part of all claims.
@@ -38,6 +39,7 @@ pub fn count(deque: &mut Deque)
 
 // Scans what the deque still holds. Of the markers' seats and passes none is left, so that it ends.
 pub fn drain(
+    alloc: Global,
     board: &Board,
     seat: &mut ClaimSeat,
     deque: &mut Deque,
@@ -56,14 +58,16 @@ pub fn drain(
     ensures drains { OnOk result (DrainsAll graph.now seat.old.me.0 seat.new.me.0
         (worker_view deque.old) (worker_view deque.new) list.old.items list.new.items) }
 {
+    let mut ahead = Ahead::new(alloc);
     for count in 0..graph.edges.len() + 1 {
         let _ = count;
         list.reserve(1)?;
         let Some(node) = take(deque) else {
             return Ok(());
         };
+        ahead.took(node, graph);
         let targets = graph.edges[node as usize].as_slice();
-        scan(board, seat, deque, targets)?;
+        scan(board, seat, deque, &mut ahead, targets)?;
         list.push_reserved(node);
     }
     learn::<Brand>(board, seat);

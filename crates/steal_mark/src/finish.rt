@@ -53,6 +53,7 @@ pub fn gather(
     }
     let (deques, mut rows, mut lists) = take_apart(alloc, &board, &mut seat, markers)?;
     close_all(
+        alloc,
         &board,
         &mut seat,
         deques,

@@ -1,6 +1,7 @@
 //! Marking of a graph by workers that steal.
 #![tactic(auto)]
 
+mod ahead;
 mod apart;
 mod begin;
 mod board;

@@ -1,6 +1,7 @@
 //! One worker of a marking.
 ghost use Rattle.std.specs.Prelude.{◌≡◌};
 
+use crate::ahead::Ahead;
 use crate::board::{Board, ClaimSeat};
 use crate::hands::Deque;
 use crate::other::Other;
@@ -16,6 +17,7 @@ pub struct Marker {
     pub(crate) seat: ClaimSeat,
     pub(crate) deque: Deque,
     pub(crate) others: Vec<Other>,
+    pub(crate) ahead: Ahead,
     pub(crate) scanned: Vec<u32>,
     pub(crate) refused: bool,
 }

@@ -5,6 +5,7 @@ ghost use Rattle.mark_core.specs.Reach.{node_count};
 ghost use Rattle.steal_mark.specs.Dealing.{SameDeque};
 ghost use Rattle.steal_mark.specs.Growing.{Grows, MayClaim};
 
+use crate::ahead::Ahead;
 use crate::board::{Board, ClaimSeat, look, put};
 use crate::hands::Deque;
 use std::alloc::AllocError;
@@ -14,6 +15,7 @@ pub fn scan(
     board: &Board,
     seat: &mut ClaimSeat,
     deque: &mut Deque,
+    ahead: &mut Ahead,
     targets: &[u32],
 ) -> Result<(), AllocError>
     requires board { seat.old.table_id ≡ board.now.shared.table_id }
@@ -30,6 +32,7 @@ pub fn scan(
     for target in targets {
         if look(board, seat, *target) {
             put(deque, *target)?;
+            ahead.note(*target);
         }
     }
     Ok(())

@@ -1,10 +1,10 @@
 //! A thread for each worker.
-ghost use Rattle.std.specs.Prelude.{All, IfOk, None};
+ghost use Rattle.std.specs.Prelude.{◌≡◌, All, IfOk, IfSome, None};
 ghost use Rattle.steal_mark.specs.Hinting.{IsHintSeat};
 ghost use Rattle.steal_mark.specs.Refusing.{RefusesThreads};
 ghost use Rattle.steal_mark.specs.Team.{AreWorked, IsKept, IsReady};
 
-use crate::hints::{another, new_hints, stop};
+use crate::hints::{HintSeat, Hints, another, new_hints, stop};
 use crate::marker::Marker;
 use crate::turn::Gate;
 use crate::work::work;
@@ -14,7 +14,7 @@ use std::alloc::Global;
 use std::snapshot::Snapshot;
 use std::sync::Wait;
 use std::thread;
-use std::thread::{Promise, Threads};
+use std::thread::{Promise, PromisedHandle, Scope, Threads};
 
 // A worker comes back as the same, and sound.
 #[derive(Drop)]
@@ -24,7 +24,31 @@ impl Promise<Marker> for SameAs {
     ghost kept_by = { λ p m. IsKept p.0.value m };
 }
 
-// Runs each marker in a thread of its own. The scope ends when all threads have ended.
+// Starts the thread of one worker. None where no thread can be made.
+fn start<'s, E, R: Wait + Sync, G: Gate>(
+    scope: &Scope<'s, E>,
+    rt: &'s R,
+    graph: &'s Graph,
+    gate: &'s G,
+    hints: &'s Hints,
+    seat: HintSeat,
+    marker: Marker,
+) -> Option<PromisedHandle<Marker, SameAs>>
+    requires ready { IsReady graph.now marker }
+    requires hints { IsHintSeat hints.now seat }
+    ensures began { IfSome result (λ handle. handle.promise.0.value ≡ marker) }
+{
+    let promise = SameAs(Snapshot::of(&marker));
+    let worker = move || -> Marker
+        requires ready { IsReady graph.now marker }
+        requires hints { IsHintSeat hints.now seat }
+        ensures kept { IsKept marker result }
+    { work(rt, marker, graph, gate, hints, seat) };
+    scope.spawn_with(promise, worker).ok()
+}
+
+// Runs each marker in a thread of its own. The scope ends when all threads have ended, also where
+// one can't be made.
 pub fn run<R: Threads + Wait + Sync, G: Gate>(
     rt: &R,
     alloc: Global,
@@ -48,25 +72,13 @@ pub fn run<R: Threads + Wait + Sync, G: Gate>(
             ensures worked { IfOk result (λ done. AreWorked markers.items done.items) }
         {
             let mut handles = Vec::with_capacity(alloc, markers.len())?;
-            let mut failed = false;
             for marker in markers {
                 let own = another(shared, &mut seat);
-                let promise = SameAs(Snapshot::of(&marker));
-                let worker = move || -> Marker
-                    requires ready { IsReady graph.now marker }
-                    requires hints { IsHintSeat shared.now own }
-                    ensures kept { IsKept marker result }
-                { work(rt, marker, graph, gate, shared, own) };
-                match scope.spawn_with(promise, worker) {
-                    Ok(handle) => handles.push_reserved(handle),
-                    Err(_) => {
-                        stop(shared, &mut seat);
-                        failed = true;
-                    }
-                }
-            }
-            if failed {
-                return Err(Fault::NoWorker);
+                let Some(handle) = start(scope, rt, graph, gate, shared, own, marker) else {
+                    stop(shared, &mut seat);
+                    return Err(Fault::NoWorker);
+                };
+                handles.push_reserved(handle);
             }
             Ok(thread::join_promised(rt, handles)?)
         },

@@ -72,9 +72,18 @@ impl Marker {
         let Some(node) = self.find(graph) else {
             return Ok(Turn::Nothing);
         };
+        self.ahead.took(node, graph);
         gate.before_scan(self.number, node);
         let targets = graph.edges[node as usize].as_slice();
-        if scan(&self.board, &mut self.seat, &mut self.deque, targets).is_err() {
+        if scan(
+            &self.board,
+            &mut self.seat,
+            &mut self.deque,
+            &mut self.ahead,
+            targets,
+        )
+        .is_err()
+        {
             self.refused = true;
             return Err(Fault::OutOfMemory);
         }

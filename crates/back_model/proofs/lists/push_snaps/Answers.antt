@@ -1,4 +1,4 @@
-use Rattle.std.proofs.Common.{◌≡◌, ◌∙◌, ap, ◌++◌, map, List, ℕ}
+use Rattle.std.proofs.Common.{◌∙◌, ap, ◌++◌, map, List, ℕ}
 use Rattle.std.proofs.lemmas.List.{take_all}
 use Rattle.meta_types.specs.Rows.{BackSnap}
 use Rattle.back_model.specs.Snaps.{parent_of}

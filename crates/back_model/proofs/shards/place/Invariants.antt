@@ -1,6 +1,4 @@
-use Rattle.std.proofs.Common.{◌≡◌, ℕ, ◌<◌, get_or}
-use Rattle.std.specs.declared.cmp.Ordering.TheVariants.{Greater}
-use Rattle.meta_types.specs.Text.{text_cmp}
+use Rattle.std.proofs.Common.{◌≡◌}
 use Rattle.back_model.specs.Shown.{AreLesser}
 use Rattle.back_model.proofs.shards.place.Given as goal
 

@@ -1,4 +1,3 @@
-use Rattle.std.proofs.Common.{sym}
 use Rattle.back_model.proofs.Sets.{has_digest}
 use Rattle.back_model.proofs.mem_blobs.MemBlobsBlobBackend.holds.Goals as goal
 

@@ -1,4 +1,4 @@
-use Rattle.std.proofs.Common.{rules, ◌≡◌, ◌∙◌, ap, false}
+use Rattle.std.proofs.Common.{rules, ◌≡◌, false}
 use Rattle.back_model.specs.Objects.{has_blob}
 use Rattle.std.specs.BTreeSet.{insert_key}
 use Rattle.meta_types.specs.Text.{text_cmp}

@@ -1,5 +1,4 @@
-use Rattle.std.proofs.Common.{rules, ◌≡◌, ◌∙◌, sym, true, false}
-use Rattle.back_model.specs.Objects.{has_blob}
+use Rattle.std.proofs.Common.{rules, ◌∙◌, sym}
 use Rattle.back_model.proofs.Sets.{has_digest, without_digest}
 use Rattle.back_model.proofs.mem_blobs.MemBlobsBlobBackend.remove.Goals as goal
 

@@ -1,6 +1,6 @@
-use Rattle.std.proofs.Common.{rules, ◌≡◌, ◌∙◌, ap, sym, get_or, map, List}
+use Rattle.std.proofs.Common.{rules, ◌≡◌, ◌∙◌, ap, sym, get_or}
 use Rattle.std.specs.Prelude.{Some}
-use Rattle.back_model.specs.Shown.{Shard, shown, shard_at}
+use Rattle.back_model.specs.Shown.{shown, shard_at}
 use Rattle.meta_types.specs.Text.{Text}
 use Rattle.back_model.proofs.Places.{found_at, none_at_all}
 use Rattle.back_model.proofs.shards.Shards.get.Goals as goal

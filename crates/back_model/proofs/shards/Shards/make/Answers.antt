@@ -1,5 +1,5 @@
-use Rattle.std.proofs.Common.{rules, ◌≡◌, ◌∙◌, ap, sym, refl, false}
-use Rattle.std.specs.Prelude.{None, is_some}
+use Rattle.std.proofs.Common.{rules, ◌≡◌}
+use Rattle.std.specs.Prelude.{None}
 use Rattle.std.specs.FinMap as finmap
 use Rattle.back_model.specs.Snaps.{is_parent_held}
 use Rattle.back_model.specs.Shown.{shown, shard_at, snaps_at, put_shard}

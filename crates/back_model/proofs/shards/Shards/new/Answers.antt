@@ -1,5 +1,3 @@
-use Rattle.std.proofs.Common.{sym, subst, map, List}
-use Rattle.back_model.specs.Shown.{AreApart}
 use Rattle.back_model.proofs.Places.{none_apart}
 use Rattle.back_model.proofs.shards.Shards.new.Goals as goal
 

@@ -1,6 +1,6 @@
-use Rattle.std.proofs.Common.{rules, ◌≡◌, ◌∙◌, ap, sym, refl, map, subst, List}
+use Rattle.std.proofs.Common.{rules, ◌≡◌, ◌∙◌, ap, sym, refl, map, subst}
 use Rattle.std.specs.List.{insert}
-use Rattle.back_model.specs.Shown.{Shard, shown, AreApart, put_shard}
+use Rattle.back_model.specs.Shown.{shown, AreApart, put_shard}
 use Rattle.back_model.proofs.Places.{set_at, put_at, apart_put}
 use Rattle.back_model.proofs.shards.Shards.set.Goals as goal
 

@@ -1,15 +1,14 @@
-use Rattle.std.proofs.Common.{◌≡◌, ◌≤◌, ◌++◌, false, length, map, vec_capacity}
+use Rattle.std.proofs.Common.{◌≡◌, ◌≤◌, ◌++◌, length, map, vec_capacity}
 use Rattle.steal_mark.specs.Hinting.{IsHintSeat}
 use Rattle.steal_mark.proofs.AfterThreads.{began}
 use Rattle.steal_mark.proofs.threads.fn.run.scope.Given as goal
 
--- each marker so far has its thread, unless one failed
+-- each marker so far has its thread
 abbrev pub invariant-loop-marker : goal.invariant-loop-marker
 invariant-loop-marker g l =
     (goal.iterator-loop-marker g).can_next l.marker-iterator ×
     (goal.iterator-loop-marker g).is_finite l.marker-iterator ×
     (l.yielded ++ l.marker-iterator.rest.items ≡ l.initial.marker-iterator.rest.items) ×
     IsHintSeat l.shared l.seat ×
-    (length l.handles.items ≤ length l.yielded) ×
     (length l.initial.marker-iterator.rest.items ≤ vec_capacity l.handles) ×
-    (l.failed ≡ false → map began l.handles.items ≡ l.yielded)
+    (map began l.handles.items ≡ l.yielded)
