@@ -95,7 +95,8 @@ mod tests {
     #[test]
     fn keeps_the_last_of_repeated_members(rt: HostRuntime) -> Result<(), Fail> {
         let line =
-            b"{\"labels\":{\"z\":\"\"},\"ns\":\"y\",\"op\":\"image.add\",\"ns\":\"x\",\"name\":\"i\\n\",\"target\":\"d\",\"labels\":{\"b\":\"1\",\"a\":\"\",\"b\":\"2\"}}";
+            b"{\"labels\":{\"z\":\"\"},\"ns\":\"y\",\"op\":\"image.add\",\"ns\":\"x\",\"name\":\"i\\n\",\
+              \"target\":\"d\",\"labels\":{\"b\":\"1\",\"a\":\"\",\"b\":\"2\"}}";
         let Asked::Request(
             Request::ImageAdd {
                 ns,
