@@ -7,3 +7,5 @@ pub mod Retained
 pub mod Committing
 pub mod Snapshotters
 pub mod SnapshottersSorted
+pub mod SideBySide
+pub mod SpanRows

@@ -1,15 +1,13 @@
 -- The snapshotters of rows, one row at a time.
 use Rattle.std.proofs.Common.{◌≡◌, ◌++◌, ◌+◌, ◌<◌, ℕ, take, length, get_or, Bool, true, false, List, [], ◌∷◌, Option, None, Some, map, refl, ap, sym, ◌∙◌, inl, inr}
-use Rattle.std.specs.Prelude.{bytes_eq, ◌&&◌, not, filter, if◌then◌else◌}
+use Rattle.std.specs.Prelude.{bytes_eq, not, if◌then◌else◌}
 use Rattle.std.specs.List.{dedup, dedup_from, last_or}
 use Rattle.std.specs.Option.{option_map_or}
 use Rattle.std.proofs.lemmas.Bool.{cases_Bool}
-use Rattle.std.proofs.lemmas.List.{append-nil, take_more}
+use Rattle.std.proofs.lemmas.List.{take_more}
 use mathlib.Core.List.{map-append}
-use Rattle.std.proofs.lemmas.List.Elements.{filter-append}
 use Rattle.meta_types.specs.Text.{Text}
 use Rattle.meta_types.specs.declared.rows.SnapRow.{SnapRow}
-use Rattle.object_tables.specs.Calls.{snapshotters_in}
 
 module _ {X : Type 0} (same : X → X → Bool) where
   -- one item in front doesn't change which is the last
@@ -39,34 +37,25 @@ module _ {X : Type 0} (same : X → X → Bool) where
   dedup_push x [] = refl
   dedup_push x (k ∷ xs) = from_push k x xs
 
--- the row stands in the namespace, and its snapshotter isn't the last so far
-abbrev pub is_next : Text → List SnapRow → SnapRow → Bool
-is_next ns rows row = bytes_eq ns row.key.ns && not (option_map_or (bytes_eq row.key.snapshotter) (last_or None (snapshotters_in ns rows)) false)
+-- the snapshotters of rows, each once
+abbrev pub snapshotters_of : List SnapRow → List Text
+snapshotters_of rows = dedup bytes_eq (map (λ (row : SnapRow). row.key.snapshotter) rows)
 
-listed_push : (ns : Text) (rows : List SnapRow) (row : SnapRow) → snapshotters_in ns (rows ++ row ∷ []) ≡ (if is_next ns rows row then snapshotters_in ns rows ++ row.key.snapshotter ∷ [] else snapshotters_in ns rows)
-listed_push ns rows row = ap (λ l. dedup bytes_eq (map snapshotter l)) (filter-append here rows (row ∷ [])) ∙ by (bytes_eq ns row.key.ns)
+-- the row's snapshotter isn't the last so far
+abbrev pub is_next : List SnapRow → SnapRow → Bool
+is_next rows row = not (option_map_or (bytes_eq row.key.snapshotter) (last_or None (snapshotters_of rows)) false)
+
+-- one row more
+listed_more : (rows : List SnapRow) (i : ℕ) (row : SnapRow) → i < length rows → row ≡ get_or rows i row
+    → snapshotters_of (take (i + 1) rows) ≡ (if is_next (take i rows) row then snapshotters_of (take i rows) ++ row.key.snapshotter ∷ [] else snapshotters_of (take i rows))
+listed_more rows i row lt is =
+    ap snapshotters_of (take_more rows i row lt ∙ ap (λ r. take i rows ++ r ∷ []) (sym is)) ∙ ap (dedup bytes_eq) (map-append (λ (r : SnapRow). r.key.snapshotter) (take i rows) (row ∷ []))
+    ∙ dedup_push bytes_eq row.key.snapshotter (map (λ (r : SnapRow). r.key.snapshotter) (take i rows))
+    ∙ flip (option_map_or (bytes_eq row.key.snapshotter) (last_or None (snapshotters_of (take i rows))) false) (snapshotters_of (take i rows)) (snapshotters_of (take i rows) ++ row.key.snapshotter ∷ [])
   where
-    here : SnapRow → Bool
-    here r = bytes_eq ns r.key.ns
-
-    snapshotter : SnapRow → Text
-    snapshotter r = r.key.snapshotter
-
     flip : (b : Bool) (x y : List Text) → (if b then x else y) ≡ (if not b then y else x)
     flip true x y = refl
     flip false x y = refl
-
-    is_last : Bool
-    is_last = option_map_or (bytes_eq row.key.snapshotter) (last_or None (snapshotters_in ns rows)) false
-
-    by : (b : Bool) → dedup bytes_eq (map snapshotter (filter here rows ++ (if b then row ∷ [] else []))) ≡ (if b && not is_last then snapshotters_in ns rows ++ row.key.snapshotter ∷ [] else snapshotters_in ns rows)
-    by true = ap (dedup bytes_eq) (map-append snapshotter (filter here rows) (row ∷ [])) ∙ dedup_push bytes_eq row.key.snapshotter (map snapshotter (filter here rows)) ∙ flip is_last (snapshotters_in ns rows) (snapshotters_in ns rows ++ row.key.snapshotter ∷ [])
-    by false = ap (λ l. dedup bytes_eq (map snapshotter l)) (append-nil (filter here rows))
-
--- one row more
-pub listed_more : (ns : Text) (rows : List SnapRow) (i : ℕ) (row : SnapRow) → i < length rows → row ≡ get_or rows i row
-    → snapshotters_in ns (take (i + 1) rows) ≡ (if is_next ns (take i rows) row then snapshotters_in ns (take i rows) ++ row.key.snapshotter ∷ [] else snapshotters_in ns (take i rows))
-listed_more ns rows i row lt is = ap (snapshotters_in ns) (take_more rows i row lt ∙ ap (λ r. take i rows ++ r ∷ []) (sym is)) ∙ listed_push ns (take i rows) row
 
 -- an item at the end is the last
 pub last_push : {X : Type 0} (o : Option X) (xs : List X) (x : X) → Some x ≡ last_or o (xs ++ x ∷ [])
@@ -74,10 +63,10 @@ last_push o [] x = refl
 last_push o (y ∷ ys) x = last_push (Some y) ys x
 
 -- a row whose snapshotter is listed next, or isn't
-pub is_listed : (ns : Text) (rows : List SnapRow) (i : ℕ) (row : SnapRow) → i < length rows → row ≡ get_or rows i row → is_next ns (take i rows) row ≡ true
-    → snapshotters_in ns (take (i + 1) rows) ≡ snapshotters_in ns (take i rows) ++ row.key.snapshotter ∷ []
-is_listed ns rows i row lt is next = listed_more ns rows i row lt is ∙ ap (λ b. if b then snapshotters_in ns (take i rows) ++ row.key.snapshotter ∷ [] else snapshotters_in ns (take i rows)) next
+pub is_listed : (rows : List SnapRow) (i : ℕ) (row : SnapRow) → i < length rows → row ≡ get_or rows i row → is_next (take i rows) row ≡ true
+    → snapshotters_of (take (i + 1) rows) ≡ snapshotters_of (take i rows) ++ row.key.snapshotter ∷ []
+is_listed rows i row lt is next = listed_more rows i row lt is ∙ ap (λ b. if b then snapshotters_of (take i rows) ++ row.key.snapshotter ∷ [] else snapshotters_of (take i rows)) next
 
-pub is_passed : (ns : Text) (rows : List SnapRow) (i : ℕ) (row : SnapRow) → i < length rows → row ≡ get_or rows i row → is_next ns (take i rows) row ≡ false
-    → snapshotters_in ns (take (i + 1) rows) ≡ snapshotters_in ns (take i rows)
-is_passed ns rows i row lt is next = listed_more ns rows i row lt is ∙ ap (λ b. if b then snapshotters_in ns (take i rows) ++ row.key.snapshotter ∷ [] else snapshotters_in ns (take i rows)) next
+pub is_passed : (rows : List SnapRow) (i : ℕ) (row : SnapRow) → i < length rows → row ≡ get_or rows i row → is_next (take i rows) row ≡ false
+    → snapshotters_of (take (i + 1) rows) ≡ snapshotters_of (take i rows)
+is_passed rows i row lt is next = listed_more rows i row lt is ∙ ap (λ b. if b then snapshotters_of (take i rows) ++ row.key.snapshotter ∷ [] else snapshotters_of (take i rows)) next

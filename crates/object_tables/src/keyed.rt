@@ -1,5 +1,5 @@
 //! How rows are found and listed: by the texts of their keys.
-ghost use Rattle.std.specs.Prelude.{◌≡◌, ◌∷◌, [], ◌++◌, map, None, IfOk, OnOk, OnErr, bytes_eq, refl};
+ghost use Rattle.std.specs.Prelude.{◌≡◌, ◌∷◌, [], ◌++◌, map, take, length, None, IfOk, OnOk, OnErr, refl};
 ghost use Rattle.std.specs.Cmp.Lexicographic.{slice_cmp};
 ghost use Rattle.meta_types.specs.Text.{Text, text_cmp};
 ghost use Rattle.meta_types.specs.Keys.{Key};
@@ -25,6 +25,9 @@ pub(crate) trait Keyed: Drop {
     /// The name that the row is listed by.
     ghost name_of: { Self → Text };
 
+    /// The texts of the key behind the namespace.
+    ghost rest_of: { Self → Key };
+
     /// Where the row stands to a key.
     fn order(&self, key: &[&str]) -> Ordering
         ensures { result ≡ slice_cmp text_cmp (key_of self.now) (map (λ s. s.now) key.now) };
@@ -33,9 +36,10 @@ pub(crate) trait Keyed: Drop {
     fn order_of(&self, other: &Self) -> Ordering
         ensures { result ≡ slice_cmp text_cmp (key_of self.now) (key_of other.now) };
 
-    /// Whether the row is of the namespace.
-    fn is_of(&self, ns: &ShortName) -> bool
-        ensures { result ≡ bytes_eq ns.now (ns_of self.now) };
+    /// Where the row's first texts stand to as many.
+    fn order_lead(&self, lead: &[&str]) -> Ordering
+        ensures { result ≡ slice_cmp text_cmp (take (length lead.now) (key_of self.now)) (map
+            (λ s. s.now) lead.now) };
 
     /// Another of the same row.
     fn copy_row(&self, alloc: Global) -> Result<Self, Fault>
@@ -46,6 +50,9 @@ pub(crate) trait Keyed: Drop {
     fn list_in(&self, names: &mut Listing) -> Result<(), Fault>
         ensures fault { Refuses result None }
         ensures ok { OnOk result (names.new ≡ names.old ++ name_of self.now ∷ []) };
+
+    /// A key begins with the namespace.
+    ghost leads: { (row : Self) → key_of row ≡ ns_of row ∷ rest_of row };
 }
 
 /// A row with labels.
@@ -76,12 +83,25 @@ fn order_texts<'x>(left: &'x [&'x str], right: &'x [&'x str]) -> Ordering
     Ord::cmp(&left, &right)
 }
 
+// The first texts of a key, to as many.
+fn order_first<'x>(key: &'x [&'x str], lead: &'x [&'x str]) -> Ordering
+    ensures { result ≡ slice_cmp text_cmp (take (length lead.now) (map (λ s. s.now) key.now)) (map
+        (λ s. s.now) lead.now) }
+{
+    if key.len() < lead.len() {
+        return order_texts(key, lead);
+    }
+    order_texts(&key[..lead.len()], lead)
+}
+
 impl Keyed for ShortName {
     ghost key_of = { namespace_key };
 
     ghost ns_of = { λ ns. ns };
 
     ghost name_of = { λ ns. ns };
+
+    ghost rest_of = { λ ns. [] };
 
     fn order(&self, key: &[&str]) -> Ordering {
         order_texts(&[self.text()], key)
@@ -91,8 +111,8 @@ impl Keyed for ShortName {
         self.order(&[other.text()])
     }
 
-    fn is_of(&self, ns: &ShortName) -> bool {
-        ns == self
+    fn order_lead(&self, lead: &[&str]) -> Ordering {
+        order_first(&[self.text()], lead)
     }
 
     fn copy_row(&self, _alloc: Global) -> Result<ShortName, Fault> {
@@ -102,6 +122,8 @@ impl Keyed for ShortName {
     fn list_in(&self, names: &mut Listing) -> Result<(), Fault> {
         names.push_short_name(self)
     }
+
+    ghost leads = { λ row. refl };
 }
 
 impl Keyed for ImageRow {
@@ -111,6 +133,8 @@ impl Keyed for ImageRow {
 
     ghost name_of = { λ row. row.name };
 
+    ghost rest_of = { λ row. row.name ∷ [] };
+
     fn order(&self, key: &[&str]) -> Ordering {
         order_texts(&[self.ns.text(), self.name.text()], key)
     }
@@ -119,8 +143,8 @@ impl Keyed for ImageRow {
         self.order(&[other.ns.text(), other.name.text()])
     }
 
-    fn is_of(&self, ns: &ShortName) -> bool {
-        *ns == self.ns
+    fn order_lead(&self, lead: &[&str]) -> Ordering {
+        order_first(&[self.ns.text(), self.name.text()], lead)
     }
 
     fn copy_row(&self, alloc: Global) -> Result<ImageRow, Fault> {
@@ -130,6 +154,8 @@ impl Keyed for ImageRow {
     fn list_in(&self, names: &mut Listing) -> Result<(), Fault> {
         names.push_name(&self.name)
     }
+
+    ghost leads = { λ row. refl };
 }
 
 impl Keyed for ContainerRow {
@@ -139,6 +165,8 @@ impl Keyed for ContainerRow {
 
     ghost name_of = { λ row. row.name };
 
+    ghost rest_of = { λ row. row.name ∷ [] };
+
     fn order(&self, key: &[&str]) -> Ordering {
         order_texts(&[self.ns.text(), self.name.text()], key)
     }
@@ -147,8 +175,8 @@ impl Keyed for ContainerRow {
         self.order(&[other.ns.text(), other.name.text()])
     }
 
-    fn is_of(&self, ns: &ShortName) -> bool {
-        *ns == self.ns
+    fn order_lead(&self, lead: &[&str]) -> Ordering {
+        order_first(&[self.ns.text(), self.name.text()], lead)
     }
 
     fn copy_row(&self, alloc: Global) -> Result<ContainerRow, Fault> {
@@ -158,6 +186,8 @@ impl Keyed for ContainerRow {
     fn list_in(&self, names: &mut Listing) -> Result<(), Fault> {
         names.push_name(&self.name)
     }
+
+    ghost leads = { λ row. refl };
 }
 
 impl Keyed for ContentRow {
@@ -167,6 +197,8 @@ impl Keyed for ContentRow {
 
     ghost name_of = { λ row. row.digest };
 
+    ghost rest_of = { λ row. row.digest ∷ [] };
+
     fn order(&self, key: &[&str]) -> Ordering {
         order_texts(&[self.ns.text(), self.digest.text()], key)
     }
@@ -175,8 +207,8 @@ impl Keyed for ContentRow {
         self.order(&[other.ns.text(), other.digest.text()])
     }
 
-    fn is_of(&self, ns: &ShortName) -> bool {
-        *ns == self.ns
+    fn order_lead(&self, lead: &[&str]) -> Ordering {
+        order_first(&[self.ns.text(), self.digest.text()], lead)
     }
 
     fn copy_row(&self, alloc: Global) -> Result<ContentRow, Fault> {
@@ -186,6 +218,8 @@ impl Keyed for ContentRow {
     fn list_in(&self, names: &mut Listing) -> Result<(), Fault> {
         names.push_digest(&self.digest)
     }
+
+    ghost leads = { λ row. refl };
 }
 
 impl Keyed for IngestRow {
@@ -195,6 +229,8 @@ impl Keyed for IngestRow {
 
     ghost name_of = { λ row. row.name };
 
+    ghost rest_of = { λ row. row.name ∷ [] };
+
     fn order(&self, key: &[&str]) -> Ordering {
         order_texts(&[self.ns.text(), self.name.text()], key)
     }
@@ -203,8 +239,8 @@ impl Keyed for IngestRow {
         self.order(&[other.ns.text(), other.name.text()])
     }
 
-    fn is_of(&self, ns: &ShortName) -> bool {
-        *ns == self.ns
+    fn order_lead(&self, lead: &[&str]) -> Ordering {
+        order_first(&[self.ns.text(), self.name.text()], lead)
     }
 
     fn copy_row(&self, _alloc: Global) -> Result<IngestRow, Fault> {
@@ -214,6 +250,8 @@ impl Keyed for IngestRow {
     fn list_in(&self, names: &mut Listing) -> Result<(), Fault> {
         names.push_name(&self.name)
     }
+
+    ghost leads = { λ row. refl };
 }
 
 impl Keyed for SnapRow {
@@ -222,6 +260,8 @@ impl Keyed for SnapRow {
     ghost ns_of = { λ row. row.key.ns };
 
     ghost name_of = { λ row. row.key.name };
+
+    ghost rest_of = { λ row. row.key.snapshotter ∷ row.key.name ∷ [] };
 
     fn order(&self, key: &[&str]) -> Ordering {
         order_texts(
@@ -242,8 +282,15 @@ impl Keyed for SnapRow {
         ])
     }
 
-    fn is_of(&self, ns: &ShortName) -> bool {
-        *ns == self.key.ns
+    fn order_lead(&self, lead: &[&str]) -> Ordering {
+        order_first(
+            &[
+                self.key.ns.text(),
+                self.key.snapshotter.text(),
+                self.key.name.text(),
+            ],
+            lead,
+        )
     }
 
     fn copy_row(&self, alloc: Global) -> Result<SnapRow, Fault> {
@@ -253,6 +300,8 @@ impl Keyed for SnapRow {
     fn list_in(&self, names: &mut Listing) -> Result<(), Fault> {
         names.push_name(&self.key.name)
     }
+
+    ghost leads = { λ row. refl };
 }
 
 impl Labelled for ImageRow {

@@ -7,6 +7,7 @@ mod images;
 mod ingests;
 mod keyed;
 mod snapshots;
+mod span;
 mod table;
 mod tables;
 #[cfg(test)]

@@ -1,7 +1,7 @@
 //! Snapshots, each over a committed parent or none.
-ghost use Rattle.std.specs.Prelude.{◌≡◌, ◌∷◌, [], map, false, None, IfOk, OnOk, OnErr, option_copied, length, IsTrue, bytes_eq, ◌&&◌, not};
+ghost use Rattle.std.specs.Prelude.{◌≡◌, ◌∷◌, [], map, false, None, IfOk, OnOk, OnErr, option_copied, length, IsTrue, bytes_eq, not, filter};
 ghost use Rattle.std.specs.Option.{option_map_or};
-ghost use Rattle.std.specs.List.{list_any};
+ghost use Rattle.std.specs.List.{list_any, dedup};
 ghost use Rattle.std.specs.List.Sorted.{IsStrictlySortedBy};
 ghost use Rattle.meta_types.specs.Text.{text_cmp};
 ghost use Rattle.meta_types.specs.Keys.{row_at, has_row, add_row, change_row, are_in_order};
@@ -13,6 +13,7 @@ ghost use Rattle.meta_types.specs.Changes.{has_namespace};
 ghost use Rattle.meta_types.specs.declared.rows.SnapKind.TheVariants.{Committed};
 ghost use Rattle.object_tables.specs.Calls.{adding_snap_fault, removing_snap_fault, committing_fault, without_snap, labelling_fault, missing_fault, children_of, kept, snapshotters_in};
 
+use crate::table::all_names_of;
 use crate::tables::Tables;
 use meta_types::{Fault, Labels, Listing, Name, ShortName, SnapKey, SnapKind, SnapRow};
 use std::alloc::Global;
@@ -145,12 +146,19 @@ impl Tables {
         if !self.has_snap(key) {
             return Err(Fault::NotFound);
         }
-        if has_children(self.snapshots.rows(), key) {
+        if self.is_parent(key) {
             return Err(Fault::FailedPrecondition);
         }
         self.snapshots
             .remove(&[key.ns.text(), key.snapshotter.text(), key.name.text()]);
         Ok(())
+    }
+
+    fn is_parent(&self, key: &SnapKey) -> bool
+        ensures { result ≡ list_any (is_child_of key.now.ns key.now.snapshotter key.now.name)
+            self.now.snapshots }
+    {
+        has_children(self.snapshots.rows_of(&key.ns, &key.snapshotter), &key.name)
     }
 
     /// Commits an active snapshot under a name that none has, with its parent and its number.
@@ -186,7 +194,8 @@ impl Tables {
         ensures ok { IfOk result (λ keys. keys.items
             ≡ children_of key.now.ns key.now.snapshotter key.now.name self.now.snapshots) }
     {
-        children_in(self.snapshots.rows(), alloc, key)
+        let rows = self.snapshots.rows_of(&key.ns, &key.snapshotter);
+        children_in(rows, alloc, &key.name)
     }
 
     /// The names of a snapshotter's snapshots in a namespace, by their bytes.
@@ -203,7 +212,7 @@ impl Tables {
         if !self.has_ns(ns) {
             return Err(Fault::NotFound);
         }
-        snapshots_of(self.snapshots.rows(), alloc, ns, snapshotter)
+        all_names_of(self.snapshots.rows_of(ns, snapshotter), alloc)
     }
 
     /// The snapshotters that have a snapshot in a namespace, each once, by their bytes.
@@ -215,7 +224,7 @@ impl Tables {
         if !self.has_ns(ns) {
             return Err(Fault::NotFound);
         }
-        snapshotters_of(self.snapshots.rows(), alloc, ns)
+        snapshotters_of(self.snapshots.rows_in(ns), alloc)
     }
 
     /// Leaves the rows whose places are marked. It takes no memory.
@@ -227,37 +236,36 @@ impl Tables {
     }
 }
 
-fn is_child(row: &SnapRow, key: &SnapKey) -> bool
-    ensures { result ≡ is_child_of key.now.ns key.now.snapshotter key.now.name row.now }
+fn is_child(row: &SnapRow, name: &Name) -> bool
+    ensures { result ≡ option_map_or (bytes_eq name.now) row.now.parent false }
 {
-    if key.ns != row.key.ns || key.snapshotter != row.key.snapshotter {
-        return false;
-    }
     match &row.parent {
-        Some(parent) => key.name == *parent,
+        Some(parent) => name == parent,
         None => false,
     }
 }
 
-fn has_children(rows: &[SnapRow], key: &SnapKey) -> bool
-    ensures { result ≡ list_any (is_child_of key.now.ns key.now.snapshotter key.now.name) rows.now }
+fn has_children(rows: &[SnapRow], name: &Name) -> bool
+    ensures { result
+        ≡ list_any (λ row. option_map_or (bytes_eq name.now) row.parent false) rows.now }
 {
     for row in rows {
-        if is_child(row, key) {
+        if is_child(row, name) {
             return true;
         }
     }
     false
 }
 
-fn children_in(rows: &[SnapRow], alloc: Global, key: &SnapKey) -> Result<Vec<SnapKey>, Fault>
+fn children_in(rows: &[SnapRow], alloc: Global, name: &Name) -> Result<Vec<SnapKey>, Fault>
     ensures fault { Refuses result None }
     ensures ok { IfOk result (λ keys. keys.items
-        ≡ children_of key.now.ns key.now.snapshotter key.now.name rows.now) }
+        ≡ map (λ row. row.key) (filter (λ row. option_map_or (bytes_eq name.now) row.parent false)
+        rows.now)) }
 {
     let mut keys = Vec::new(alloc);
     for row in rows {
-        if is_child(row, key) {
+        if is_child(row, name) {
             let copy = row.key.copy()?;
             keys.push(copy)?;
         }
@@ -265,32 +273,15 @@ fn children_in(rows: &[SnapRow], alloc: Global, key: &SnapKey) -> Result<Vec<Sna
     Ok(keys)
 }
 
-fn snapshots_of(
-    rows: &[SnapRow],
-    alloc: Global,
-    ns: &ShortName,
-    snapshotter: &ShortName,
-) -> Result<Listing, Fault>
+fn snapshotters_of(rows: &[SnapRow], alloc: Global) -> Result<Listing, Fault>
     ensures fault { Refuses result None }
-    ensures ok { IfOk result (λ names. names ≡ snapshots_in ns.now snapshotter.now rows.now) }
-{
-    let mut names = Listing::new(alloc);
-    for row in rows {
-        if *ns == row.key.ns && *snapshotter == row.key.snapshotter {
-            names.push_name(&row.key.name)?;
-        }
-    }
-    Ok(names)
-}
-
-fn snapshotters_of(rows: &[SnapRow], alloc: Global, ns: &ShortName) -> Result<Listing, Fault>
-    ensures fault { Refuses result None }
-    ensures ok { IfOk result (λ names. names ≡ snapshotters_in ns.now rows.now) }
+    ensures ok { IfOk result (λ names. names
+        ≡ dedup bytes_eq (map (λ row. row.key.snapshotter) rows.now)) }
 {
     let mut names = Listing::new(alloc);
     let mut last = None;
     for row in rows {
-        if is_next(last, ns, row) {
+        if is_next(last, row) {
             names.push_short_name(&row.key.snapshotter)?;
             last = Some(&row.key.snapshotter);
         }
@@ -298,14 +289,11 @@ fn snapshotters_of(rows: &[SnapRow], alloc: Global, ns: &ShortName) -> Result<Li
     Ok(names)
 }
 
-// Whether the row is of the namespace, and its snapshotter another than the last.
-fn is_next(last: Option<&ShortName>, ns: &ShortName, row: &SnapRow) -> bool
-    ensures { result ≡ (bytes_eq ns.now row.now.key.ns && not (option_map_or (bytes_eq
-        row.now.key.snapshotter) (option_copied last.entry) false)) }
+// Whether the row's snapshotter is another than the last.
+fn is_next(last: Option<&ShortName>, row: &SnapRow) -> bool
+    ensures { result ≡ not (option_map_or (bytes_eq row.now.key.snapshotter) (option_copied
+        last.entry) false) }
 {
-    if *ns != row.key.ns {
-        return false;
-    }
     match last {
         Some(last) => row.key.snapshotter != *last,
         None => true,

@@ -1,5 +1,5 @@
 //! Rows of one kind, in the order of their keys.
-ghost use Rattle.std.specs.Prelude.{◌≡◌, ◌∷◌, [], map, Some, None, IfOk, IfErr, OnOk, OnErr, IsTrue, false, is_ok, length, option_copied, bytes_eq};
+ghost use Rattle.std.specs.Prelude.{◌≡◌, ◌∷◌, [], map, Some, None, IfOk, IfErr, OnOk, OnErr, IsTrue, false, is_ok, length, option_copied, bytes_eq, filter, ◌&&◌};
 ghost use Rattle.std.specs.Bool.{OnFalse};
 ghost use Rattle.std.specs.List.{position, position_or_len, list_any};
 ghost use Rattle.std.specs.Cmp.Lexicographic.{slice_cmp};
@@ -12,7 +12,8 @@ ghost use Rattle.meta_types.specs.Outcomes.{names_in};
 ghost use Rattle.object_tables.specs.Calls.{labelling_fault, kept};
 
 use crate::keyed::{Keyed, Labelled};
-use meta_types::{Digest, Fault, ImageRow, Listing, ShortName};
+use crate::span::{in_namespace, of_snapshotter};
+use meta_types::{Digest, Fault, ImageRow, Listing, ShortName, SnapRow};
 use std::alloc::Global;
 use std::cmp::Ordering;
 use std::marker::Model;
@@ -96,14 +97,22 @@ impl<R: Keyed> Table<R> {
     pub(crate) fn any_in(&self, ns: &ShortName) -> bool
         ensures { result ≡ list_any (λ row. bytes_eq ns.now (R.ns_of row)) self.now }
     {
-        any_row_in(&self.rows, ns)
+        !in_namespace(&self.rows, ns).is_empty()
     }
 
     pub(crate) fn names(&self, alloc: Global, ns: &ShortName) -> Result<Listing, Fault>
         ensures fault { Refuses result None }
         ensures ok { IfOk result (λ names. names ≡ names_in R.ns_of R.name_of ns.now self.now) }
     {
-        names_of(&self.rows, alloc, ns)
+        all_names_of(in_namespace(&self.rows, ns), alloc)
+    }
+
+    /// The rows of a namespace.
+    pub(crate) fn rows_in(&self, ns: &ShortName) -> &[R]
+        ensures rows { result.now ≡ filter (λ row. bytes_eq ns.now (R.ns_of row)) self.now }
+        ensures order { IsTrue (are_in_order R.key_of self.now) }
+    {
+        in_namespace(&self.rows, ns)
     }
 
     pub(crate) fn all_names(&self, alloc: Global) -> Result<Listing, Fault>
@@ -155,6 +164,16 @@ impl Table<ImageRow> {
         ensures same { OnFalse result (self.new ≡ self.old) }
     {
         target_row(&mut self.rows, at, target)
+    }
+}
+
+impl Table<SnapRow> {
+    /// The rows of a snapshotter in a namespace.
+    pub(crate) fn rows_of(&self, ns: &ShortName, snapshotter: &ShortName) -> &[SnapRow]
+        ensures { result.now ≡ filter (λ row. bytes_eq ns.now row.key.ns
+            && bytes_eq snapshotter.now row.key.snapshotter) self.now }
+    {
+        of_snapshotter(&self.rows, ns, snapshotter)
     }
 }
 
@@ -236,31 +255,7 @@ fn copy_rows<R: Keyed>(rows: &[R], alloc: Global) -> Result<Vec<R>, Fault>
     Ok(copies)
 }
 
-fn any_row_in<R: Keyed>(rows: &[R], ns: &ShortName) -> bool
-    ensures { result ≡ list_any (λ row. bytes_eq ns.now (R.ns_of row)) rows.now }
-{
-    for row in rows {
-        if row.is_of(ns) {
-            return true;
-        }
-    }
-    false
-}
-
-fn names_of<R: Keyed>(rows: &[R], alloc: Global, ns: &ShortName) -> Result<Listing, Fault>
-    ensures fault { Refuses result None }
-    ensures ok { IfOk result (λ names. names ≡ names_in R.ns_of R.name_of ns.now rows.now) }
-{
-    let mut names = Listing::new(alloc);
-    for row in rows {
-        if row.is_of(ns) {
-            row.list_in(&mut names)?;
-        }
-    }
-    Ok(names)
-}
-
-fn all_names_of<R: Keyed>(rows: &[R], alloc: Global) -> Result<Listing, Fault>
+pub(crate) fn all_names_of<R: Keyed>(rows: &[R], alloc: Global) -> Result<Listing, Fault>
     ensures fault { Refuses result None }
     ensures ok { IfOk result (λ names. names ≡ map R.name_of rows.now) }
 {

@@ -1,4 +1,4 @@
-use Rattle.std.proofs.Common.{◌≡◌, ◌∷◌, [], ◌++◌, None, false, bytes_eq, ◌&&◌, not, take, ap, sym, ◌∙◌}
+use Rattle.std.proofs.Common.{◌≡◌, ◌∷◌, [], ◌++◌, None, false, bytes_eq, not, take, ap, sym, ◌∙◌}
 use Rattle.std.specs.Option.{option_map_or}
 use Rattle.std.specs.List.{last_or}
 use Rattle.object_tables.proofs.Snapshotters.{is_next, is_listed, is_passed, last_push}
@@ -8,20 +8,19 @@ use Rattle.object_tables.proofs.snapshots.snapshotters_of.Goals.{then-is_next+in
 -- a snapshotter is listed at its first row
 pub loop-row-preserved : goal.loop-row-preserved
 loop-row-preserved c =
-    let ns = c.args.ns.now in
     let rows = c.args.rows.now in
     let row = c.row-item.result in
     let before = c.loop-row.invariant in
-    let next : c.is_next.result ≡ is_next ns (take c.loop-row.row-index rows) row = c.is_next.ensures
-    ∙ ap (λ o. bytes_eq ns row.key.ns && not (option_map_or (bytes_eq row.key.snapshotter) o false)) (before.last ∙ ap (last_or None) before.names) in
+    let next : c.is_next.result ≡ is_next (take c.loop-row.row-index rows) row = c.is_next.ensures
+    ∙ ap (λ o. not (option_map_or (bytes_eq row.key.snapshotter) o false)) (before.last ∙ ap (last_or None) before.names) in
     elim c.if-is_next.branch [
       | then-is_next+in_ok-push_short_name w ↦ rw (w.names-is, w.last-is) (record {
         names = w.in_ok-push_short_name.ensures.ok ∙ ap (λ l. l ++ row.key.snapshotter ∷ []) before.names
-            ∙ sym (is_listed ns rows c.loop-row.row-index row c.loop-row-test.true c.row-item.is (sym next ∙ w.if-is_next.true));
+            ∙ sym (is_listed rows c.loop-row.row-index row c.loop-row-test.true c.row-item.is (sym next ∙ w.if-is_next.true));
         last = last_push None c.loop-row.names row.key.snapshotter ∙ ap (last_or None) (sym w.in_ok-push_short_name.ensures.ok);
       })
       | else-is_next w ↦ rw (w.names-is, w.last-is) (record {
-        names = before.names ∙ sym (is_passed ns rows c.loop-row.row-index row c.loop-row-test.true c.row-item.is (sym next ∙ w.if-is_next.false));
+        names = before.names ∙ sym (is_passed rows c.loop-row.row-index row c.loop-row-test.true c.row-item.is (sym next ∙ w.if-is_next.false));
         last = before.last;
       })
     ]

@@ -1,0 +1,52 @@
+//! Rows whose keys begin alike stand side by side, and are found by halving.
+ghost use Rattle.std.specs.Prelude.{◌≡◌, ◌∷◌, [], ◌&&◌, map, take, length, filter, bytes_eq, IsTrue};
+ghost use Rattle.std.specs.Cmp.Lexicographic.{slice_cmp};
+ghost use Rattle.std.specs.Ordering.{is_lt, is_le};
+ghost use Rattle.meta_types.specs.Text.{text_cmp};
+ghost use Rattle.meta_types.specs.Keys.{is_key, are_in_order};
+ghost use Rattle.meta_types.specs.Rows.{snap_key};
+
+use crate::keyed::Keyed;
+use meta_types::{ShortName, SnapRow};
+
+/// The rows of a namespace.
+pub(crate) fn in_namespace<'a, R: Keyed>(rows: &'a [R], ns: &ShortName) -> &'a [R]
+    requires { IsTrue (are_in_order R.key_of rows.now) }
+    ensures { result.now ≡ filter (λ row. bytes_eq ns.now (R.ns_of row)) rows.now }
+{
+    begin_with(rows, &[ns.text()])
+}
+
+/// The snapshots of a snapshotter in a namespace.
+pub(crate) fn of_snapshotter<'a>(
+    rows: &'a [SnapRow],
+    ns: &ShortName,
+    snapshotter: &ShortName,
+) -> &'a [SnapRow]
+    requires { IsTrue (are_in_order snap_key rows.now) }
+    ensures { result.now ≡ filter (λ row. bytes_eq ns.now row.key.ns
+        && bytes_eq snapshotter.now row.key.snapshotter) rows.now }
+{
+    begin_with(rows, &[ns.text(), snapshotter.text()])
+}
+
+// The rows whose keys begin with some texts.
+fn begin_with<'a, R: Keyed>(rows: &'a [R], lead: &[&str]) -> &'a [R]
+    requires { IsTrue (are_in_order R.key_of rows.now) }
+    ensures { result.now ≡ filter (λ row. is_key (map (λ s. s.now) lead.now)
+        (take (length lead.now) (R.key_of row))) rows.now }
+{
+    let begin = rows.partition_point(
+        |row: &R| -> bool
+            ensures { result ≡ is_lt (slice_cmp text_cmp (take (length lead.entry.now)
+                (R.key_of row.now)) (map (λ s. s.now) lead.entry.now)) }
+        { row.order_lead(lead).is_lt() },
+    );
+    let end = rows.partition_point(
+        |row: &R| -> bool
+            ensures { result ≡ is_le (slice_cmp text_cmp (take (length lead.entry.now)
+                (R.key_of row.now)) (map (λ s. s.now) lead.entry.now)) }
+        { row.order_lead(lead).is_le() },
+    );
+    &rows[begin..end]
+}
