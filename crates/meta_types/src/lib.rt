@@ -1,6 +1,7 @@
 //! Names, digests, labels, moments, faults and rows; and all definitions, with their laws.
 #![tactic(auto)]
 
+mod copies;
 mod digest;
 mod fault;
 mod instant;
@@ -15,6 +16,8 @@ mod rows;
 mod short_name;
 #[cfg(test)]
 mod tests;
+#[cfg(test)]
+mod tests_copies;
 #[cfg(test)]
 mod tests_labels;
 #[cfg(test)]

@@ -46,6 +46,15 @@ impl Listing {
         &self.names
     }
 
+    /// Another of the same names, which share their texts.
+    pub fn copy(&self, alloc: Global) -> Result<Listing, Fault>
+        ensures fault { Refuses result None }
+        ensures ok { IfOk result (λ names. names ≡ self.now) }
+    {
+        let names = Vec::from_clones(alloc, self.texts())?;
+        Ok(Listing { names })
+    }
+
     fn push(&mut self, text: ArcStr) -> Result<(), Fault>
         ensures fault { Refuses result None }
         ensures ok { OnOk result (self.new ≡ self.old ++ arc_str_bytes text ∷ []) }
@@ -109,12 +118,33 @@ impl Holdings {
         Holdings { resources }
     }
 
+    /// Another of the same resources.
+    pub fn copy(&self, alloc: Global) -> Result<Holdings, Fault>
+        ensures fault { Refuses result None }
+        ensures ok { IfOk result (λ holdings. holdings ≡ self.now) }
+    {
+        let resources = copies_of(alloc, self.resources())?;
+        Ok(Holdings::new(resources))
+    }
+
     /// The resources.
     pub fn resources(&self) -> &[Resource]
         ensures { result.now ≡ self.now }
     {
         &self.resources
     }
+}
+
+fn copies_of(alloc: Global, resources: &[Resource]) -> Result<Vec<Resource>, Fault>
+    ensures fault { Refuses result None }
+    ensures ok { IfOk result (λ copies. copies.items ≡ resources.now) }
+{
+    let mut copies = Vec::with_capacity(alloc, resources.len())?;
+    for resource in resources {
+        let copy = resource.copy()?;
+        copies.push(copy)?;
+    }
+    Ok(copies)
 }
 
 /// A row that was asked for; of a lease its id and its labels.

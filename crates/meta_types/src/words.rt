@@ -70,6 +70,15 @@ impl Pairs {
         Pairs { entries }
     }
 
+    /// Others of the same texts.
+    pub fn copy(&self, alloc: Global) -> Result<Pairs, Fault>
+        ensures fault { Refuses result None }
+        ensures ok { IfOk result (λ pairs. pairs ≡ self.now) }
+    {
+        let entries = Vec::from_clones(alloc, self.entries())?;
+        Ok(Pairs::new(entries))
+    }
+
     /// The keys and values as they came.
     pub fn entries(&self) -> &[(String, String)]
         ensures { texts_of result.now ≡ self.now }
