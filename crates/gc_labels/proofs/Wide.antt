@@ -34,3 +34,8 @@ wide day nanosecond offset d n o =
     = (λ i. to_z w128 (of_z w128 (days_is i +ℤ nanosecond_is i))) ∙ to_z-of_z w128 (day *ℤ pos 86400000000000 +ℤ pos nanosecond) (wide_moment day nanosecond d n) in
     let offset_is = to_z-of_z w128 offset (wide_offset offset o) in
     (λ i. to_z w128 (of_z w128 (moment_is i -ℤ offset_is i))) ∙ to_z-of_z w128 (day *ℤ pos 86400000000000 +ℤ pos nanosecond -ℤ offset) (wide_whole day nanosecond offset d n o)
+
+-- and a day more doesn't either
+pub wide_later : (day : ℤ) (nanosecond : ℕ) (offset : ℤ) → FitsSigned w32 day → nanosecond < 2 ^ 64 → FitsSigned w64 offset
+    → FitsSigned w128 (day *ℤ pos 86400000000000 +ℤ pos nanosecond -ℤ offset +ℤ pos 86400000000000)
+wide_later day nanosecond offset h n o = omega (arith, signed_arith)

@@ -1,15 +1,18 @@
 //! Moments as texts.
-ghost use Rattle.std.specs.Prelude.{◌≡◌, ◌≤◌, ◌<◌, length, option_map, IfSome, pos, ◌+ℤ◌, ◌-ℤ◌, ◌*ℤ◌};
+ghost use Rattle.std.specs.Prelude.{◌≡◌, ◌≤◌, ◌<◌, length, option_map, IfSome, FitsSigned, pos, ◌+ℤ◌, ◌-ℤ◌, ◌*ℤ◌};
 ghost use Rattle.meta_types.specs.Time.{number_at, fraction_in, zone_in, has_fraction, fraction_of, offset_of, instant_of};
+ghost use Rattle.std.specs.Int.{w128};
 ghost use Rattle.gc_labels.specs.Dates.{day_in, second_in, place_in};
 
 use crate::dates::day_number;
 use crate::digits::{digits_in_front, has_form, number, number_at};
 use meta_types::Instant;
 
-/// The moment that a text names (RFC 3339, 5.6, in the years 0000 to 9998).
+/// The moment that a text names (RFC 3339, 5.6, in the years 0000 to 9998). A day more fits too.
 pub fn read_instant(text: &str) -> Option<Instant>
-    ensures { option_map (λ instant. instant.0) result ≡ instant_of text.now }
+    ensures moment { option_map (λ instant. instant.0) result ≡ instant_of text.now }
+    ensures wide { IfSome result (λ instant.
+        FitsSigned w128 (instant.0 +ℤ pos 86400000000000)) }
 {
     let bytes = text.as_bytes();
     let (day, nanosecond) = place_in(bytes)?;
@@ -19,7 +22,8 @@ pub fn read_instant(text: &str) -> Option<Instant>
 
 // The moment at a nanosecond of a day, where clocks are ahead by the offset.
 fn moment(day: i32, nanosecond: u64, offset: i64) -> i128
-    ensures { result ≡ (day *ℤ pos 86400000000000) +ℤ pos nanosecond -ℤ offset }
+    ensures moment { result ≡ (day *ℤ pos 86400000000000) +ℤ pos nanosecond -ℤ offset }
+    ensures wide { FitsSigned w128 (result +ℤ pos 86400000000000) }
 {
     i128::from(day) * 86_400_000_000_000 + i128::from(nanosecond) - i128::from(offset)
 }
