@@ -6,3 +6,4 @@ pub mod Places
 pub mod Listed
 pub mod Making
 pub mod Known
+pub mod Named

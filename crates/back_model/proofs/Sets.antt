@@ -85,7 +85,7 @@ less_number false true = refl
 less_number false false = refl
 
 module _ (number : ℕ) where
-  equal_number : (x : ℕ) → is_eq (nat_cmp number x) ≡ (x == number)
+  pub equal_number : (x : ℕ) → is_eq (nat_cmp number x) ≡ (x == number)
   equal_number x = unsigned_tied number x ∙ nat_eq_equiv.symm number x
 
   below_number : (x : ℕ) → is_lt (nat_cmp number x) ≡ nat_lt number x

@@ -1,5 +1,8 @@
 //! The backends of a store.
-ghost use Rattle.std.specs.Prelude.{◌≡◌, ◌+◌, [], map, IfOk, OnOk, OnErr, None, option_map};
+ghost use Rattle.std.specs.Prelude.{◌≡◌, ◌+◌, [], map, IfOk, OnOk, OnErr, None, true, option_map};
+ghost use Rattle.std.specs.List.{list_any};
+ghost use Rattle.std.specs.Option.{option_map_or};
+ghost use Rattle.meta_types.specs.Backends.{is_named};
 ghost use Rattle.meta_types.specs.Faults.{Refuses};
 ghost use Rattle.meta_types.specs.Keys.{put_in_order};
 ghost use Rattle.meta_types.specs.Changes.{stands_before};
@@ -73,6 +76,10 @@ impl<S: SnapBackend, B: BlobBackend, I: IngestBackend> Backends<S, B, I> {
     ) -> Result<(), MakeFault>
         ensures fault { Makes result (is_held (snaps_at snapshotter.now self.old.shards) number)
             (is_parent_held (snaps_at snapshotter.now self.old.shards) parent) }
+        ensures named { Makes result
+            (list_any (is_named (snapshotter.now, number)) (all_snaps self.old.shards))
+            (option_map_or (λ above. list_any (is_named (snapshotter.now, above))
+            (all_snaps self.old.shards)) parent true) }
         ensures ok { OnOk result (self.new.shards ≡ put_shard
             (shard_after result snapshotter.now self.old.shards number parent) self.old.shards) }
         ensures listed { OnOk result (all_snaps self.new.shards ≡ put_in_order stands_before

@@ -126,6 +126,7 @@ impl<S: SnapBackend> Shards<S> {
             (back_snap snapshotter.now (number, parent)) (all_snaps self.old)) }
         ensures err { OnErr result (all_snaps self.new ≡ all_snaps self.old) }
         ensures fails { all_failures self.new ≡ all_failures self.old + make_fails result }
+        ensures order { AreApart self.old }
     {
         if self.get(snapshotter).is_some() {
             return self.make_there(alloc, snapshotter, number, parent);
