@@ -12,5 +12,7 @@ mod table;
 mod tables;
 #[cfg(test)]
 mod tests;
+#[cfg(test)]
+mod tests_snapshots;
 
 pub use tables::{Counts, Tables};

@@ -1,5 +1,5 @@
 //! Snapshots, each over a committed parent or none.
-ghost use Rattle.std.specs.Prelude.{◌≡◌, ◌∷◌, [], map, false, None, IfOk, OnOk, OnErr, option_copied, length, IsTrue, bytes_eq, not, filter};
+ghost use Rattle.std.specs.Prelude.{◌≡◌, ◌∷◌, [], map, false, None, IfOk, OnOk, OnErr, option_copied, option_map, length, IsTrue, bytes_eq, not, filter};
 ghost use Rattle.std.specs.Option.{option_map_or};
 ghost use Rattle.std.specs.List.{list_any, dedup};
 ghost use Rattle.std.specs.List.Sorted.{IsStrictlySortedBy};
@@ -8,7 +8,7 @@ ghost use Rattle.meta_types.specs.Keys.{row_at, has_row, add_row, change_row, ar
 ghost use Rattle.meta_types.specs.Labels.{put_label};
 ghost use Rattle.meta_types.specs.Rows.{snap_key};
 ghost use Rattle.meta_types.specs.Faults.{Refuses, OnlyRefuses};
-ghost use Rattle.meta_types.specs.SnapshotOps.{is_child_of, committed, snapshots_in};
+ghost use Rattle.meta_types.specs.SnapshotOps.{is_child_of, committed, snapshots_in, parent_row};
 ghost use Rattle.meta_types.specs.Changes.{has_namespace};
 ghost use Rattle.meta_types.specs.declared.rows.SnapKind.TheVariants.{Committed};
 ghost use Rattle.object_tables.specs.Calls.{adding_snap_fault, removing_snap_fault, committing_fault, without_snap, labelling_fault, missing_fault, children_of, kept, snapshotters_in};
@@ -82,8 +82,8 @@ impl Tables {
         self.snapshots.add(row)
     }
 
-    // What would refuse a snapshot, but memory.
-    fn check_add(&self, row: &SnapRow) -> Result<(), Fault>
+    /// What would refuse a snapshot, but memory.
+    pub fn check_add(&self, row: &SnapRow) -> Result<(), Fault>
         ensures fault { OnlyRefuses result (adding_snap_fault self.now row.now) }
         ensures free { OnOk result (has_row snap_key (snap_key row.now) self.now.snapshots
             ≡ false) }
@@ -108,6 +108,23 @@ impl Tables {
             return Err(Fault::FailedPrecondition);
         }
         Ok(())
+    }
+
+    /// The backend number of the parent that a row names, if it names one that is there.
+    pub fn parent_number(&self, row: &SnapRow) -> Option<u64>
+        ensures { result ≡ option_map (λ above. above.number) (parent_row self.now.snapshots
+            row.now.key.ns row.now.key.snapshotter row.now.parent) }
+    {
+        match &row.parent {
+            Some(parent) => {
+                let key = &[row.key.ns.text(), row.key.snapshotter.text(), parent.text()];
+                match self.snapshots.get(key) {
+                    Some(above) => Some(above.number),
+                    None => None,
+                }
+            }
+            None => None,
+        }
     }
 
     /// What would refuse a commit, but memory.
