@@ -1,0 +1,152 @@
+-- Requests on content and leases, and the profile, keep a state sound. None of it speaks of code.
+use Rattle.std.proofs.Common.{◌≡◌, ℕ, List, [], ◌∷◌, Option, Some, None, refl}
+use Rattle.std.specs.Prelude.{IsTrue, bytes_eq}
+use Rattle.std.specs.List.{list_any}
+use Rattle.std.specs.Option.{option_map_or}
+use Rattle.std.proofs.lemmas.Bool.{or_parts}
+use Rattle.meta_types.specs.Text.{Text}
+use Rattle.meta_types.specs.Keys.{Key, add_row, remove_row, change_row}
+use Rattle.meta_types.specs.Labels.{labels_of, put_label}
+use Rattle.meta_types.specs.Resources.{resource_key, resource_of, held}
+use Rattle.meta_types.specs.Rows.{State, LeaseRow, content_key, lease_key}
+use Rattle.meta_types.specs.Changes.{with_content, with_blob, put_blob, hold_in, drop_in}
+use Rattle.meta_types.specs.Outcomes.{least_fault}
+use Rattle.meta_types.specs.Requests.{outcome}
+use Rattle.meta_types.specs.Sound.{AreRows, IsSound}
+use Rattle.meta_types.specs.declared.rows.ContentRow.{ContentRow}
+use Rattle.meta_types.specs.declared.resource.Resource.{Resource}
+use Rattle.meta_types.specs.declared.resource.Resource.TheVariants.{Content}
+use Rattle.meta_types.specs.declared.request.Request.TheVariants.{ContentAdd, ContentRemove, ContentLabel, LeaseAdd, LeaseRemove, LeaseLabel, LeaseHold, LeaseDrop, Profile}
+use Rattle.meta_types.proofs.KeepsSound.{all_removed, all_changed, rows_added, rows_removed, rows_changed}
+use Rattle.request_core.proofs.TablesKept.{content_added, content_removed, content_changed}
+use Rattle.request_core.proofs.ListsSound.{none_applies, from_not, sound_content, sound_leases, still_stored, leases_held}
+
+-- ---- content
+
+-- the row's blob is there
+abbrev IsStored : List Text → ContentRow → Type 0
+IsStored blobs row = IsTrue (list_any (bytes_eq row.digest) blobs)
+
+pub after_content_add : (state : State) (ns digest : Text) (labels : List (Text × Text))
+    (lease : Option Text) → IsSound state
+    → least_fault (outcome state (ContentAdd ns digest labels lease)) ≡ None
+    → IsSound (outcome state (ContentAdd ns digest labels lease)).after
+after_content_add state ns digest labels lease s none =
+    let f = none_applies (outcome state (ContentAdd ns digest labels lease)) none in
+    let row : ContentRow = record { ns = ns; digest = digest; labels = labels_of labels } in
+    let rows = state.records.tables.content in
+    let blobs = state.backends.blobs in
+    let grown = sound_content state s (add_row content_key row rows) (put_blob digest blobs)
+    (content_added state.records.tables s.tables row (from_not _ (or_parts _ _ f.1).0) f.2)
+    (still_stored rows row blobs s.stored) in
+    sound_leases (with_blob digest (with_content state (add_row content_key row rows))) grown _
+    (leases_held state.records.tables.namespaces ns lease (Content digest) state.records.leases
+    s.leases)
+
+pub after_content_remove : (state : State) (ns digest : Text) → IsSound state
+    → IsSound (outcome state (ContentRemove ns digest)).after
+after_content_remove state ns digest s =
+    let key : Key = ns ∷ digest ∷ [] in
+    let rows = state.records.tables.content in
+    let blobs = state.backends.blobs in
+    sound_content state s (remove_row content_key key rows) blobs
+    (content_removed state.records.tables s.tables key)
+    (record {
+      held = all_removed content_key (IsStored blobs) key rows s.stored.held;
+      in_order = s.stored.in_order;
+    })
+
+pub after_content_label : (state : State) (ns digest key value : Text) → IsSound state
+    → IsSound (outcome state (ContentLabel ns digest key value)).after
+after_content_label state ns digest key value s =
+    let place : Key = ns ∷ digest ∷ [] in
+    let blobs = state.backends.blobs in
+    let change : ContentRow → ContentRow =
+    λ row. record row { labels = put_label key value row.labels } in
+    sound_content state s _ blobs
+    (content_changed state.records.tables s.tables place change (λ row. refl) (λ row. refl))
+    (record {
+      held = all_changed content_key (IsStored blobs) place change (λ row there. there)
+          state.records.tables.content s.stored.held;
+      in_order = s.stored.in_order;
+    })
+
+-- ---- leases
+
+-- leases in the namespaces
+abbrev AreLeases : List Text → List LeaseRow → Type 0
+AreLeases namespaces rows = AreRows lease_key (λ (row : LeaseRow). row.ns) namespaces rows
+
+pub after_lease_add : (state : State) (ns id : Text) (labels : List (Text × Text)) → IsSound state
+    → least_fault (outcome state (LeaseAdd ns id labels)) ≡ None
+    → IsSound (outcome state (LeaseAdd ns id labels)).after
+after_lease_add state ns id labels s none =
+    let f = none_applies (outcome state (LeaseAdd ns id labels)) none in
+    let row : LeaseRow =
+    record { ns = ns; id = id; labels = labels_of labels; resources = [] } in
+    sound_leases state s _
+    (rows_added lease_key (λ (other : LeaseRow). other.ns) state.records.tables.namespaces row
+    state.records.leases (from_not _ (or_parts _ _ f.1).0) f.2 s.leases)
+
+pub after_lease_remove : (state : State) (ns id : Text) → IsSound state
+    → IsSound (outcome state (LeaseRemove ns id)).after
+after_lease_remove state ns id s = sound_leases state s _
+    (rows_removed lease_key (λ (row : LeaseRow). row.ns) state.records.tables.namespaces
+    (ns ∷ id ∷ []) state.records.leases s.leases)
+
+-- one lease changes, but not its key
+lease_changed : (namespaces : List Text) (key : Key) (change : LeaseRow → LeaseRow)
+    → ((row : LeaseRow) → lease_key (change row) ≡ lease_key row)
+    → ((row : LeaseRow) → (change row).ns ≡ row.ns)
+    → (rows : List LeaseRow) → AreLeases namespaces rows
+    → AreLeases namespaces (change_row lease_key key change rows)
+lease_changed namespaces key change same same_ns rows s =
+    rows_changed lease_key (λ (row : LeaseRow). row.ns) namespaces key change same same_ns rows s
+
+pub after_lease_label : (state : State) (ns id key value : Text) → IsSound state
+    → IsSound (outcome state (LeaseLabel ns id key value)).after
+after_lease_label state ns id key value s =
+    sound_leases state s _
+    (lease_changed state.records.tables.namespaces (ns ∷ id ∷ [])
+    (λ row. record row { labels = put_label key value row.labels }) (λ row. refl) (λ row. refl)
+    state.records.leases s.leases)
+
+pub after_lease_hold : (state : State) (ns id kind text : Text) → IsSound state
+    → IsSound (outcome state (LeaseHold ns id kind text)).after
+after_lease_hold state ns id kind text s =
+    sound_leases state s _ (go (resource_of kind text) state.records.leases s.leases)
+  where
+    go : (resource : Option Resource) (leases : List LeaseRow)
+        → AreLeases state.records.tables.namespaces leases
+        → AreLeases state.records.tables.namespaces
+        (option_map_or (λ r. hold_in (ns ∷ id ∷ []) r leases) resource leases)
+    go None leases s = s
+    go (Some resource) leases s =
+        lease_changed state.records.tables.namespaces (ns ∷ id ∷ [])
+        (λ row. record row { resources = held resource row.resources }) (λ row. refl) (λ row. refl)
+        leases s
+
+pub after_lease_drop : (state : State) (ns id kind text : Text) → IsSound state
+    → IsSound (outcome state (LeaseDrop ns id kind text)).after
+after_lease_drop state ns id kind text s =
+    sound_leases state s _ (go (resource_of kind text) state.records.leases s.leases)
+  where
+    go : (resource : Option Resource) (leases : List LeaseRow)
+        → AreLeases state.records.tables.namespaces leases
+        → AreLeases state.records.tables.namespaces
+        (option_map_or (λ r. drop_in (ns ∷ id ∷ []) r leases) resource leases)
+    go None leases s = s
+    go (Some resource) leases s =
+        lease_changed state.records.tables.namespaces (ns ∷ id ∷ [])
+        (λ row. record row {
+          resources = remove_row resource_key (resource_key resource) row.resources;
+        })
+        (λ row. refl) (λ row. refl) leases s
+
+-- ---- the profile
+
+-- it is no part of it
+pub after_profile : (state : State) (v : ℕ) → IsSound state
+    → IsSound (outcome state (Profile v)).after
+after_profile state v s =
+    record { tables = s.tables; leases = s.leases; stored = s.stored; backed = s.backed }

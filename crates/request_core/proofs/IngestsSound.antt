@@ -1,0 +1,165 @@
+-- Requests on ingests keep a state sound. None of it speaks of code.
+use Rattle.std.proofs.Common.{◌≡◌, ℕ, ◌+◌, ◌<◌, true, false, not, List, [], ◌∷◌, Option, None, refl, sym, arith}
+use Rattle.std.specs.Prelude.{All, AllPairs, IsTrue, nat_lt, ◌==◌}
+use Rattle.std.specs.List.{list_any}
+use Rattle.std.proofs.lemmas.Bool.{or_parts, ltb-true}
+use Rattle.std.proofs.lemmas.Bool.Decides.{nat_tests, Decides-eqb}
+use Rattle.std.proofs.lemmas.List.Elements.{All-weaker}
+use Rattle.meta_types.specs.Text.{Text}
+use Rattle.meta_types.specs.Keys.{Key, has_row, add_row, remove_row, put_in_order}
+use Rattle.meta_types.specs.Labels.{labels_of}
+use Rattle.meta_types.specs.Rows.{State, ingest_key, content_key}
+use Rattle.meta_types.specs.Changes.{has_namespace, with_ingests, with_content, with_blob, with_ingest_object, put_blob}
+use Rattle.meta_types.specs.ContentOps.{own_end}
+use Rattle.meta_types.specs.Outcomes.{least_fault, lacks}
+use Rattle.meta_types.specs.Requests.{outcome}
+use Rattle.meta_types.specs.Sound.{AreTables, IsSound}
+use Rattle.meta_types.specs.declared.rows.ContentRow.{ContentRow}
+use Rattle.meta_types.specs.declared.rows.IngestRow.{IngestRow}
+use Rattle.meta_types.specs.declared.rows.SnapRow.{SnapRow}
+use Rattle.meta_types.specs.declared.resource.Resource.TheVariants.{Content, Ingest}
+use Rattle.meta_types.specs.declared.request.Request.TheVariants.{IngestBegin, IngestCommit, IngestAbort}
+use Rattle.meta_types.proofs.KeepsSound.{all_added, all_removed, any_added, added_any}
+use Rattle.request_core.proofs.ListsSound.{none_applies, from_not, sound_content, sound_leases, sound_ingests, still_stored, leases_held}
+use Rattle.request_core.proofs.PairsKept.{all_put, pairs_put}
+use Rattle.request_core.proofs.TablesKept.{content_added, ingest_added, ingest_removed}
+
+-- ---- numbers below the next
+
+-- a number below another isn't that one
+pub not_above : (n next : ℕ) → n < next → not (next == n) ≡ true
+not_above n next h = grind (arith, nat_tests)
+
+pub not_below : (n next : ℕ) → n < next → not (n == next) ≡ true
+not_below n next h = grind (arith, nat_tests)
+
+-- the next number stands last
+last_in_order : (next : ℕ) (begun : List ℕ) → All (λ number. number < next) begun
+    → AllPairs (λ a b. a < b) begun → AllPairs (λ a b. a < b) (put_in_order nat_lt next begun)
+last_in_order next begun below order =
+    pairs_put (λ a b. a < b) (λ a b c p q. omega (arith, p, q)) nat_lt next begun
+    (All-weaker (λ number. number < next) HasPlace
+    (λ number h. ((λ t. ltb-true next number t), (λ f. h))) begun below) order
+  where
+    HasPlace : ℕ → Type 0
+    HasPlace number =
+        (nat_lt next number ≡ true → next < number) × (nat_lt next number ≡ false → number < next)
+
+-- ---- requests
+
+-- the row's number is below the next
+abbrev Below : ℕ → IngestRow → Type 0
+Below next row = row.number < next
+
+-- the row's object is one of these
+abbrev IsBegun : List ℕ → IngestRow → Type 0
+IsBegun begun row = IsTrue (list_any (λ number. number == row.number) begun)
+
+pub after_ingest_abort : (state : State) (ns name : Text) → IsSound state
+    → IsSound (outcome state (IngestAbort ns name)).after
+after_ingest_abort state ns name s =
+    let key : Key = ns ∷ name ∷ [] in
+    let rows = state.records.tables.ingests in
+    let next = state.records.next in
+    let begun = state.backends.ingests in
+    sound_ingests state s (remove_row ingest_key key rows) next begun
+    (ingest_removed state.records.tables s.tables key)
+    (record {
+      snapshots_below = s.backed.snapshots_below;
+      ingests_below = all_removed ingest_key (Below next) key rows s.backed.ingests_below;
+      objects_below = s.backed.objects_below;
+      begun_below = s.backed.begun_below;
+      ingests_begun = all_removed ingest_key (IsBegun begun) key rows s.backed.ingests_begun;
+      objects = s.backed.objects;
+      back_parents = s.backed.back_parents;
+      objects_in_order = s.backed.objects_in_order;
+      begun_in_order = s.backed.begun_in_order;
+    })
+
+pub after_ingest_commit : (state : State) (ns name digest : Text) (labels : List (Text × Text))
+    (lease : Option Text) → IsSound state
+    → least_fault (outcome state (IngestCommit ns name digest labels lease)) ≡ None
+    → IsSound (outcome state (IngestCommit ns name digest labels lease)).after
+after_ingest_commit state ns name digest labels lease s none =
+    let f = none_applies (outcome state (IngestCommit ns name digest labels lease)) none in
+    let rows = state.records.tables.content in
+    let blobs = state.backends.blobs in
+    let row : ContentRow = record { ns = ns; digest = digest; labels = labels_of labels } in
+    let there = (or_parts (lacks state ns lease) _ f.1).0 in
+    let left =
+    with_ingests state (remove_row ingest_key (ns ∷ name ∷ []) state.records.tables.ingests) in
+    let s1 : IsSound left = after_ingest_abort state ns name s in
+    let grown = sound_content left s1 (add_row content_key row rows) (put_blob digest blobs)
+    (content_added left.records.tables s1.tables row (from_not _ (or_parts _ _ there).0) f.2)
+    (still_stored rows row blobs s.stored) in
+    sound_leases (with_blob digest (with_content left (add_row content_key row rows))) grown _
+    (leases_held state.records.tables.namespaces ns lease (Content digest) state.records.leases
+    s.leases)
+
+module _ (state : State) (row : IngestRow) (s : IsSound state)
+    (numbered : row.number ≡ state.records.next)
+    (there : has_namespace state.records.tables row.ns ≡ true)
+    (free : has_row ingest_key (ingest_key row) state.records.tables.ingests ≡ false) where
+  abbrev rows : List IngestRow
+  rows = state.records.tables.ingests
+
+  abbrev next : ℕ
+  next = state.records.next
+
+  abbrev more : List ℕ
+  more = put_in_order nat_lt next state.backends.ingests
+
+  -- all other numbers are smaller
+  tables_begun : AreTables (record state.records.tables { ingests = add_row ingest_key row rows })
+  tables_begun = ingest_added state.records.tables s.tables row there free
+      (All-weaker (Below next) (λ other. IsTrue (not (row.number == other.number)))
+      (λ other h. not_above other.number row.number (omega (arith, h, numbered))) rows
+      s.backed.ingests_below)
+      (All-weaker (λ (snap : SnapRow). snap.number < next)
+      (λ snap. IsTrue (not (snap.number == row.number)))
+      (λ snap h. not_below snap.number row.number (omega (arith, h, numbered)))
+      state.records.tables.snapshots s.backed.snapshots_below)
+
+  -- and its object is the new one
+  new_begun : IsBegun more row
+  new_begun = added_any (λ number. number == row.number) nat_lt next state.backends.ingests
+      ((Decides-eqb next row.number).1 (sym numbered))
+
+  pub ingest_begun : IsSound (with_ingest_object (with_ingests state (add_row ingest_key row rows)))
+  ingest_begun = sound_ingests state s (add_row ingest_key row rows) (next + 1) more tables_begun
+      (record {
+        snapshots_below = λ k d lt. (let h = s.backed.snapshots_below k d lt in omega (arith, h));
+        ingests_below = all_added ingest_key (Below (next + 1)) row (omega (arith, numbered)) rows
+            (λ k d lt. (let h = s.backed.ingests_below k d lt in omega (arith, h)));
+        objects_below = λ k d lt. (let h = s.backed.objects_below k d lt in omega (arith, h));
+        begun_below = all_put (λ number. number < next + 1) nat_lt next (omega arith)
+            state.backends.ingests
+            (λ k d lt. (let h = s.backed.begun_below k d lt in omega (arith, h)));
+        ingests_begun = all_added ingest_key (IsBegun more) row new_begun rows
+            (All-weaker (IsBegun state.backends.ingests) (IsBegun more)
+            (λ other h. any_added (λ number. number == other.number) nat_lt next
+            state.backends.ingests h) rows s.backed.ingests_begun);
+        objects = s.backed.objects;
+        back_parents = s.backed.back_parents;
+        objects_in_order = s.backed.objects_in_order;
+        begun_in_order = last_in_order next state.backends.ingests s.backed.begun_below
+            s.backed.begun_in_order;
+      })
+
+pub after_ingest_begin : (state : State) (ns name at : Text) (expected lease : Option Text)
+    → IsSound state → least_fault (outcome state (IngestBegin ns name at expected lease)) ≡ None
+    → IsSound (outcome state (IngestBegin ns name at expected lease)).after
+after_ingest_begin state ns name at expected lease s none =
+    let f = none_applies (outcome state (IngestBegin ns name at expected lease)) none in
+    let row : IngestRow = record {
+      ns = ns;
+      name = name;
+      expected = expected;
+      expires = own_end lease at;
+      number = state.records.next;
+    } in
+    let rows = state.records.tables.ingests in
+    sound_leases (with_ingest_object (with_ingests state (add_row ingest_key row rows)))
+    (ingest_begun state row s refl (from_not _ (or_parts _ _ f.1).0) f.2) _
+    (leases_held state.records.tables.namespaces ns lease (Ingest name) state.records.leases
+    s.leases)

@@ -1,0 +1,83 @@
+-- The labels of the last pairs of a list.
+use Rattle.std.proofs.Common.{◌≡◌, ◌∙◌, ℕ, zero, suc, ◌+◌, ◌-◌, ◌<◌, ◌≤◌, None, ap, Bool, true, false, List, [], ◌∷◌, length, get_or, drop, refl, sym, ap, arith, inl, inr, Err, drop-cons, String, Global, subst}
+use Rattle.std.proofs.lemmas.List.{length-map, get_or-map}
+use Rattle.std.specs.Prelude.{◌&&◌, string_bytes}
+use Rattle.std.proofs.Math.Numerals.{add-one}
+use Rattle.std.proofs.lemmas.Bool.{cases_Bool}
+use Rattle.meta_types.specs.Text.{Text, texts_of}
+use Rattle.meta_types.specs.Labels.{LabelList, are_labels, labels_of, takes_label, put_label}
+use Rattle.meta_types.specs.Faults.{Refuses, unless}
+use Rattle.meta_types.specs.declared.fault.Fault.{Fault}
+use Rattle.meta_types.specs.declared.fault.Fault.TheVariants.{InvalidArgument, OutOfMemory}
+use Rattle.request_core.specs.Follows.{ReadsTexts, reading}
+
+-- where the last pairs can't be written, all of them can't
+pub not_all : (pairs : List (Text × Text)) (k : ℕ) → are_labels (drop k pairs) ≡ false → are_labels pairs ≡ false
+not_all pairs zero f = f
+not_all [] (suc k) f = f
+not_all (pair ∷ pairs) (suc k) f = rw (not_all pairs k f) refl
+
+module _ (pairs : List (Text × Text)) (k : ℕ) (d : Text × Text) (lt : k < length pairs) where
+  one_more : drop k pairs ≡ get_or pairs k d ∷ drop (k + 1) pairs
+  one_more = rw add-one (drop-cons pairs k d lt)
+
+  -- one pair more, from behind
+  pub labels_more : put_label (get_or pairs k d).0 (get_or pairs k d).1 (labels_of (drop (k + 1) pairs)) ≡ labels_of (drop k pairs)
+  labels_more = sym (ap labels_of one_more)
+
+  -- it may be written, too
+  pub allowed_more : are_labels (drop (k + 1) pairs) ≡ true → takes_label (get_or pairs k d).0 (get_or pairs k d).1 (labels_of (drop (k + 1) pairs)) ≡ true → are_labels (drop k pairs) ≡ true
+  allowed_more t more = ap are_labels one_more ∙ rw (t, more) refl
+
+  -- a pair that can't be written refuses the whole; otherwise memory was wanting
+  pub refused_more : (X Y : Type 0) (fault : Fault) (value : Y) → Refuses {X = X} (Err fault) (unless (takes_label (get_or pairs k d).0 (get_or pairs k d).1 (labels_of (drop (k + 1) pairs))) InvalidArgument)
+      → ReadsTexts {X = Y} (Err (reading fault)) (are_labels pairs) value
+  refused_more X Y fault value r = elim (cases_Bool (takes_label (get_or pairs k d).0 (get_or pairs k d).1 (labels_of (drop (k + 1) pairs)))) [
+    | inl t ↦ (
+        let same : fault ≡ OutOfMemory = rw t at r in
+        rw same tt)
+    | inr f ↦ (
+        let same : fault ≡ InvalidArgument = rw f at r in
+        rw same (refl, not_all pairs k (ap are_labels one_more ∙ and_false (are_labels (drop (k + 1) pairs)) f)))
+  ]
+    where
+      and_false : {b : Bool} (a : Bool) → b ≡ false → (a && b) ≡ false
+      and_false true e = e
+      and_false false e = refl
+
+-- the same of entries, which are strings: one before the place is put
+module _ (entries : List (String Global × String Global)) (place : ℕ) (some : 0 < place) (within : place ≤ length entries) (held : LabelList) (allowed : are_labels (drop place (texts_of entries)) ≡ true) (held_is : held ≡ labels_of (drop place (texts_of entries)))
+    (entry : String Global × String Global) (at : entry ≡ get_or entries (place - 1) entry) (key value : Text) (key_is : key ≡ string_bytes entry.0) (value_is : value ≡ string_bytes entry.1) where
+  abbrev k : ℕ
+  k = place - 1
+
+  next : k + 1 ≡ place
+  next = omega arith
+
+  inside : k < length (texts_of entries)
+  inside = subst (λ n. k < n) (sym (length-map entries (λ (entry : String Global × String Global). (string_bytes entry.0, string_bytes entry.1)))) (omega arith)
+
+  text_at : get_or (texts_of entries) k (key, value) ≡ (key, value)
+  text_at = get_or-map (λ (entry : String Global × String Global). (string_bytes entry.0, string_bytes entry.1)) entries k entry (key, value) (omega arith)
+      ∙ ap (λ (entry : String Global × String Global). (string_bytes entry.0, string_bytes entry.1)) (sym at)
+      ∙ λ i. (sym key_is i, sym value_is i)
+
+  held_next : labels_of (drop (k + 1) (texts_of entries)) ≡ held
+  held_next = ap (λ n. labels_of (drop n (texts_of entries))) next ∙ sym held_is
+
+  pub put_is : (new : LabelList) → new ≡ put_label key value held → new ≡ labels_of (drop (place - 1) (texts_of entries))
+  put_is new e = e ∙ (λ i. put_label (sym text_at i).0 (sym text_at i).1 (sym held_next i)) ∙ labels_more (texts_of entries) k (key, value) inside
+
+  taken_is : takes_label key value held ≡ takes_label (get_or (texts_of entries) k (key, value)).0 (get_or (texts_of entries) k (key, value)).1 (labels_of (drop (k + 1) (texts_of entries)))
+  taken_is = λ i. takes_label (sym text_at i).0 (sym text_at i).1 (sym held_next i)
+
+  pub still_allowed : unless (takes_label key value held) InvalidArgument ≡ None → are_labels (drop (place - 1) (texts_of entries)) ≡ true
+  still_allowed e = allowed_more (texts_of entries) k (key, value) inside (ap (λ n. are_labels (drop n (texts_of entries))) next ∙ allowed)
+      (sym taken_is ∙ is_taken (takes_label key value held) e)
+    where
+      is_taken : (b : Bool) → unless b InvalidArgument ≡ None → b ≡ true
+      is_taken true f = refl
+      is_taken false f = absurd cc
+
+  pub refused : (X Y : Type 0) (fault : Fault) (read : Y) → Refuses {X = X} (Err fault) (unless (takes_label key value held) InvalidArgument) → ReadsTexts {X = Y} (Err (reading fault)) (are_labels (texts_of entries)) read
+  refused X Y fault read r = refused_more (texts_of entries) k (key, value) inside X Y fault read (subst (λ b. Refuses {X = X} (Err fault) (unless b InvalidArgument)) taken_is r)

@@ -1,0 +1,129 @@
+-- What each change of the snapshots keeps: `AreTables` after it.
+use Rattle.std.proofs.Common.{◌≡◌, Bool, true, false, not, List, [], ◌∷◌, refl, ap, ◌∙◌, inl, inr}
+use Rattle.std.specs.Prelude.{All, Contains, Some, IsTrue, filter, is_some, is_none, bytes_eq, ◌&&◌, ◌==◌}
+use Rattle.std.specs.List.{list_any}
+use Rattle.std.proofs.lemmas.Bool.{cases_Bool}
+use Rattle.std.proofs.lemmas.List.Elements.{All-contains}
+use Rattle.meta_types.specs.Text.{Text}
+use Rattle.meta_types.specs.Keys.{Key, has_row, row_at, add_row, remove_row, change_row}
+use Rattle.meta_types.specs.Labels.{LabelList}
+use Rattle.meta_types.specs.Rows.{Tables, snap_key}
+use Rattle.meta_types.specs.Changes.{has_namespace}
+use Rattle.meta_types.specs.SnapshotOps.{is_active, committed, is_child_of}
+use Rattle.meta_types.specs.Sound.{parent_of, HasParent, AreTables}
+use Rattle.meta_types.specs.declared.rows.IngestRow.{IngestRow}
+use Rattle.meta_types.specs.declared.rows.SnapRow.{SnapRow}
+use Rattle.meta_types.proofs.KeepsSound.{rows_added, rows_removed, rows_changed}
+use Rattle.meta_types.proofs.TablesAfter.{rows_filtered}
+use Rattle.object_tables.specs.Calls.{kept, without_snap}
+use Rattle.request_core.proofs.RowsKept.{taken_out, free_removed}
+use Rattle.request_core.proofs.ParentsKept.{relabel}
+use Rattle.request_core.proofs.NumbersKept.{numbered_snap_added, numbered_snap_removed, numbered_snap_relabelled}
+use Rattle.request_core.proofs.CommitKept.{named, committed_is, row_of, numbered_committed}
+use Rattle.request_core.proofs.SomeKept.{numbered_filtered, numbered_kept, fresh_is_childless}
+use Rattle.request_core.proofs.OtherTables.{rows_kept, other_snapshots}
+
+module _ (tables : Tables) (s : AreTables tables) where
+  pub snap_added : (row : SnapRow) → has_namespace tables row.key.ns ≡ true
+      → has_row snap_key (snap_key row) tables.snapshots ≡ false → HasParent tables.snapshots row
+      → All (λ (other : SnapRow). IsTrue (not (row.number == other.number))) tables.snapshots
+      → All (λ (begun : IngestRow). IsTrue (not (row.number == begun.number))) tables.ingests
+      → AreTables (record tables { snapshots = add_row snap_key row tables.snapshots })
+  snap_added row there free has fresh none =
+      other_snapshots tables s _
+      (rows_added snap_key (λ (other : SnapRow). other.key.ns) tables.namespaces row
+      tables.snapshots there free s.snapshots)
+      (numbered_snap_added tables.ingests row tables.snapshots free has fresh none s.numbered)
+
+  pub snap_removed : (ns snapshotter key : Text)
+      → list_any (is_child_of ns snapshotter key) tables.snapshots ≡ false
+      → AreTables (record tables
+      { snapshots = remove_row snap_key (ns ∷ snapshotter ∷ key ∷ []) tables.snapshots })
+  snap_removed ns snapshotter key childless =
+      other_snapshots tables s _
+      (rows_removed snap_key (λ (row : SnapRow). row.key.ns) tables.namespaces
+      (ns ∷ snapshotter ∷ key ∷ []) tables.snapshots s.snapshots)
+      (numbered_snap_removed tables.ingests ns snapshotter key tables.snapshots childless
+      s.numbered)
+
+  -- whether or not it has children
+  pub snap_without : (ns snapshotter key : Text)
+      → AreTables (record tables { snapshots = without_snap ns snapshotter key tables.snapshots })
+  snap_without ns snapshotter key =
+      elim (cases_Bool (list_any (is_child_of ns snapshotter key) tables.snapshots)) [
+        | inl t ↦ rw t s
+        | inr f ↦ rw f (snap_removed ns snapshotter key f)
+      ]
+
+  pub snap_relabelled : (key : Key) (labels_in : SnapRow → LabelList)
+      → AreTables
+      (record tables {
+        snapshots = change_row snap_key key (λ row. record row { labels = labels_in row })
+            tables.snapshots;
+      })
+  snap_relabelled key labels_in =
+      other_snapshots tables s _
+      (rows_changed snap_key (λ (row : SnapRow). row.key.ns) tables.namespaces key
+      (relabel labels_in)
+      (λ row. refl) (λ row. refl) tables.snapshots s.snapshots)
+      (numbered_snap_relabelled tables.ingests key labels_in tables.snapshots s.numbered)
+
+  pub snap_committed : (ns snapshotter key name : Text) (labels : LabelList) (row : SnapRow)
+      → row_at snap_key (ns ∷ snapshotter ∷ key ∷ []) tables.snapshots ≡ Some row
+      → is_active row.kind ≡ true
+      → has_row snap_key (ns ∷ snapshotter ∷ name ∷ []) tables.snapshots ≡ false
+      → AreTables
+      (record tables { snapshots = committed ns snapshotter key name labels tables.snapshots })
+  snap_committed ns snapshotter key name labels row found active free =
+      let rows = tables.snapshots in
+      let gone : Key = ns ∷ snapshotter ∷ key ∷ [] in
+      let of = row_of ns snapshotter key name labels rows row found active free in
+      let there : list_any (bytes_eq ns) tables.namespaces ≡ true =
+      ap (λ t. list_any (bytes_eq t) tables.namespaces) of.1
+      ∙ All-contains
+      (λ (other : SnapRow). IsTrue (list_any (bytes_eq other.key.ns) tables.namespaces))
+      rows row s.snapshots.named of.0 in
+      rw (committed_is ns snapshotter key name labels rows row found active free)
+      (other_snapshots tables s _
+      (rows_added snap_key (λ (other : SnapRow). other.key.ns) tables.namespaces
+      (named ns snapshotter key name labels rows row) (remove_row snap_key gone rows) there
+      (free_removed snap_key (ns ∷ snapshotter ∷ name ∷ []) gone rows free)
+      (rows_removed snap_key (λ (other : SnapRow). other.key.ns) tables.namespaces gone rows
+      s.snapshots))
+      (numbered_committed ns snapshotter key name labels rows row found active free tables.ingests
+      s.numbered))
+
+  pub snapshots_filtered : (p : SnapRow → Bool)
+      → ((row above : SnapRow) → Contains tables.snapshots row → p row ≡ true
+      → parent_of tables.snapshots row ≡ Some above → p above ≡ true)
+      → AreTables (record tables { snapshots = filter p tables.snapshots })
+  snapshots_filtered p closed = other_snapshots tables s _
+      (rows_filtered snap_key (λ (row : SnapRow). row.key.ns) p tables.namespaces tables.snapshots
+      s.snapshots)
+      (numbered_filtered p tables.ingests tables.snapshots s.snapshots.in_order closed s.numbered)
+
+  pub snapshots_kept : (marks : List Bool)
+      → ((row above : SnapRow) → Contains (kept marks tables.snapshots) row
+      → parent_of tables.snapshots row ≡ Some above → Contains (kept marks tables.snapshots) above)
+      → AreTables (record tables { snapshots = kept marks tables.snapshots })
+  snapshots_kept marks closed = other_snapshots tables s _
+      (rows_kept snap_key (λ (row : SnapRow). row.key.ns) tables.namespaces marks tables.snapshots
+      s.snapshots)
+      (numbered_kept marks tables.ingests tables.snapshots s.snapshots.in_order closed s.numbered)
+
+  -- the rows are those before an addition that was taken back
+  pub snapshots_again : (added end : Tables) (row : SnapRow)
+      → added ≡ record tables { snapshots = add_row snap_key row tables.snapshots }
+      → end ≡ record added
+      { snapshots = without_snap row.key.ns row.key.snapshotter row.key.name added.snapshots }
+      → has_row snap_key (snap_key row) tables.snapshots ≡ false
+      → (is_some row.parent && is_none (parent_of tables.snapshots row)) ≡ false → end ≡ tables
+  snapshots_again added end row grown gone free there =
+      rw (
+        gone,
+        grown,
+        fresh_is_childless row.key.ns row.key.snapshotter row.key.name row tables.snapshots
+            tables.ingests s.numbered free there,
+      )
+      (ap (λ (rows : List SnapRow). record tables { snapshots = rows })
+      (taken_out snap_key row tables.snapshots free))

@@ -1,0 +1,85 @@
+-- Labels on snapshots, and removals of snapshots, keep a state sound.
+use Rattle.std.proofs.Common.{◌≡◌, ◌<◌, false, List, [], ◌∷◌}
+use Rattle.std.specs.Prelude.{All, None}
+use Rattle.std.proofs.lemmas.List.Elements.{All-weaker}
+use Rattle.meta_types.specs.Text.{Text}
+use Rattle.meta_types.specs.Keys.{Key, remove_row, change_row}
+use Rattle.meta_types.specs.Labels.{LabelList, put_label}
+use Rattle.meta_types.specs.Rows.{State, snap_key}
+use Rattle.meta_types.specs.SnapshotOps.{is_child_of}
+use Rattle.meta_types.specs.Outcomes.{least_fault}
+use Rattle.meta_types.specs.Requests.{outcome}
+use Rattle.meta_types.specs.Sound.{HaveObjects, HasParent, IsSound}
+use Rattle.meta_types.specs.declared.rows.SnapRow.{SnapRow}
+use Rattle.meta_types.specs.declared.request.Request.TheVariants.{SnapRemove, SnapLabel}
+use Rattle.meta_types.proofs.KeepsSound.{all_removed, all_changed}
+use Rattle.request_core.proofs.ListsSound.{none_applies, sound_snapshots}
+use Rattle.request_core.proofs.PairsKept.{all_both, each_fails}
+use Rattle.request_core.proofs.ParentsKept.{key_above, number_above, parent_kept, stays_removed, stays_relabelled, other_parent, relabel}
+use Rattle.request_core.proofs.TablesKept.{snap_removed, snap_relabelled}
+use Rattle.request_core.proofs.ObjectsKept.{HasObject, objects_kept}
+
+-- ---- one list is another
+
+-- other rows over the same objects
+pub rows_backed : (state : State) (rows : List SnapRow) → IsSound state
+    → All (λ (row : SnapRow). row.number < state.records.next) rows
+    → All (HasObject state.backends.snapshots rows) rows
+    → HaveObjects rows state.records.tables.ingests state.records.next state.backends.snapshots
+    state.backends.ingests
+rows_backed state rows s below objects = record {
+  snapshots_below = below;
+  ingests_below = s.backed.ingests_below;
+  objects_below = s.backed.objects_below;
+  begun_below = s.backed.begun_below;
+  ingests_begun = s.backed.ingests_begun;
+  objects = objects;
+  back_parents = s.backed.back_parents;
+  objects_in_order = s.backed.objects_in_order;
+  begun_in_order = s.backed.begun_in_order;
+}
+
+-- ---- labels and removals
+
+pub after_snap_label : (state : State) (ns snapshotter name key value : Text) → IsSound state
+    → IsSound (outcome state (SnapLabel ns snapshotter name key value)).after
+after_snap_label state ns snapshotter name key value s =
+    let rows = state.records.tables.snapshots in
+    let place : Key = ns ∷ snapshotter ∷ name ∷ [] in
+    let labels_in : SnapRow → LabelList = λ row. put_label key value row.labels in
+    let after = change_row snap_key place (relabel labels_in) rows in
+    let numbers : All (λ row. number_above after row ≡ number_above rows row) rows =
+    All-weaker (HasParent rows) (λ row. number_above after row ≡ number_above rows row)
+    (λ row has.
+    (parent_kept rows after row (λ n e. stays_relabelled place (key_above row n) labels_in rows)
+    has).1) rows s.tables.numbered.parents in
+    sound_snapshots state s after state.records.next state.backends.snapshots
+    (snap_relabelled state.records.tables s.tables place labels_in) (rows_backed state after s
+    (all_changed snap_key (λ (row : SnapRow). row.number < state.records.next) place
+    (relabel labels_in)
+    (λ row h. h) rows s.backed.snapshots_below)
+    (all_changed snap_key (HasObject state.backends.snapshots after) place (relabel labels_in)
+    (λ row h. h)
+    rows (objects_kept state.backends.snapshots rows after rows numbers s.backed.objects)))
+
+pub after_snap_remove : (state : State) (ns snapshotter key : Text) → IsSound state
+    → least_fault (outcome state (SnapRemove ns snapshotter key)) ≡ None
+    → IsSound (outcome state (SnapRemove ns snapshotter key)).after
+after_snap_remove state ns snapshotter key s none =
+    let f = none_applies (outcome state (SnapRemove ns snapshotter key)) none in
+    let rows = state.records.tables.snapshots in
+    let gone : Key = ns ∷ snapshotter ∷ key ∷ [] in
+    let after = remove_row snap_key gone rows in
+    let numbers : All (λ row. number_above after row ≡ number_above rows row) rows =
+    all_both (λ row. is_child_of ns snapshotter key row ≡ false) (HasParent rows)
+    (λ row. number_above after row ≡ number_above rows row)
+    (λ row no has. (parent_kept rows after row
+    (λ n e. stays_removed gone (key_above row n) rows (other_parent ns snapshotter key row n no e))
+    has).1)
+    rows (each_fails (is_child_of ns snapshotter key) rows f.3) s.tables.numbered.parents in
+    sound_snapshots state s after state.records.next state.backends.snapshots
+    (snap_removed state.records.tables s.tables ns snapshotter key f.3) (rows_backed state after s
+    (all_removed snap_key (λ (row : SnapRow). row.number < state.records.next) gone rows
+    s.backed.snapshots_below)
+    (all_removed snap_key (HasObject state.backends.snapshots after) gone rows
+    (objects_kept state.backends.snapshots rows after rows numbers s.backed.objects)))

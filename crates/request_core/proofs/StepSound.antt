@@ -1,0 +1,112 @@
+-- Requests on namespaces, images and containers keep a state sound. None of it speaks of code.
+use Rattle.std.proofs.Common.{◌≡◌, List, [], ◌∷◌, Option, None, refl}
+use Rattle.std.specs.Prelude.{bytes_eq, option_map, option_and_then}
+use Rattle.std.specs.List.{list_any}
+use Rattle.std.proofs.lemmas.Bool.{or_parts}
+use Rattle.meta_types.specs.Text.{Text}
+use Rattle.meta_types.specs.Keys.{is_before, add_row, remove_row}
+use Rattle.meta_types.specs.Labels.{labels_of, put_label}
+use Rattle.meta_types.specs.Rows.{State, LeaseRow, namespace_key, lease_key}
+use Rattle.meta_types.specs.Outcomes.{least_fault}
+use Rattle.meta_types.specs.Requests.{outcome}
+use Rattle.meta_types.specs.Sound.{IsSound}
+use Rattle.meta_types.specs.declared.rows.ImageRow.{ImageRow}
+use Rattle.meta_types.specs.declared.rows.ContainerRow.{ContainerRow}
+use Rattle.meta_types.specs.declared.request.Request.TheVariants.{NsAdd, NsRemove, ImageAdd, ImageTarget, ImageRemove, ImageLabel, ContainerAdd, ContainerRemove, ContainerLabel}
+use Rattle.meta_types.proofs.KeepsSound.{rows_among, any_added}
+use Rattle.request_core.proofs.OtherTables.{unused, namespace_added, namespace_removed}
+use Rattle.request_core.proofs.TablesKept.{image_added, image_removed, image_changed, container_added, container_removed, container_changed}
+use Rattle.request_core.proofs.ListsSound.{none_applies, from_not, sound_images, sound_containers}
+
+-- ---- namespaces
+
+pub after_ns_add : (state : State) (ns : Text) → IsSound state
+    → least_fault (outcome state (NsAdd ns)) ≡ None → IsSound (outcome state (NsAdd ns)).after
+after_ns_add state ns s none =
+    let f = none_applies (outcome state (NsAdd ns)) none in
+    let old = state.records.tables.namespaces in
+    record {
+      tables = namespace_added state.records.tables s.tables ns f.2;
+      leases = rows_among lease_key (λ (row : LeaseRow). row.ns) old (add_row namespace_key ns old)
+          state.records.leases
+          (λ k d lt. any_added (bytes_eq _)
+          (λ a b. is_before (namespace_key a) (namespace_key b)) ns old) s.leases;
+      stored = s.stored;
+      backed = s.backed;
+    }
+
+pub after_ns_remove : (state : State) (ns : Text) → IsSound state
+    → least_fault (outcome state (NsRemove ns)) ≡ None → IsSound (outcome state (NsRemove ns)).after
+after_ns_remove state ns s none =
+    let f = none_applies (outcome state (NsRemove ns)) none in
+    let old = state.records.tables.namespaces in
+    let leases = state.records.leases in
+    let free = or_parts _ (list_any (λ (row : LeaseRow). bytes_eq ns row.ns) leases) f.3 in
+    record {
+      tables = namespace_removed state.records.tables s.tables ns free.0;
+      leases = rows_among lease_key (λ (row : LeaseRow). row.ns) old
+          (remove_row namespace_key (ns ∷ []) old) leases
+          (unused (λ (row : LeaseRow). row.ns) ns old leases free.1) s.leases;
+      stored = s.stored;
+      backed = s.backed;
+    }
+
+-- ---- images
+
+pub after_image_add : (state : State) (ns name target : Text) (labels : List (Text × Text))
+    → IsSound state → least_fault (outcome state (ImageAdd ns name target labels)) ≡ None
+    → IsSound (outcome state (ImageAdd ns name target labels)).after
+after_image_add state ns name target labels s none =
+    let f = none_applies (outcome state (ImageAdd ns name target labels)) none in
+    let row : ImageRow =
+    record { ns = ns; name = name; target = target; labels = labels_of labels } in
+    sound_images state s _
+    (image_added state.records.tables s.tables row (from_not _ (or_parts _ _ f.1).0) f.2)
+
+pub after_image_target : (state : State) (ns name target : Text) → IsSound state
+    → IsSound (outcome state (ImageTarget ns name target)).after
+after_image_target state ns name target s =
+    sound_images state s _
+    (image_changed state.records.tables s.tables (ns ∷ name ∷ [])
+    (λ row. record row { target = target }) (λ row. refl) (λ row. refl))
+
+pub after_image_remove : (state : State) (ns name : Text) → IsSound state
+    → IsSound (outcome state (ImageRemove ns name)).after
+after_image_remove state ns name s =
+    sound_images state s _ (image_removed state.records.tables s.tables (ns ∷ name ∷ []))
+
+pub after_image_label : (state : State) (ns name key value : Text) → IsSound state
+    → IsSound (outcome state (ImageLabel ns name key value)).after
+after_image_label state ns name key value s =
+    sound_images state s _
+    (image_changed state.records.tables s.tables (ns ∷ name ∷ [])
+    (λ row. record row { labels = put_label key value row.labels }) (λ row. refl) (λ row. refl))
+
+-- ---- containers
+
+pub after_container_add : (state : State) (ns name : Text) (snapshotter key : Option Text)
+    (labels : List (Text × Text)) → IsSound state
+    → least_fault (outcome state (ContainerAdd ns name snapshotter key labels)) ≡ None
+    → IsSound (outcome state (ContainerAdd ns name snapshotter key labels)).after
+after_container_add state ns name snapshotter key labels s none =
+    let f = none_applies (outcome state (ContainerAdd ns name snapshotter key labels)) none in
+    let row : ContainerRow = record {
+      ns = ns;
+      name = name;
+      snapshot = option_and_then (λ s. option_map (λ k. (s, k)) key) snapshotter;
+      labels = labels_of labels;
+    } in
+    sound_containers state s _
+    (container_added state.records.tables s.tables row (from_not _ (or_parts _ _ f.1).0) f.2)
+
+pub after_container_remove : (state : State) (ns name : Text) → IsSound state
+    → IsSound (outcome state (ContainerRemove ns name)).after
+after_container_remove state ns name s =
+    sound_containers state s _ (container_removed state.records.tables s.tables (ns ∷ name ∷ []))
+
+pub after_container_label : (state : State) (ns name key value : Text) → IsSound state
+    → IsSound (outcome state (ContainerLabel ns name key value)).after
+after_container_label state ns name key value s =
+    sound_containers state s _
+    (container_changed state.records.tables s.tables (ns ∷ name ∷ [])
+    (λ row. record row { labels = put_label key value row.labels }) (λ row. refl) (λ row. refl))

@@ -1,0 +1,12 @@
+use Rattle.std.proofs.Common.{rules}
+use Rattle.meta_types.specs.Requests.{outcome}
+use Rattle.meta_types.specs.declared.request.Request.TheVariants as R
+use Rattle.request_core.specs.Follows.{AnswersExactly}
+use Rattle.request_core.proofs.Refusals.{refused_as}
+use Rattle.request_core.proofs.state.State.container_label.Goals as goal
+
+-- the label isn't allowed, or what it is put on isn't there
+pub returns-in_err-relabel_container : goal.returns-in_err-relabel_container
+unfolding AnswersExactly
+returns-in_err-relabel_container g c =
+    refused_as c.args.self.now (outcome c.args.self.now.state (R.ContainerLabel c.args.ns.now c.args.name.now c.args.key.now c.args.value.now)) _ _ c.in_err-relabel_container.field-0.0 (search rules) (search rules) (search rules)

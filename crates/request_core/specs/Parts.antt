@@ -1,0 +1,77 @@
+-- What the parts of a request do.
+use Rattle.std.specs.Prelude.{◌≡◌, ℕ, ◌+◌, Bool, true, false, not, ◌&&◌, ◌||◌, is_none, is_some, ◌==◌, length, List, [], ◌∷◌, Option, Some, Result, Ok, Err, bytes_eq, if◌then◌else◌}
+use Rattle.std.specs.Option.{option_map_or}
+use Rattle.meta_types.specs.Text.{Text}
+use Rattle.meta_types.specs.Keys.{has_row, row_at}
+use Rattle.meta_types.specs.Rows.{LeaseRow, Records, State, lease_key, snap_key, ingest_key, content_key}
+use Rattle.meta_types.specs.Changes.{dropped_by}
+use Rattle.meta_types.specs.Faults.{least_of}
+use Rattle.meta_types.specs.Outcomes.{lacks}
+use Rattle.meta_types.specs.SnapshotOps.{is_active, is_committed, parent_row}
+use Rattle.meta_types.specs.Limits.{is_out_of_numbers}
+use Rattle.meta_types.specs.declared.rows.SnapRow.{SnapRow}
+use Rattle.request_core.specs.declared.refusal.Refusal.{Refusal}
+use Rattle.meta_types.specs.declared.resource.Resource.{Resource}
+use Rattle.meta_types.specs.declared.fault.Fault.{Fault}
+use Rattle.meta_types.specs.declared.fault.Fault.TheVariants.{InvalidArgument, NotFound, AlreadyExists, FailedPrecondition, BadLine, TooLong, OutOfMemory, NoWorker, BackendFailed, ReadFailed, WriteFailed, Mismatch}
+
+-- the lease that is named, if one is, is there (containerd leases service)
+abbrev pub is_lease_there : Text → Option Text → List LeaseRow → Bool
+is_lease_there ns lease leases = option_map_or (λ id. has_row lease_key (ns ∷ id ∷ []) leases) lease true
+
+-- a resource is let go where it was new (ours)
+abbrev pub let_go_if : Bool → Text → Option Text → Resource → List LeaseRow → List LeaseRow
+let_go_if new ns lease resource leases = if new then dropped_by ns lease resource leases else leases
+
+-- an object is made, or memory was wanting, or the device failed once (ours)
+abbrev pub MakesOrFails : Result (Unit {0}) Fault → ℕ → ℕ → Type 0
+MakesOrFails (Ok _) before after = after ≡ before
+MakesOrFails (Err OutOfMemory) before after = after ≡ before
+MakesOrFails (Err BackendFailed) before after = after ≡ before + 1
+MakesOrFails (Err InvalidArgument) before after = ⊥
+MakesOrFails (Err NotFound) before after = ⊥
+MakesOrFails (Err AlreadyExists) before after = ⊥
+MakesOrFails (Err FailedPrecondition) before after = ⊥
+MakesOrFails (Err BadLine) before after = ⊥
+MakesOrFails (Err TooLong) before after = ⊥
+MakesOrFails (Err NoWorker) before after = ⊥
+MakesOrFails (Err ReadFailed) before after = ⊥
+MakesOrFails (Err WriteFailed) before after = ⊥
+MakesOrFails (Err (Mismatch place)) before after = ⊥
+
+-- what refuses a commit of a snapshot whose texts are allowed (containerd snapshots service, Commit)
+abbrev pub commit_fault : State → Text → Text → Text → Text → Option Text → Option Fault
+commit_fault state ns snapshotter key name lease =
+    let rows = state.records.tables.snapshots in
+    let found = row_at snap_key (ns ∷ snapshotter ∷ key ∷ []) rows in
+    least_of false (lacks state ns lease || is_none found) (has_row snap_key (ns ∷ snapshotter ∷ name ∷ []) rows) (option_map_or (λ row. not (is_active row.kind)) found false)
+
+-- what refuses a new snapshot whose texts are allowed (containerd snapshots service, Prepare and View)
+abbrev pub prepare_fault : State → SnapRow → Option Text → Option Fault
+prepare_fault state new lease =
+    let rows = state.records.tables.snapshots in
+    let above = parent_row rows new.key.ns new.key.snapshotter new.parent in
+    least_of false (lacks state new.key.ns lease || is_some new.parent && is_none above) (has_row snap_key (snap_key new) rows)
+    (option_map_or (λ row. not (is_committed row.kind)) above false || is_out_of_numbers state)
+
+-- no row of any kind is stored (ours)
+abbrev pub has_no_row : Records → Bool
+has_no_row records = length records.tables.namespaces == 0 && length records.tables.images == 0 && length records.tables.containers == 0 && length records.tables.content == 0
+    && length records.tables.ingests == 0 && length records.tables.snapshots == 0 && length records.leases == 0
+
+-- the third of three that were read, as one that there is (ours)
+abbrev pub some_third : {A B C : Type 0} → Result (A × B × C) Refusal → Result (A × B × Option C) Refusal
+some_third (Ok read) = Ok (read.0, read.1, Some read.2)
+some_third (Err refusal) = Err refusal
+
+-- what refuses a commit of an ingest whose texts are allowed (containerd content-flow.md)
+abbrev pub ingest_commit_fault : State → Text → Text → Text → Option Text → Option Fault
+ingest_commit_fault state ns name digest lease =
+    let found = row_at ingest_key (ns ∷ name ∷ []) state.records.tables.ingests in
+    least_of false (lacks state ns lease || is_none found) (has_row content_key (ns ∷ digest ∷ []) state.records.tables.content)
+    (option_map_or (λ row. option_map_or (λ other. not (bytes_eq other digest)) row.expected false) found false)
+
+-- what was read, as one that there is (ours)
+abbrev pub some_of : {A : Type 0} → Result A Refusal → Result (Option A) Refusal
+some_of (Ok read) = Ok (Some read)
+some_of (Err refusal) = Err refusal

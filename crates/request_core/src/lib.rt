@@ -1,0 +1,28 @@
+//! Requests, and what they do to a store.
+#![tactic(auto)]
+
+mod commit_growth;
+mod containers;
+mod content;
+mod dispatch;
+mod growth;
+mod images;
+mod ingest_growth;
+mod ingests;
+mod labels;
+mod leases;
+mod lists;
+mod namespaces;
+mod refusal;
+mod snap_growth;
+mod snapshots;
+mod state;
+#[cfg(test)]
+mod tests;
+mod texts;
+
+pub use back_model::{Backends, BlobBackend, IngestBackend, SnapBackend};
+pub use lease_book::Leases;
+pub use meta_types::{Removal, Reply, Request};
+pub use object_tables::Tables;
+pub use state::{Records, State};
