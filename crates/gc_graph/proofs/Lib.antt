@@ -1,0 +1,12 @@
+pub mod Truths
+pub mod References
+pub mod Same
+pub mod Apart
+pub mod Collected
+pub mod Lists
+pub mod Things
+pub mod Walks
+pub mod Numbers
+pub mod Tells
+pub mod Places
+pub mod Stores

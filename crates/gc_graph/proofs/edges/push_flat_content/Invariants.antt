@@ -1,0 +1,10 @@
+use Rattle.std.proofs.Common.{◌≡◌, ◌++◌, map, take}
+use Rattle.meta_types.specs.Paths.{content}
+use Rattle.meta_types.specs.declared.resource.Mode.TheVariants.{Flat}
+use Rattle.gc_graph.specs.Built.{targets_in}
+use Rattle.gc_graph.proofs.edges.push_flat_content.Given as goal
+
+-- the rows so far are there
+abbrev pub invariant-loop-row : goal.invariant-loop-row
+invariant-loop-row l = map (λ v. v.items) l.edges.items ≡ map (λ v. v.items) l.fn.edges.items
+    ++ map (λ row. targets_in l.book (content Flat row.now)) (take l._row-index l.rows)

@@ -1,0 +1,11 @@
+use Rattle.std.proofs.Common.{◌≡◌, ◌∷◌, [], take, if◌then◌else◌}
+use Rattle.std.specs.Prelude.{◌&&◌}
+use Rattle.std.specs.List.{flat_map}
+use Rattle.meta_types.specs.Labels.{is_unreadable}
+use Rattle.meta_types.specs.Paths.{images_expire}
+use Rattle.gc_graph.proofs.ignored.ignored_images.Given as goal
+
+-- the names of the rows so far are there
+abbrev pub invariant-loop-row : goal.invariant-loop-row
+invariant-loop-row l = l.names.items
+    ≡ flat_map (λ row. if images_expire l.profile && is_unreadable row.now.labels then (row.now.ns, row.now.name) ∷ [] else []) (take l.row-index l.rows)

@@ -1,0 +1,9 @@
+use Rattle.std.proofs.Common.{◌≡◌, ◌++◌, take}
+use Rattle.std.specs.List.{flat_map}
+use Rattle.meta_types.specs.Paths.{image}
+use Rattle.gc_graph.specs.Built.{root_targets}
+use Rattle.gc_graph.proofs.roots.push_images.Given as goal
+
+-- what the rows so far give is there
+abbrev pub invariant-loop-row : goal.invariant-loop-row
+invariant-loop-row l = l.roots.items ≡ l.fn.roots.items ++ flat_map (λ row. root_targets l.profile l.at.0 l.book (image row.now)) (take l.row-index l.rows)

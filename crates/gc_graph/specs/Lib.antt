@@ -1,0 +1,5 @@
+pub mod Nodes
+pub mod Targets
+pub mod Built
+pub mod Marked
+pub mod Stored

@@ -1,0 +1,24 @@
+-- The records that borrowed rows are.
+use Rattle.std.specs.Prelude.{[], map, length, ◌+◌, ◌*◌, ◌≤◌}
+use Rattle.meta_types.specs.Rows.{Records}
+use Rattle.gc_graph.specs.declared.rows.StoreRows.{StoreRows}
+
+-- the namespaces and the next backend number lead no path anywhere, and are left out (ours)
+abbrev pub records_of : StoreRows → Records
+records_of rows = record {
+  tables = record {
+    namespaces = [];
+    images = map (λ row. row.now) rows.images.now;
+    containers = map (λ row. row.now) rows.containers.now;
+    content = map (λ row. row.now) rows.content.now;
+    ingests = map (λ row. row.now) rows.ingests.now;
+    snapshots = map (λ row. row.now) rows.snapshots.now;
+  };
+  leases = rows.leases.now;
+  next = 1;
+  profile = rows.profile;
+}
+
+-- the nodes are at most 16,777,216 (ours)
+abbrev pub IsSmall : StoreRows → Type 0
+IsSmall rows = 2 * (length rows.content.now + length rows.snapshots.now) + length rows.ingests.now ≤ 16777216

@@ -1,0 +1,292 @@
+//! Where the walks begin.
+ghost use Rattle.std.specs.Prelude.{◌≡◌, ◌+◌, ◌≤◌, ◌++◌, ◌∷◌, [], length, if◌then◌else◌, OnOk, None, IfOk};
+ghost use Rattle.std.specs.List.{flat_map};
+ghost use Rattle.meta_types.specs.Faults.{Refuses};
+ghost use Rattle.meta_types.specs.Labels.{is_marked_root};
+ghost use Rattle.meta_types.specs.Paths.{image, container, lease, lease_mode, ingest_holds_itself};
+ghost use Rattle.gc_graph.specs.Targets.{node, resource_mode, resource_targets};
+ghost use Rattle.gc_graph.specs.Built.{numbers_in, targets_in, root_targets, places};
+
+use crate::book::NodeBook;
+use crate::ends::{image_stays, ingest_holds_itself, lease_stays};
+use crate::node::Node;
+use crate::refs::{push_labels, push_number};
+use gc_labels::{is_flat, is_root};
+use lease_book::Lease;
+use meta_types::{
+    ContainerRow, ContentRow, Fault, ImageRow, IngestRow, Instant, Mode, Resource, ShortName,
+    SnapRow,
+};
+use std::alloc::Global;
+
+fn push_image(
+    alloc: Global,
+    book: &NodeBook,
+    row: &ImageRow,
+    roots: &mut Vec<u32>,
+) -> Result<(), Fault>
+    ensures fault { Refuses result None }
+    ensures ok { OnOk result (roots.new.items
+        ≡ roots.old.items ++ targets_in book.now (image row.now)) }
+{
+    let ns = row.ns.copy()?;
+    let resource = Resource::Content(row.target.copy()?);
+    let mut target = Node {
+        ns,
+        resource,
+        mode: Mode::Full,
+    };
+    push_number(book, &target, roots)?;
+    push_labels(alloc, book, &mut target, &row.labels, roots)
+}
+
+fn push_image_root(
+    alloc: Global,
+    book: &NodeBook,
+    row: &ImageRow,
+    profile: u8,
+    at: Instant,
+    roots: &mut Vec<u32>,
+) -> Result<(), Fault>
+    ensures fault { Refuses result None }
+    ensures ok { OnOk result (roots.new.items
+        ≡ roots.old.items ++ root_targets profile at.0 book.now (image row.now)) }
+{
+    if image_stays(row, profile, at) {
+        push_image(alloc, book, row, roots)
+    } else {
+        Ok(())
+    }
+}
+
+// Adds the numbers of what images reference that haven't ended.
+pub(crate) fn push_images(
+    alloc: Global,
+    book: &NodeBook,
+    rows: &[&ImageRow],
+    profile: u8,
+    at: Instant,
+    roots: &mut Vec<u32>,
+) -> Result<(), Fault>
+    ensures fault { Refuses result None }
+    ensures ok { OnOk result (roots.new.items ≡ roots.old.items
+        ++ flat_map (λ row. root_targets profile at.0 book.now (image row.now)) rows.now) }
+{
+    for row in rows {
+        push_image_root(alloc, book, row, profile, at, roots)?;
+    }
+    Ok(())
+}
+
+fn push_container(
+    alloc: Global,
+    book: &NodeBook,
+    row: &ContainerRow,
+    roots: &mut Vec<u32>,
+) -> Result<(), Fault>
+    ensures fault { Refuses result None }
+    ensures ok { OnOk result (roots.new.items
+        ≡ roots.old.items ++ targets_in book.now (container row.now)) }
+{
+    match &row.snapshot {
+        Some((snapshotter, key)) => {
+            let ns = row.ns.copy()?;
+            let resource = Resource::Snapshot(snapshotter.copy()?, key.copy()?);
+            let mut probe = Node {
+                ns,
+                resource,
+                mode: Mode::Full,
+            };
+            push_number(book, &probe, roots)?;
+            push_labels(alloc, book, &mut probe, &row.labels, roots)
+        }
+        None => {
+            let ns = row.ns.copy()?;
+            let resource = Resource::Ingest(row.name.copy()?);
+            let mut probe = Node {
+                ns,
+                resource,
+                mode: Mode::Full,
+            };
+            push_labels(alloc, book, &mut probe, &row.labels, roots)
+        }
+    }
+}
+
+// Adds the numbers of what containers reference.
+pub(crate) fn push_containers(
+    alloc: Global,
+    book: &NodeBook,
+    rows: &[&ContainerRow],
+    roots: &mut Vec<u32>,
+) -> Result<(), Fault>
+    ensures fault { Refuses result None }
+    ensures ok { OnOk result (roots.new.items ≡ roots.old.items
+        ++ flat_map (λ row. targets_in book.now (container row.now)) rows.now) }
+{
+    for row in rows {
+        push_container(alloc, book, row, roots)?;
+    }
+    Ok(())
+}
+
+// An ingest has one mode.
+fn resource_mode(mode: Mode, resource: &Resource) -> Mode
+    ensures { result ≡ resource_mode mode resource.now }
+{
+    match resource {
+        Resource::Content(_) => mode,
+        Resource::Snapshot(_, _) => mode,
+        Resource::Ingest(_) => Mode::Full,
+    }
+}
+
+fn push_resource(
+    book: &NodeBook,
+    ns: &ShortName,
+    mode: Mode,
+    resource: &Resource,
+    roots: &mut Vec<u32>,
+) -> Result<(), Fault>
+    ensures fault { Refuses result None }
+    ensures ok { OnOk result (roots.new.items ≡ roots.old.items ++ numbers_in book.now
+        (node ns.now resource.now (resource_mode mode resource.now) ∷ [])) }
+{
+    let ns = ns.copy()?;
+    let mode = resource_mode(mode, resource);
+    let resource = resource.copy()?;
+    push_number(book, &Node { ns, resource, mode }, roots)
+}
+
+fn push_resources(
+    book: &NodeBook,
+    ns: &ShortName,
+    mode: Mode,
+    resources: &[Resource],
+    roots: &mut Vec<u32>,
+) -> Result<(), Fault>
+    ensures fault { Refuses result None }
+    ensures ok { OnOk result (roots.new.items
+        ≡ roots.old.items ++ numbers_in book.now (resource_targets ns.now mode resources.now)) }
+{
+    for resource in resources {
+        push_resource(book, ns, mode, resource, roots)?;
+    }
+    Ok(())
+}
+
+fn lease_mode(row: &Lease) -> Mode
+    ensures { result ≡ lease_mode row.now }
+{
+    if is_flat(row.labels()) {
+        Mode::Flat
+    } else {
+        Mode::Full
+    }
+}
+
+fn push_lease_root(
+    book: &NodeBook,
+    row: &Lease,
+    profile: u8,
+    at: Instant,
+    roots: &mut Vec<u32>,
+) -> Result<(), Fault>
+    ensures fault { Refuses result None }
+    ensures ok { OnOk result (roots.new.items
+        ≡ roots.old.items ++ root_targets profile at.0 book.now (lease row.now)) }
+{
+    let _profile = profile;
+    if lease_stays(row, at) {
+        push_resources(book, row.ns(), lease_mode(row), row.resources(), roots)
+    } else {
+        Ok(())
+    }
+}
+
+// Adds the numbers of what leases hold that haven't ended.
+pub(crate) fn push_leases(
+    book: &NodeBook,
+    rows: &[Lease],
+    profile: u8,
+    at: Instant,
+    roots: &mut Vec<u32>,
+) -> Result<(), Fault>
+    ensures fault { Refuses result None }
+    ensures ok { OnOk result (roots.new.items ≡ roots.old.items
+        ++ flat_map (λ row. root_targets profile at.0 book.now (lease row)) rows.now) }
+{
+    for row in rows {
+        push_lease_root(book, row, profile, at, roots)?;
+    }
+    Ok(())
+}
+
+fn push_place(number: u32, is_root: bool, roots: &mut Vec<u32>) -> Result<(), Fault>
+    ensures fault { Refuses result None }
+    ensures ok { OnOk result (roots.new.items
+        ≡ roots.old.items ++ (if is_root then number ∷ [] else [])) }
+{
+    if is_root {
+        roots.push(number)?;
+    }
+    Ok(())
+}
+
+// Adds the numbers of ingests that hold themselves; the first has the number `base`.
+pub(crate) fn push_own_ingests(
+    base: u32,
+    rows: &[&IngestRow],
+    at: Instant,
+    roots: &mut Vec<u32>,
+) -> Result<(), Fault>
+    requires { base + length rows.now ≤ 16777216 }
+    ensures fault { Refuses result None }
+    ensures ok { OnOk result (roots.new.items ≡ roots.old.items
+        ++ places (λ row. ingest_holds_itself at.0 row.now) base rows.now) }
+{
+    let mut number = base;
+    for row in rows {
+        push_place(number, ingest_holds_itself(row, at), roots)?;
+        number += 1;
+    }
+    Ok(())
+}
+
+// Adds the numbers of content with a root label; the first row has the number `base`.
+pub(crate) fn push_marked_content(
+    base: u32,
+    rows: &[&ContentRow],
+    roots: &mut Vec<u32>,
+) -> Result<(), Fault>
+    requires { base + length rows.now ≤ 16777216 }
+    ensures fault { Refuses result None }
+    ensures ok { OnOk result (roots.new.items ≡ roots.old.items
+        ++ places (λ row. is_marked_root row.now.labels) base rows.now) }
+{
+    let mut number = base;
+    for row in rows {
+        push_place(number, is_root(&row.labels), roots)?;
+        number += 1;
+    }
+    Ok(())
+}
+
+// Adds the numbers of snapshots with a root label; the first has the number `base`.
+pub(crate) fn push_marked_snapshots(
+    base: u32,
+    rows: &[&SnapRow],
+    roots: &mut Vec<u32>,
+) -> Result<(), Fault>
+    requires { base + length rows.now ≤ 16777216 }
+    ensures fault { Refuses result None }
+    ensures ok { OnOk result (roots.new.items ≡ roots.old.items
+        ++ places (λ row. is_marked_root row.now.labels) base rows.now) }
+{
+    let mut number = base;
+    for row in rows {
+        push_place(number, is_root(&row.labels), roots)?;
+        number += 1;
+    }
+    Ok(())
+}

@@ -1,0 +1,157 @@
+//! The whole graph.
+ghost use Rattle.std.specs.Prelude.{◌≡◌, ◌+◌, ◌*◌, ◌≤◌, ◌++◌, [], map, fold, length, None, IfOk, not};
+ghost use Rattle.std.specs.List.{flat_map};
+ghost use Rattle.meta_types.specs.Faults.{Refuses, unless};
+ghost use Rattle.meta_types.specs.Limits.{is_too_large};
+ghost use Rattle.meta_types.specs.Labels.{is_marked_root};
+ghost use Rattle.meta_types.specs.Reports.{ignored_of, ignored_images_of};
+ghost use Rattle.meta_types.specs.Paths.{image, container, lease, ingest, content, snapshot, ingest_holds_itself};
+ghost use Rattle.meta_types.specs.declared.fault.Fault.TheVariants.{FailedPrecondition};
+ghost use Rattle.meta_types.specs.declared.resource.Mode.TheVariants.{Full, Flat};
+ghost use Rattle.gc_graph.specs.Targets.{ingest_node, content_node, snapshot_node};
+ghost use Rattle.gc_graph.specs.Built.{put_node, targets_in, root_targets, places, AreApart, IsBuilt};
+ghost use Rattle.gc_graph.specs.Stored.{records_of, IsSmall};
+
+use crate::book::NodeBook;
+use crate::edges::{
+    push_content, push_flat_content, push_flat_snapshots, push_ingests, push_snapshots,
+};
+use crate::ignored::{Ignored, ignored_images, ignored_leases};
+use crate::nodes::{add_content, add_ingests, add_snapshots};
+use crate::roots::{
+    push_containers, push_images, push_leases, push_marked_content, push_marked_snapshots,
+    push_own_ingests,
+};
+use crate::rows::StoreRows;
+use mark_core::Graph;
+use meta_types::{Fault, Instant, MAX_NODES, Mode};
+use std::alloc::Global;
+use std::thread::Threads;
+
+fn is_too_large(rows: &StoreRows<'_>) -> bool
+    ensures { result ≡ is_too_large (records_of rows.now) }
+{
+    let content = rows.content.len() as u128;
+    let snapshots = rows.snapshots.len() as u128;
+    let ingests = rows.ingests.len() as u128;
+    (MAX_NODES as u128) < 2 * (content + snapshots) + ingests
+}
+
+fn book_of(alloc: Global, rows: &StoreRows<'_>) -> Result<NodeBook, Fault>
+    requires { IsSmall rows.now }
+    ensures fault { Refuses result None }
+    ensures ok { IfOk result (λ b. b ≡ fold put_node (fold put_node (fold put_node (fold put_node
+        (fold put_node [] (map (λ row. ingest_node row.now) rows.now.ingests.now))
+        (map (λ row. content_node Full row.now) rows.now.content.now))
+        (map (λ row. content_node Flat row.now) rows.now.content.now))
+        (map (λ row. snapshot_node Full row.now) rows.now.snapshots.now))
+        (map (λ row. snapshot_node Flat row.now) rows.now.snapshots.now)) }
+{
+    let count = 2 * (rows.content.len() + rows.snapshots.len()) + rows.ingests.len();
+    let mut book = NodeBook::with_room(alloc, count)?;
+    add_ingests(&mut book, rows.ingests)?;
+    add_content(&mut book, rows.content, Mode::Full)?;
+    add_content(&mut book, rows.content, Mode::Flat)?;
+    add_snapshots(&mut book, rows.snapshots, Mode::Full)?;
+    add_snapshots(&mut book, rows.snapshots, Mode::Flat)?;
+    Ok(book)
+}
+
+fn edges_of(
+    rt: &(impl Threads + Sync),
+    alloc: Global,
+    book: &NodeBook,
+    rows: &StoreRows<'_>,
+) -> Result<Vec<Vec<u32>>, Fault>
+    requires { IsSmall rows.now }
+    ensures fault { Refuses result None }
+    ensures ok { IfOk result (λ edges. map (λ v. v.items) edges.items
+        ≡ map (λ row. targets_in book.now (ingest row.now)) rows.now.ingests.now
+        ++ map (λ row. targets_in book.now (content Full row.now)) rows.now.content.now
+        ++ map (λ row. targets_in book.now (content Flat row.now)) rows.now.content.now
+        ++ map (λ row. targets_in book.now (snapshot Full row.now)) rows.now.snapshots.now
+        ++ map (λ row. targets_in book.now (snapshot Flat row.now)) rows.now.snapshots.now) }
+{
+    let count = 2 * (rows.content.len() + rows.snapshots.len()) + rows.ingests.len();
+    let mut edges = Vec::with_capacity(alloc, count)?;
+    push_ingests(alloc, book, rows.ingests, &mut edges)?;
+    push_content(rt, alloc, book, rows.content, &mut edges)?;
+    push_flat_content(alloc, book, rows.content, &mut edges)?;
+    push_snapshots(rt, alloc, book, rows.snapshots, &mut edges)?;
+    push_flat_snapshots(alloc, book, rows.snapshots, &mut edges)?;
+    Ok(edges)
+}
+
+fn roots_of(
+    alloc: Global,
+    book: &NodeBook,
+    rows: &StoreRows<'_>,
+    at: Instant,
+) -> Result<Vec<u32>, Fault>
+    requires { IsSmall rows.now }
+    ensures fault { Refuses result None }
+    ensures ok { IfOk result (λ roots. roots.items
+        ≡ flat_map (λ row. root_targets rows.now.profile at.0 book.now (image row.now))
+        rows.now.images.now
+        ++ flat_map (λ row. targets_in book.now (container row.now)) rows.now.containers.now
+        ++ flat_map (λ row. root_targets rows.now.profile at.0 book.now (lease row))
+        rows.now.leases.now
+        ++ places (λ row. ingest_holds_itself at.0 row.now) 0 rows.now.ingests.now
+        ++ places (λ row. is_marked_root row.now.labels) (length rows.now.ingests.now)
+        rows.now.content.now
+        ++ places (λ row. is_marked_root row.now.labels)
+        (length rows.now.ingests.now + 2 * length rows.now.content.now) rows.now.snapshots.now) }
+{
+    let mut roots = Vec::new(alloc);
+    push_images(alloc, book, rows.images, rows.profile, at, &mut roots)?;
+    push_containers(alloc, book, rows.containers, &mut roots)?;
+    push_leases(book, rows.leases, rows.profile, at, &mut roots)?;
+    let content = rows.ingests.len() as u32;
+    let snapshots = content + 2 * (rows.content.len() as u32);
+    push_own_ingests(0, rows.ingests, at, &mut roots)?;
+    push_marked_content(content, rows.content, &mut roots)?;
+    push_marked_snapshots(snapshots, rows.snapshots, &mut roots)?;
+    Ok(roots)
+}
+
+fn ignored_of(alloc: Global, rows: &StoreRows<'_>) -> Result<Ignored, Fault>
+    ensures fault { Refuses result None }
+    ensures leases { IfOk result (λ r. r.ignored.items ≡ ignored_of (records_of rows.now)) }
+    ensures images { IfOk result (λ r. r.ignored_images.items
+        ≡ ignored_images_of (records_of rows.now)) }
+{
+    let ignored = ignored_leases(alloc, rows.leases)?;
+    let ignored_images = ignored_images(alloc, rows.images, rows.profile)?;
+    Ok(Ignored {
+        ignored,
+        ignored_images,
+    })
+}
+
+/// Numbers each ingest, and each row of content and of snapshots in both modes; and makes the graph
+/// of their references. Images, containers and leases give roots. Refused where there are more than
+/// 16,777,216 nodes. Labels of content and of snapshots are read by as many threads as there are
+/// processors; of fewer than 2,048 rows by the calling thread.
+pub fn build(
+    rt: &(impl Threads + Sync),
+    alloc: Global,
+    rows: &StoreRows<'_>,
+    at: Instant,
+) -> Result<(NodeBook, Graph, Ignored), Fault>
+    requires { AreApart (records_of rows.now) }
+    ensures fault { Refuses result
+        (unless (not (is_too_large (records_of rows.now))) FailedPrecondition) }
+    ensures ok { IfOk result (λ r. IsBuilt (records_of rows.now) at.0 r.0 r.1) }
+    ensures leases { IfOk result (λ r. r.2.ignored.items ≡ ignored_of (records_of rows.now)) }
+    ensures images { IfOk result (λ r. r.2.ignored_images.items
+        ≡ ignored_images_of (records_of rows.now)) }
+{
+    if is_too_large(rows) {
+        return Err(Fault::FailedPrecondition);
+    }
+    let book = book_of(alloc, rows)?;
+    let edges = edges_of(rt, alloc, &book, rows)?;
+    let roots = roots_of(alloc, &book, rows, at)?;
+    let ignored = ignored_of(alloc, rows)?;
+    Ok((book, Graph { edges, roots }, ignored))
+}
