@@ -1,0 +1,106 @@
+-- Depths are numbers of ancestors, and keys in order are snapshots in order.
+use Rattle.std.proofs.Common.{◌≡◌, ◌≤◌, ℕ, zero, suc, ◌+◌, inl, inr, Bool, true, false, List, [], ◌∷◌, ◌++◌, map, length, refl, sym, ap, ◌∙◌, arith, Option, Some, None, if◌then◌else◌, cond, filter}
+use Rattle.std.specs.Prelude.{find, option_and_then, bytes_eq, ◌&&◌, ◌==◌}
+use Rattle.std.specs.Option.{option_map_or}
+use Rattle.std.proofs.lemmas.List.{length-map}
+use Rattle.std.proofs.lemmas.Bool.{cases_Bool}
+use Rattle.std.proofs.lemmas.Simd.{map-map}
+use Rattle.meta_types.specs.Text.{Text}
+use Rattle.meta_types.specs.Rows.{BackSnap}
+use Rattle.meta_types.specs.Keys.{put_in_order, in_order}
+use Rattle.meta_types.specs.Backends.{is_named, ancestors, depth_of, goes_before, object_name}
+use Rattle.table_sweep.specs.declared.depths.Key.{Key}
+use Rattle.table_sweep.specs.Depths.{Listed, snap_of, above_of, depth_in, key_of, is_first, key_name}
+
+-- ---- one ancestor more
+
+deeper : (shards : List Listed) (at next : Listed) (rest : ℕ) → above_of shards at ≡ Some next → depth_in (suc rest) shards at ≡ suc (depth_in rest shards next)
+deeper shards at next rest e = ap (λ o. option_map_or (λ above. suc (depth_in rest shards above)) o zero) e
+
+no_deeper : (shards : List Listed) (at : Listed) (rest : ℕ) → above_of shards at ≡ None → depth_in rest shards at ≡ zero
+no_deeper shards at zero e = refl
+no_deeper shards at (suc rest) e = ap (λ o. option_map_or (λ above. suc (depth_in rest shards above)) o zero) e
+
+plus_next : (d x : ℕ) → d + 1 + x ≡ d + suc x
+plus_next d x = omega arith
+
+pub deeper_step : (shards : List Listed) (at next : Listed) (depth rest all : ℕ) → above_of shards at ≡ Some next → depth + depth_in (rest + 1) shards at ≡ all → depth + 1 + depth_in rest shards next ≡ all
+deeper_step shards at next depth rest all e h =
+    let one_more : rest + 1 ≡ suc rest = omega arith in
+    plus_next depth (depth_in rest shards next) ∙ ap (λ n. depth + n) (sym (ap (λ n. depth_in n shards at) one_more ∙ deeper shards at next rest e)) ∙ h
+
+pub no_deeper_step : (shards : List Listed) (at : Listed) (depth rest all : ℕ) → above_of shards at ≡ None → depth + depth_in rest shards at ≡ all → depth ≡ all
+no_deeper_step shards at depth rest all e h =
+    let nothing_more : depth ≡ depth + 0 = omega arith in
+    nothing_more ∙ ap (λ n. depth + n) (sym (no_deeper shards at rest e)) ∙ h
+
+-- ---- depths
+
+abbrev with_record : Option Listed → Option BackSnap
+with_record None = None
+with_record (Some s) = Some (snap_of s)
+
+find_listed : (snapshotter : Text) (number : ℕ) (shards : List Listed) → find (is_named (snapshotter, number)) (map snap_of shards) ≡ with_record (find (λ s. bytes_eq s.0 snapshotter && s.1 == number) shards)
+find_listed snapshotter number [] = refl
+find_listed snapshotter number (s ∷ shards) = go (bytes_eq s.0 snapshotter && s.1 == number) (find_listed snapshotter number shards)
+  where
+    go : (b : Bool) → find (is_named (snapshotter, number)) (map snap_of shards) ≡ with_record (find (λ s. bytes_eq s.0 snapshotter && s.1 == number) shards)
+        → cond b (Some (snap_of s)) (find (is_named (snapshotter, number)) (map snap_of shards)) ≡ with_record (cond b (Some s) (find (λ s. bytes_eq s.0 snapshotter && s.1 == number) shards))
+    go true e = refl
+    go false e = e
+
+above_listed : (shards : List Listed) (s : Text) (n : ℕ) (parent : Option ℕ) → option_and_then (λ number. find (is_named (s, number)) (map snap_of shards)) parent ≡ with_record (above_of shards (s, n, parent))
+above_listed shards s n None = refl
+above_listed shards s n (Some number) = find_listed s number shards
+
+depth_steps : (most : ℕ) (shards : List Listed) (snap : Listed) → length (ancestors most (map snap_of shards) (snap_of snap)) ≡ depth_in most shards snap
+depth_steps zero shards snap = refl
+depth_steps (suc most) shards snap =
+    ap (λ o. length (option_map_or (λ above. above ∷ ancestors most (map snap_of shards) above) o [])) (above_listed shards snap.0 snap.1 snap.2)
+    ∙ go (above_of shards snap) (λ above. depth_steps most shards above)
+  where
+    go : (o : Option Listed) → ((above : Listed) → length (ancestors most (map snap_of shards) (snap_of above)) ≡ depth_in most shards above)
+        → length (option_map_or (λ above. above ∷ ancestors most (map snap_of shards) above) (with_record o) []) ≡ option_map_or (λ above. suc (depth_in most shards above)) o zero
+    go None h = refl
+    go (Some above) h = ap suc (h above)
+
+depth_is : (shards : List Listed) (snap : Listed) → depth_of (map snap_of shards) (snap_of snap) ≡ depth_in (length shards) shards snap
+depth_is shards snap = ap (λ n. length (ancestors n (map snap_of shards) (snap_of snap))) (length-map shards snap_of) ∙ depth_steps (length shards) shards snap
+
+-- ---- keys in order
+
+-- what compares alike stands in one order
+module _ {X Y : Type 0} (f : X → Y) (p : X → X → Bool) (q : Y → Y → Bool) (same : (a b : X) → q (f a) (f b) ≡ p a b) where
+  put_alike : (x : X) (ys : List X) → put_in_order q (f x) (map f ys) ≡ map f (put_in_order p x ys)
+  put_alike x [] = refl
+  put_alike x (y ∷ ys) = (λ i. if same x y i then f x ∷ f y ∷ map f ys else f y ∷ put_alike x ys i) ∙ go (p x y)
+    where
+      go : (b : Bool) → (if b then f x ∷ f y ∷ map f ys else f y ∷ map f (put_in_order p x ys)) ≡ map f (if b then x ∷ y ∷ ys else y ∷ put_in_order p x ys)
+      go true = refl
+      go false = refl
+
+  order_alike : (xs : List X) → in_order q (map f xs) ≡ map f (in_order p xs)
+  order_alike [] = refl
+  order_alike (x ∷ xs) = ap (put_in_order q (f x)) (order_alike xs) ∙ put_alike x (in_order p xs)
+
+filter_map_is : {X Y : Type 0} (f : X → Y) (p : Y → Bool) (xs : List X) → filter p (map f xs) ≡ map f (filter (λ x. p (f x)) xs)
+filter_map_is f p [] = refl
+filter_map_is f p (x ∷ xs) = go (p (f x)) (filter_map_is f p xs)
+  where
+    go : (b : Bool) → filter p (map f xs) ≡ map f (filter (λ x. p (f x)) xs) → (if b then f x ∷ filter p (map f xs) else filter p (map f xs)) ≡ map f (if b then x ∷ filter (λ x. p (f x)) xs else filter (λ x. p (f x)) xs)
+    go true e = ap (λ rest. f x ∷ rest) e
+    go false e = e
+
+module _ (shards : List Listed) where
+  -- snapshots and their keys compare alike
+  same_order : (a b : Listed) → goes_before (map snap_of shards) (snap_of a) (snap_of b) ≡ is_first (key_of shards a) (key_of shards b)
+  same_order a b = λ i. is_first (record { snapshotter = a.0; depth = depth_is shards a i; number = a.1 }) (record { snapshotter = b.0; depth = depth_is shards b i; number = b.1 })
+
+  -- the names of those that go, in order
+  pub names_in_order : (goes : BackSnap → Bool) → map key_name (in_order is_first (map (key_of shards) (filter (λ s. goes (snap_of s)) shards))) ≡ map object_name (in_order (goes_before (map snap_of shards)) (filter goes (map snap_of shards)))
+  names_in_order goes =
+      let p : Listed → Listed → Bool = λ a b. is_first (key_of shards a) (key_of shards b) in
+      let those = filter (λ s. goes (snap_of s)) shards in
+      ap (map key_name) (order_alike (key_of shards) p is_first (λ a b. refl) those) ∙ map-map key_name (key_of shards) (in_order p those)
+      ∙ sym (map-map object_name snap_of (in_order p those)) ∙ sym (ap (map object_name) (order_alike snap_of p (goes_before (map snap_of shards)) same_order those))
+      ∙ sym (ap (λ l. map object_name (in_order (goes_before (map snap_of shards)) l)) (filter_map_is snap_of goes shards))

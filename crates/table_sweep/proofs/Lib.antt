@@ -1,0 +1,13 @@
+pub mod Numbered
+pub mod Kept
+pub mod Swept
+pub mod Gone
+pub mod Counted
+pub mod Owning
+pub mod Deep
+pub mod InOrder
+pub mod NumberOrder
+pub mod KeyOrder
+pub mod Goes
+pub mod Planned
+pub mod Fitting

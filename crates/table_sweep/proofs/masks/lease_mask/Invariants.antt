@@ -1,0 +1,7 @@
+use Rattle.std.proofs.Common.{◌≡◌, map, take}
+use Rattle.meta_types.specs.Paths.{lease_stays}
+use Rattle.table_sweep.proofs.masks.lease_mask.Given as goal
+
+-- the mask tells of the leases so far
+abbrev pub invariant-loop-row : goal.invariant-loop-row
+invariant-loop-row l = l.mask.items ≡ map (lease_stays l.at.0) (take l.row-index l.rows)

@@ -1,0 +1,7 @@
+pub mod Masks
+pub mod Stays
+pub mod Owned
+pub mod Depths
+pub mod Backed
+pub mod Plans
+pub mod Copies

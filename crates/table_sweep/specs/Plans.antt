@@ -1,0 +1,19 @@
+-- What a plan says of a store.
+use Rattle.std.specs.Prelude.{◌≡◌, ℕ, Bool, ℤ}
+use Rattle.meta_types.specs.Rows.{Records, BackLists}
+use Rattle.meta_types.specs.Paths.{Thing}
+use Rattle.meta_types.specs.Backends.{no_objects, removed_objects}
+use Rattle.meta_types.specs.Collected.{collected_records}
+use Rattle.meta_types.specs.Reports.{removed_of, kept_of, ignored_of, ignored_images_of, scanned_of}
+use Rattle.table_sweep.specs.declared.planning.Plan.{Plan}
+use Rattle.table_sweep.specs.Stays.{AreMasks}
+
+-- the plan's members are those of the report of a collection without a failure; namespaces, of which there are so many, all stay (ours)
+pub record IsPlan (records : Records) (namespaces : ℕ) (back : BackLists) (at : ℤ) (reached : Thing → Bool) (plan : Plan) : Type 0 where
+  pub masks : AreMasks records at reached plan.masks
+  pub backend : plan.backend ≡ removed_objects (collected_records at reached records).tables no_objects back
+  pub removed : plan.removed ≡ removed_of at reached records
+  pub kept : plan.kept ≡ record (kept_of (collected_records at reached records)) { namespaces = namespaces }
+  pub ignored : plan.ignored.items ≡ ignored_of records
+  pub ignored_images : plan.ignored_images.items ≡ ignored_images_of records
+  pub scanned : plan.scanned ≡ scanned_of reached records

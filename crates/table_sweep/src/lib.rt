@@ -1,0 +1,20 @@
+//! What a collection leaves of the tables, and what goes.
+#![tactic(auto)]
+
+mod copies;
+mod counts;
+mod depths;
+mod masks;
+mod names;
+mod objects;
+mod owners;
+mod pass;
+mod planning;
+#[cfg(test)]
+mod tests;
+
+pub use depths::BackSnap;
+pub use masks::{Masks, masks_of};
+pub use objects::BackRows;
+pub use pass::sweep;
+pub use planning::{Plan, plan_of};

@@ -1,0 +1,25 @@
+//! The sweep of the tables.
+ghost use Rattle.std.specs.Prelude.{◌≡◌};
+ghost use Rattle.meta_types.specs.Collected.{collected_records};
+ghost use Rattle.table_sweep.specs.Stays.{AreMasks, FitRows, Collection};
+
+use crate::masks::Masks;
+use lease_book::Leases;
+use object_tables::Tables;
+
+/// Leaves the rows that stay, in one pass a kind. It takes no memory.
+pub fn sweep(tables: &mut Tables, leases: &mut Leases, masks: &Masks)
+    requires { FitRows tables.old leases.old masks.now }
+    ensures tables { (of : Collection) → tables.old ≡ of.records.tables
+        → AreMasks of.records of.at of.reached masks.now
+        → tables.new ≡ (collected_records of.at of.reached of.records).tables }
+    ensures leases { (of : Collection) → leases.old ≡ of.records.leases
+        → AreMasks of.records of.at of.reached masks.now
+        → leases.new ≡ (collected_records of.at of.reached of.records).leases }
+{
+    tables.retain_images(&masks.images);
+    tables.retain_content(&masks.content);
+    tables.retain_ingests(&masks.ingests);
+    tables.retain_snapshots(&masks.snapshots);
+    leases.retain(&masks.leases);
+}

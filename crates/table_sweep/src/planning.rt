@@ -1,0 +1,85 @@
+//! What a collection is to do, and what its report is to say.
+ghost use Rattle.std.specs.Prelude.{◌≡◌, ◌≢◌, ◌+◌, length, None, IfOk, AllPairs};
+ghost use Rattle.meta_types.specs.Faults.{Refuses};
+ghost use Rattle.meta_types.specs.Reports.{ignored_of, ignored_images_of};
+ghost use Rattle.gc_graph.specs.Marked.{reached_by};
+ghost use Rattle.gc_graph.specs.Stored.{records_of, IsSmall};
+ghost use Rattle.gc_graph.specs.Targets.{nodes_of};
+ghost use Rattle.table_sweep.specs.Backed.{lists_of};
+ghost use Rattle.table_sweep.specs.Plans.{IsPlan};
+
+use crate::counts::{count_marked, kept_of};
+use crate::masks::{Masks, masks_of};
+use crate::names::removed_of;
+use crate::objects::{BackRows, objects_of};
+use gc_graph::{Ignored, NodeBook, StoreRows};
+use gc_report::{Kept, Objects, Removed};
+use mark_core::Marks;
+use meta_types::{Fault, Instant, Name, ShortName};
+use std::alloc::Global;
+
+/// Which rows stay, and the members of the report of a collection in which no removal fails.
+#[derive(Drop)]
+pub struct Plan {
+    pub masks: Masks,
+    pub backend: Objects,
+    pub removed: Removed,
+    pub kept: Kept,
+    pub ignored: Vec<(ShortName, Name)>,
+    pub ignored_images: Vec<(ShortName, Name)>,
+    pub scanned: u64,
+}
+
+// How many nodes the rows have.
+fn count_nodes(rows: &StoreRows<'_>) -> u32
+    requires { IsSmall rows.now }
+    ensures { result ≡ length rows.now.ingests.now
+        + ((length rows.now.content.now + length rows.now.content.now)
+        + (length rows.now.snapshots.now + length rows.now.snapshots.now)) }
+{
+    let content = rows.content.len() as u32;
+    let snapshots = rows.snapshots.len() as u32;
+    rows.ingests.len() as u32 + 2 * (content + snapshots)
+}
+
+/// The plan of a collection at this moment, by the marks on the nodes of these rows. It takes all
+/// the memory that the collection and its report need. The book and what is ignored are those that
+/// `build` gives for these rows.
+pub fn plan_of(
+    alloc: Global,
+    rows: &StoreRows<'_>,
+    namespaces: u64,
+    back: &BackRows<'_>,
+    book: &NodeBook,
+    marks: &Marks,
+    ignored: Ignored,
+    at: Instant,
+) -> Result<Plan, Fault>
+    requires numbered { book.now ≡ nodes_of (records_of rows.now) }
+    requires once { AllPairs (λ a b. a ≢ b) book.now }
+    requires few { IsSmall rows.now }
+    requires ignored { ignored.ignored.items ≡ ignored_of (records_of rows.now) }
+    requires images { ignored.ignored_images.items ≡ ignored_images_of (records_of rows.now) }
+    ensures fault { Refuses result None }
+    ensures ok { IfOk result (λ plan. IsPlan (records_of rows.now) namespaces (lists_of back.now)
+        at.0 (reached_by rows.now.profile book.now marks.now at.0) plan) }
+{
+    let masks = masks_of(alloc, rows, book, marks, at)?;
+    let removed = removed_of(alloc, rows, &masks)?;
+    let backend = objects_of(alloc, rows, &masks, back)?;
+    let kept = kept_of(rows, &masks, namespaces);
+    let scanned = count_marked(marks, count_nodes(rows)) as u64;
+    let Ignored {
+        ignored,
+        ignored_images,
+    } = ignored;
+    Ok(Plan {
+        masks,
+        backend,
+        removed,
+        kept,
+        ignored,
+        ignored_images,
+        scanned,
+    })
+}
