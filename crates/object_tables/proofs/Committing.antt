@@ -14,11 +14,11 @@ use Rattle.meta_types.proofs.Ordered.{before_trans}
 
 module _ {Row : Type 0} (key_of : Row → Key) where
   -- a row before the first of the list goes to its head
-  added_first : (row : Row) (rows : List Row) → is_first key_of row rows ≡ true → add_row key_of row rows ≡ row ∷ rows
+  pub added_first : (row : Row) (rows : List Row) → is_first key_of row rows ≡ true → add_row key_of row rows ≡ row ∷ rows
   added_first row [] h = refl
   added_first row (next ∷ rows) h = rw h refl
 
-  first_later : (new row : Row) (rows : List Row) → is_before (key_of new) (key_of row) ≡ true → is_first key_of row rows ≡ true → is_first key_of new rows ≡ true
+  pub first_later : (new row : Row) (rows : List Row) → is_before (key_of new) (key_of row) ≡ true → is_first key_of row rows ≡ true → is_first key_of new rows ≡ true
   first_later new row [] p q = refl
   first_later new row (next ∷ rows) p q = before_trans (key_of new) (key_of row) (key_of next) p q
 

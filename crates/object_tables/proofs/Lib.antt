@@ -9,3 +9,6 @@ pub mod Snapshotters
 pub mod SnapshottersSorted
 pub mod SideBySide
 pub mod SpanRows
+pub mod RowsKept
+pub mod Inserted
+pub mod Index

@@ -1,6 +1,6 @@
 -- What the rows of a span tell of all rows.
-use Rattle.std.proofs.Common.{◌≡◌, Bool, true, false, List, [], ◌∷◌, length, suc, take, refl, ap, ◌∙◌, sym, arith, not, map, inl, inr}
-use Rattle.std.specs.Prelude.{filter, bytes_eq, ◌==◌, ◌&&◌, ◌||◌, if◌then◌else◌}
+use Rattle.std.proofs.Common.{◌≡◌, Bool, true, false, List, [], ◌∷◌, length, suc, take, refl, ap, ◌∙◌, sym, arith, not, inl, inr}
+use Rattle.std.specs.Prelude.{filter, bytes_eq, ◌==◌, ◌&&◌}
 use Rattle.std.specs.List.{list_any}
 use Rattle.std.proofs.lemmas.Bool.{cases_Bool, ne_eqb}
 use Rattle.std.proofs.lemmas.List.Elements.{filter_agree}
@@ -8,9 +8,6 @@ use Rattle.meta_types.specs.Text.{Text}
 use Rattle.meta_types.specs.Keys.{Key, is_key}
 use Rattle.meta_types.specs.declared.rows.SnapRow.{SnapRow}
 use Rattle.meta_types.specs.Rows.{snap_key}
-use Rattle.meta_types.specs.SnapshotOps.{is_child_of}
-use Rattle.std.specs.Option.{option_map_or}
-use Rattle.object_tables.specs.Calls.{children_of}
 
 and_true : (b : Bool) → (b && true) ≡ b
 and_true true = refl
@@ -37,40 +34,3 @@ module _ {X : Type 0} (p : X → Bool) where
     | inl t ↦ rw t (sym (ap not (ne_eqb (suc (length (filter p xs))) 0 (λ e. absurd (omega arith)))))
     | inr f ↦ rw f (any_pass xs)
   ]
-
-module _ {X : Type 0} (p q r : X → Bool) (both : (x : X) → (p x && q x) ≡ r x) where
-  -- one of those that pass passes a second test where some item passes both
-  pub any_among : (xs : List X) → list_any q (filter p xs) ≡ list_any r xs
-  any_among [] = refl
-  any_among (x ∷ xs) = elim (cases_Bool (p x)) [
-    | inl t ↦ rw (← both x, t) (ap (λ b. q x || b) (any_among xs))
-    | inr f ↦ rw (← both x, f) (any_among xs)
-  ]
-
-  -- and those that do are the items that pass both
-  pub those_among : (xs : List X) → filter q (filter p xs) ≡ filter r xs
-  those_among [] = refl
-  those_among (x ∷ xs) = elim (cases_Bool (p x)) [
-    | inl t ↦ rw (← both x, t) (under (q x) (those_among xs))
-    | inr f ↦ rw (← both x, f) (those_among xs)
-  ]
-    where
-      under : {ys zs : List X} (b : Bool) → ys ≡ zs → (if b then x ∷ ys else ys) ≡ (if b then x ∷ zs else zs)
-      under b e = ap (λ l. if b then x ∷ l else l) e
-
-module _ (ns snapshotter name : Text) where
-  -- a child of a snapshot is one of its snapshotter's, over its name
-  is_child : (row : SnapRow) → ((bytes_eq ns row.key.ns && bytes_eq snapshotter row.key.snapshotter) && option_map_or (bytes_eq name) row.parent false) ≡ is_child_of ns snapshotter name row
-  is_child row = elim (cases_Bool (bytes_eq ns row.key.ns)) [
-    | inl t ↦ rw t refl
-    | inr f ↦ rw f refl
-  ]
-
-  pub any_child : (rows : List SnapRow)
-      → list_any (λ (row : SnapRow). option_map_or (bytes_eq name) row.parent false) (filter (λ row. bytes_eq ns row.key.ns && bytes_eq snapshotter row.key.snapshotter) rows) ≡ list_any (is_child_of ns snapshotter name) rows
-  any_child rows = any_among _ _ _ is_child rows
-
-  pub those_children : (rows : List SnapRow)
-      → map (λ (row : SnapRow). row.key) (filter (λ (row : SnapRow). option_map_or (bytes_eq name) row.parent false) (filter (λ row. bytes_eq ns row.key.ns && bytes_eq snapshotter row.key.snapshotter) rows))
-      ≡ children_of ns snapshotter name rows
-  those_children rows = ap (map (λ (row : SnapRow). row.key)) (those_among _ _ _ is_child rows)

@@ -1,6 +1,7 @@
 //! Rows of images, containers, content, ingests and snapshots, by namespace.
 #![tactic(auto)]
 
+mod children;
 mod containers;
 mod content;
 mod images;

@@ -25,6 +25,7 @@ impl Tables {
             ∷ key.now.name ∷ []) self.now.snapshots }
     {
         self.snapshots
+            .table()
             .get(&[key.ns.text(), key.snapshotter.text(), key.name.text()])
     }
 
@@ -34,6 +35,7 @@ impl Tables {
             ∷ []) self.now.snapshots }
     {
         self.snapshots
+            .table()
             .has(&[key.ns.text(), key.snapshotter.text(), key.name.text()])
     }
 
@@ -42,7 +44,7 @@ impl Tables {
         ensures fault { Refuses result None }
         ensures ok { IfOk result (λ rows. map (λ row. row.now) rows.items ≡ self.now.snapshots) }
     {
-        self.snapshots.borrowed(alloc)
+        self.snapshots.table().borrowed(alloc)
     }
 
     /// Puts one label on a snapshot.
@@ -94,7 +96,7 @@ impl Tables {
         let committed = match &row.parent {
             Some(parent) => {
                 let key = &[row.key.ns.text(), row.key.snapshotter.text(), parent.text()];
-                match self.snapshots.get(key) {
+                match self.snapshots.table().get(key) {
                     Some(above) => above.kind == SnapKind::Committed,
                     None => return Err(Fault::NotFound),
                 }
@@ -118,7 +120,7 @@ impl Tables {
         match &row.parent {
             Some(parent) => {
                 let key = &[row.key.ns.text(), row.key.snapshotter.text(), parent.text()];
-                match self.snapshots.get(key) {
+                match self.snapshots.table().get(key) {
                     Some(above) => Some(above.number),
                     None => None,
                 }
@@ -136,12 +138,12 @@ impl Tables {
             ∷ []) self.now.snapshots ≡ false) }
         ensures order { IsTrue (are_in_order snap_key self.now.snapshots) }
     {
-        let _ = self.snapshots.rows();
+        let _ = self.snapshots.table().rows();
         let Some(row) = self.get_snap(key) else {
             return Err(Fault::NotFound);
         };
         let place = &[key.ns.text(), key.snapshotter.text(), name.text()];
-        if self.snapshots.has(place) {
+        if self.snapshots.table().has(place) {
             return Err(Fault::AlreadyExists);
         }
         if row.kind != SnapKind::Active {
@@ -163,19 +165,12 @@ impl Tables {
         if !self.has_snap(key) {
             return Err(Fault::NotFound);
         }
-        if self.is_parent(key) {
+        if self.snapshots.is_parent(key) {
             return Err(Fault::FailedPrecondition);
         }
         self.snapshots
             .remove(&[key.ns.text(), key.snapshotter.text(), key.name.text()]);
         Ok(())
-    }
-
-    fn is_parent(&self, key: &SnapKey) -> bool
-        ensures { result ≡ list_any (is_child_of key.now.ns key.now.snapshotter key.now.name)
-            self.now.snapshots }
-    {
-        has_children(self.snapshots.rows_of(&key.ns, &key.snapshotter), &key.name)
     }
 
     /// Commits an active snapshot under a name that none has, with its parent and its number.
@@ -211,8 +206,7 @@ impl Tables {
         ensures ok { IfOk result (λ keys. keys.items
             ≡ children_of key.now.ns key.now.snapshotter key.now.name self.now.snapshots) }
     {
-        let rows = self.snapshots.rows_of(&key.ns, &key.snapshotter);
-        children_in(rows, alloc, &key.name)
+        self.snapshots.children(alloc, key)
     }
 
     /// The names of a snapshotter's snapshots in a namespace, by their bytes.
@@ -229,7 +223,7 @@ impl Tables {
         if !self.has_ns(ns) {
             return Err(Fault::NotFound);
         }
-        all_names_of(self.snapshots.rows_of(ns, snapshotter), alloc)
+        all_names_of(self.snapshots.table().rows_of(ns, snapshotter), alloc)
     }
 
     /// The snapshotters that have a snapshot in a namespace, each once, by their bytes.
@@ -241,7 +235,7 @@ impl Tables {
         if !self.has_ns(ns) {
             return Err(Fault::NotFound);
         }
-        snapshotters_of(self.snapshots.rows_in(ns), alloc)
+        snapshotters_of(self.snapshots.table().rows_in(ns), alloc)
     }
 
     /// Leaves the rows whose places are marked. It takes no memory.
@@ -251,43 +245,6 @@ impl Tables {
     {
         self.snapshots.retain(keep);
     }
-}
-
-fn is_child(row: &SnapRow, name: &Name) -> bool
-    ensures { result ≡ option_map_or (bytes_eq name.now) row.now.parent false }
-{
-    match &row.parent {
-        Some(parent) => name == parent,
-        None => false,
-    }
-}
-
-fn has_children(rows: &[SnapRow], name: &Name) -> bool
-    ensures { result
-        ≡ list_any (λ row. option_map_or (bytes_eq name.now) row.parent false) rows.now }
-{
-    for row in rows {
-        if is_child(row, name) {
-            return true;
-        }
-    }
-    false
-}
-
-fn children_in(rows: &[SnapRow], alloc: Global, name: &Name) -> Result<Vec<SnapKey>, Fault>
-    ensures fault { Refuses result None }
-    ensures ok { IfOk result (λ keys. keys.items
-        ≡ map (λ row. row.key) (filter (λ row. option_map_or (bytes_eq name.now) row.parent false)
-        rows.now)) }
-{
-    let mut keys = Vec::new(alloc);
-    for row in rows {
-        if is_child(row, name) {
-            let copy = row.key.copy()?;
-            keys.push(copy)?;
-        }
-    }
-    Ok(keys)
 }
 
 fn snapshotters_of(rows: &[SnapRow], alloc: Global) -> Result<Listing, Fault>

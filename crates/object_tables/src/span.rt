@@ -5,9 +5,11 @@ ghost use Rattle.std.specs.Ordering.{is_lt, is_le};
 ghost use Rattle.meta_types.specs.Text.{text_cmp};
 ghost use Rattle.meta_types.specs.Keys.{is_key, are_in_order};
 ghost use Rattle.meta_types.specs.Rows.{snap_key};
+ghost use Rattle.object_tables.specs.Children.{child_key, is_under};
 
+use crate::children::ChildRow;
 use crate::keyed::Keyed;
-use meta_types::{ShortName, SnapRow};
+use meta_types::{ShortName, SnapKey, SnapRow};
 
 /// The rows of a namespace.
 pub(crate) fn in_namespace<'a, R: Keyed>(rows: &'a [R], ns: &ShortName) -> &'a [R]
@@ -28,6 +30,22 @@ pub(crate) fn of_snapshotter<'a>(
         && bytes_eq snapshotter.now row.key.snapshotter) rows.now }
 {
     begin_with(rows, &[ns.text(), snapshotter.text()])
+}
+
+/// The children of a snapshot.
+pub(crate) fn under_parent<'a>(rows: &'a [ChildRow], parent: &SnapKey) -> &'a [ChildRow]
+    requires { IsTrue (are_in_order child_key rows.now) }
+    ensures { result.now ≡ filter (is_under parent.now.ns parent.now.snapshotter parent.now.name)
+        rows.now }
+{
+    begin_with(
+        rows,
+        &[
+            parent.ns.text(),
+            parent.snapshotter.text(),
+            parent.name.text(),
+        ],
+    )
 }
 
 // The rows whose keys begin with some texts.

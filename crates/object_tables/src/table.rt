@@ -6,14 +6,16 @@ ghost use Rattle.std.specs.Cmp.Lexicographic.{slice_cmp};
 ghost use Rattle.meta_types.specs.Text.{text_cmp};
 ghost use Rattle.meta_types.specs.Keys.{is_key, is_before, row_at, has_row, add_row, remove_row, change_row, are_in_order};
 ghost use Rattle.meta_types.specs.Labels.{is_label, put_label};
-ghost use Rattle.meta_types.specs.Rows.{image_key};
+ghost use Rattle.meta_types.specs.Rows.{image_key, snap_key};
 ghost use Rattle.meta_types.specs.Faults.{Refuses};
 ghost use Rattle.meta_types.specs.Outcomes.{names_in};
 ghost use Rattle.object_tables.specs.Calls.{labelling_fault, kept};
+ghost use Rattle.object_tables.specs.Children.{is_under};
 
+use crate::children::ChildRow;
 use crate::keyed::{Keyed, Labelled};
-use crate::span::{in_namespace, of_snapshotter};
-use meta_types::{Digest, Fault, ImageRow, Listing, ShortName, SnapRow};
+use crate::span::{in_namespace, of_snapshotter, under_parent};
+use meta_types::{Digest, Fault, ImageRow, Listing, ShortName, SnapKey, SnapRow};
 use std::alloc::Global;
 use std::cmp::Ordering;
 use std::marker::Model;
@@ -84,6 +86,14 @@ impl<R: Keyed> Table<R> {
         ensures same { OnFalse result (self.new ≡ self.old) }
     {
         take_row(&mut self.rows, key)
+    }
+
+    /// The row of a key goes, to the caller.
+    pub(crate) fn take(&mut self, key: &[&str]) -> Option<R>
+        ensures row { result ≡ row_at R.key_of (map (λ s. s.now) key.now) self.old }
+        ensures left { self.new ≡ remove_row R.key_of (map (λ s. s.now) key.now) self.old }
+    {
+        pull_row(&mut self.rows, key)
     }
 
     pub(crate) fn copy(&self, alloc: Global) -> Result<Table<R>, Fault>
@@ -177,6 +187,29 @@ impl Table<SnapRow> {
     }
 }
 
+impl Table<ChildRow> {
+    /// The rows under a parent.
+    pub(crate) fn under(&self, parent: &SnapKey) -> &[ChildRow]
+        ensures rows { result.now ≡ filter (is_under parent.now.ns parent.now.snapshotter
+            parent.now.name) self.now }
+    {
+        under_parent(&self.rows, parent)
+    }
+
+    /// Leaves the children whose own rows are there.
+    pub(crate) fn retain_children(&mut self, snapshots: &Table<SnapRow>)
+        ensures { self.new ≡ filter (λ row. has_row snap_key
+            (row.ns ∷ row.snapshotter ∷ row.name ∷ []) snapshots.now) self.old }
+    {
+        self.rows.retain(
+            |row: &ChildRow| -> bool
+                ensures { result ≡ has_row snap_key (row.now.ns ∷ row.now.snapshotter
+                    ∷ row.now.name ∷ []) snapshots.entry.now }
+            { snapshots.has(&[row.ns.text(), row.snapshotter.text(), row.name.text()]) },
+        );
+    }
+}
+
 // Where the row of a key is, or where it would go.
 fn search<R: Keyed>(rows: &[R], key: &[&str]) -> Result<usize, usize>
     requires { IsTrue (are_in_order R.key_of rows.now) }
@@ -241,6 +274,17 @@ fn take_row<R: Keyed>(rows: &mut Vec<R>, key: &[&str]) -> bool
     };
     let _row = rows.remove(place);
     true
+}
+
+fn pull_row<R: Keyed>(rows: &mut Vec<R>, key: &[&str]) -> Option<R>
+    requires { IsTrue (are_in_order R.key_of rows.old.items) }
+    ensures row { result ≡ row_at R.key_of (map (λ s. s.now) key.now) rows.old.items }
+    ensures left { rows.new.items ≡ remove_row R.key_of (map (λ s. s.now) key.now) rows.old.items }
+{
+    let Ok(place) = search(rows, key) else {
+        return None;
+    };
+    Some(rows.remove(place))
 }
 
 fn copy_rows<R: Keyed>(rows: &[R], alloc: Global) -> Result<Vec<R>, Fault>

@@ -6,10 +6,9 @@ ghost use Rattle.meta_types.specs.Changes.{has_namespace, is_in_use};
 ghost use Rattle.meta_types.specs.Faults.{Refuses, OnlyRefuses, least_of};
 ghost use Rattle.object_tables.specs.Calls.{AreInOrder, missing_fault, names_of_kind};
 
+use crate::children::Snapshots;
 use crate::table::Table;
-use meta_types::{
-    ContainerRow, ContentRow, Fault, ImageRow, IngestRow, Kind, Listing, ShortName, SnapRow,
-};
+use meta_types::{ContainerRow, ContentRow, Fault, ImageRow, IngestRow, Kind, Listing, ShortName};
 use std::alloc::Global;
 use std::marker::Model;
 
@@ -21,7 +20,7 @@ pub struct Tables {
     pub(crate) containers: Table<ContainerRow>,
     pub(crate) content: Table<ContentRow>,
     pub(crate) ingests: Table<IngestRow>,
-    pub(crate) snapshots: Table<SnapRow>,
+    pub(crate) snapshots: Snapshots,
 }
 
 impl Model for Tables {
@@ -68,7 +67,7 @@ impl Tables {
             containers: Table::new(alloc),
             content: Table::new(alloc),
             ingests: Table::new(alloc),
-            snapshots: Table::new(alloc),
+            snapshots: Snapshots::new(alloc),
         }
     }
 
@@ -108,7 +107,7 @@ impl Tables {
             containers: self.containers.len() as u128,
             content: self.content.len() as u128,
             ingests: self.ingests.len() as u128,
-            snapshots: self.snapshots.len() as u128,
+            snapshots: self.snapshots.table().len() as u128,
         }
     }
 
@@ -121,7 +120,7 @@ impl Tables {
         let _ = self.containers.rows();
         let _ = self.content.rows();
         let _ = self.ingests.rows();
-        let _ = self.snapshots.rows();
+        let _ = self.snapshots.table().rows();
         let _ = self.namespaces.rows();
         self.namespaces.has(&[ns.text()])
     }
@@ -180,7 +179,7 @@ impl Tables {
         if self.ingests.any_in(ns) {
             return true;
         }
-        self.snapshots.any_in(ns)
+        self.snapshots.table().any_in(ns)
     }
 
     /// The names of a kind's rows in a namespace, by their bytes.
