@@ -12,3 +12,4 @@ pub mod SpanRows
 pub mod RowsKept
 pub mod Inserted
 pub mod Index
+pub mod IndexRead

@@ -15,10 +15,15 @@ stays rows row = has_row snap_key (row.ns ∷ row.snapshotter ∷ row.name ∷ [
 -- each child is looked up among the snapshots
 pub returns : goal.returns
 unfolding stays
-returns c = filter_same _ (stays c.args.snapshots.now) _ (λ x b f k. (search rules, search rules)) _ _ c.retain.ensures.filtered ∙ ap (filter (stays c.args.snapshots.now)) c.self.view_is
+returns c = filter_same _ (stays c.args.snapshots.now) _
+    (λ x b f k. (search rules, search rules)) _ _ c.retain.ensures.filtered
+    ∙ ap (filter (stays c.args.snapshots.now)) c.self.view_is
 
 -- and those that stay are in order
 pub invariant_of-self : goal.invariant_of-self
 unfolding stays
-invariant_of-self c = subst (λ (rows : List ChildRow). IsTrue (are_in_order child_key rows)) (sym (filter_same _ (stays c.args.snapshots.now) _ (λ x b f k. (search rules, search rules)) _ _ c.retain.ensures.filtered))
-    (in_order_filtered child_key (stays c.args.snapshots.now) c.self.inside.rows.items c.self.invariant)
+invariant_of-self c = subst (λ (rows : List ChildRow). IsTrue (are_in_order child_key rows))
+    (sym (filter_same _ (stays c.args.snapshots.now) _
+    (λ x b f k. (search rules, search rules)) _ _ c.retain.ensures.filtered))
+    (in_order_filtered child_key (stays c.args.snapshots.now) c.self.inside.rows.items
+    c.self.invariant)
