@@ -13,3 +13,6 @@ pub mod RowsKept
 pub mod Inserted
 pub mod Index
 pub mod IndexRead
+pub mod RowsAfter
+pub mod NamedAfter
+pub mod CommitNamed

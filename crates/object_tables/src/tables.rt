@@ -5,6 +5,7 @@ ghost use Rattle.meta_types.specs.Rows.{namespace_key};
 ghost use Rattle.meta_types.specs.Changes.{has_namespace, is_in_use};
 ghost use Rattle.meta_types.specs.Faults.{Refuses, OnlyRefuses, least_of};
 ghost use Rattle.object_tables.specs.Calls.{AreInOrder, missing_fault, names_of_kind};
+ghost use Rattle.object_tables.specs.Named.{AreNamed};
 
 use crate::children::Snapshots;
 use crate::table::Table;
@@ -25,6 +26,7 @@ pub struct Tables {
 
 impl Model for Tables {
     ghost use Rattle.meta_types.specs.Rows.{Tables};
+    ghost use Rattle.object_tables.specs.Named.{AreNamed};
 
     ghost Value = { Tables };
 
@@ -36,6 +38,15 @@ impl Model for Tables {
       ingests = t.ingests;
       snapshots = t.snapshots;
     } };
+
+    ghost invariant = { λ t. AreNamed (record {
+      namespaces = t.namespaces;
+      images = t.images;
+      containers = t.containers;
+      content = t.content;
+      ingests = t.ingests;
+      snapshots = t.snapshots;
+    }) };
 }
 
 /// How many rows there are of each kind.
@@ -111,17 +122,12 @@ impl Tables {
         }
     }
 
-    /// Whether the namespace is there. Each caller learns here how rows are ordered.
+    /// Whether the namespace is there. Each caller learns here how rows are ordered and named.
     pub fn has_ns(&self, ns: &ShortName) -> bool
         ensures there { result ≡ has_namespace self.now ns.now }
         ensures order { AreInOrder self.now }
+        ensures named { AreNamed self.now }
     {
-        let _ = self.images.rows();
-        let _ = self.containers.rows();
-        let _ = self.content.rows();
-        let _ = self.ingests.rows();
-        let _ = self.snapshots.table().rows();
-        let _ = self.namespaces.rows();
         self.namespaces.has(&[ns.text()])
     }
 

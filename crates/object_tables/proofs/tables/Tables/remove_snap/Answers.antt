@@ -1,7 +1,9 @@
-use Rattle.std.proofs.Common.{ap, List, rules}
-use Rattle.meta_types.specs.Rows.{Tables}
+use Rattle.std.proofs.Common.{ap, List, rules, [], ◌∷◌}
+use Rattle.meta_types.specs.Rows.{Tables, snap_key}
 use Rattle.meta_types.specs.declared.rows.SnapRow.{SnapRow}
 use Rattle.object_tables.proofs.Kept.{nothing_without}
+use Rattle.object_tables.proofs.NamedAfter.{other_snapshots}
+use Rattle.object_tables.proofs.RowsAfter.{removed}
 use Rattle.object_tables.proofs.tables.Tables.remove_snap.Goals as goal
 
 -- what isn't there doesn't go
@@ -9,4 +11,13 @@ pub returns-then-not-has_snap-clause-left : goal.returns-then-not-has_snap-claus
 returns-then-not-has_snap-clause-left c =
     let key = c.args.key.now in
     let tables : Tables = c.args.self.now in
-    ap (λ (rows : List SnapRow). record tables { snapshots = rows }) (nothing_without key.ns key.snapshotter key.name tables.snapshots (search rules))
+    ap (λ (rows : List SnapRow). record tables { snapshots = rows })
+    (nothing_without key.ns key.snapshotter key.name tables.snapshots (search rules))
+
+-- one goes
+pub invariant_of-self : goal.invariant_of-self
+invariant_of-self c =
+    other_snapshots _ c.self.invariant _
+    (removed snap_key (λ (row : SnapRow). row.key.ns) _ _ _ c.self.invariant.snapshots
+    (c.text.result.now ∷ c.text-2.result.now ∷ c.text-3.result.now ∷ [])
+    c.remove.ensures.left)

@@ -1,0 +1,17 @@
+use Rattle.std.proofs.Common.{◌≡◌, true, rules, subst, sym}
+use Rattle.meta_types.specs.Rows.{Tables, container_key}
+use Rattle.meta_types.specs.Changes.{has_namespace}
+use Rattle.meta_types.specs.declared.rows.ContainerRow.{ContainerRow}
+use Rattle.object_tables.proofs.NamedAfter.{other_containers}
+use Rattle.object_tables.proofs.RowsAfter.{grown}
+use Rattle.object_tables.proofs.tables.Tables.add_container.Goals as goal
+
+-- one more, in a namespace that is there
+pub invariant_of-self : goal.invariant_of-self
+invariant_of-self c =
+    let there : has_namespace c.args.self.now c.args.row.ns ≡ true = search rules in
+    other_containers _ c.self.invariant _
+    (grown container_key (λ (row : ContainerRow). row.ns) _ _ _ c.self.invariant.containers
+    c.args.row c.add.result
+    (subst (λ (t : Tables). has_namespace t c.args.row.ns ≡ true) (sym c.self.view_is) there)
+    (search rules) c.add.ensures.ok c.add.ensures.err)

@@ -1,0 +1,14 @@
+use Rattle.object_tables.proofs.NamedAfter.{none_named}
+use Rattle.object_tables.proofs.tables.Tables.new.Goals as goal
+
+-- there is no row yet
+pub invariant_of-result : goal.invariant_of-result
+invariant_of-result c =
+    rw (
+      c.new.ensures,
+      c.new-2.ensures,
+      c.new-3.ensures,
+      c.new-4.ensures,
+      c.new-5.ensures,
+      c.new-6.ensures,
+    ) none_named

@@ -1,0 +1,16 @@
+use Rattle.std.proofs.Common.{refl, [], ◌∷◌}
+use Rattle.meta_types.specs.Labels.{put_label}
+use Rattle.meta_types.specs.Rows.{content_key}
+use Rattle.meta_types.specs.declared.rows.ContentRow.{ContentRow}
+use Rattle.object_tables.proofs.NamedAfter.{other_content}
+use Rattle.object_tables.proofs.RowsAfter.{labelled}
+use Rattle.object_tables.proofs.tables.Tables.relabel_content.Goals as goal
+
+-- labels are no part of a row's place
+pub invariant_of-self : goal.invariant_of-self
+invariant_of-self c =
+    other_content _ c.self.invariant _
+    (labelled content_key (λ (row : ContentRow). row.ns) _ _ _ c.self.invariant.content
+    (c.text.result.now ∷ c.text-2.result.now ∷ [])
+    (λ row. record row { labels = put_label c.args.key.now c.args.value.now row.labels })
+    (λ row. refl) (λ row. refl) c.relabel.result c.relabel.ensures.ok c.relabel.ensures.err)

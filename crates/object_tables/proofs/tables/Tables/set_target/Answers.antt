@@ -1,0 +1,15 @@
+use Rattle.std.proofs.Common.{refl, [], ◌∷◌}
+use Rattle.meta_types.specs.Rows.{image_key}
+use Rattle.meta_types.specs.declared.rows.ImageRow.{ImageRow}
+use Rattle.object_tables.proofs.NamedAfter.{other_images}
+use Rattle.object_tables.proofs.RowsAfter.{changed}
+use Rattle.object_tables.proofs.tables.Tables.set_target.Goals as goal
+
+-- a target is no part of a row's place
+pub invariant_of-self : goal.invariant_of-self
+invariant_of-self c =
+    other_images _ c.self.invariant _
+    (changed image_key (λ (row : ImageRow). row.ns) _ _ _ c.self.invariant.images
+    (c.text.result.now ∷ c.text-2.result.now ∷ [])
+    (λ row. record row { target = c.args.target }) (λ row. refl) (λ row. refl)
+    c.set_target.ensures.left)
