@@ -12,28 +12,6 @@ use Rattle.meta_types.specs.Backends.{is_named, ancestors, depth_of, goes_before
 use Rattle.table_sweep.specs.declared.depths.Key.{Key}
 use Rattle.table_sweep.specs.Depths.{Listed, snap_of, above_of, depth_in, key_of, is_first, key_name}
 
--- ---- one ancestor more
-
-deeper : (shards : List Listed) (at next : Listed) (rest : ℕ) → above_of shards at ≡ Some next → depth_in (suc rest) shards at ≡ suc (depth_in rest shards next)
-deeper shards at next rest e = ap (λ o. option_map_or (λ above. suc (depth_in rest shards above)) o zero) e
-
-no_deeper : (shards : List Listed) (at : Listed) (rest : ℕ) → above_of shards at ≡ None → depth_in rest shards at ≡ zero
-no_deeper shards at zero e = refl
-no_deeper shards at (suc rest) e = ap (λ o. option_map_or (λ above. suc (depth_in rest shards above)) o zero) e
-
-plus_next : (d x : ℕ) → d + 1 + x ≡ d + suc x
-plus_next d x = omega arith
-
-pub deeper_step : (shards : List Listed) (at next : Listed) (depth rest all : ℕ) → above_of shards at ≡ Some next → depth + depth_in (rest + 1) shards at ≡ all → depth + 1 + depth_in rest shards next ≡ all
-deeper_step shards at next depth rest all e h =
-    let one_more : rest + 1 ≡ suc rest = omega arith in
-    plus_next depth (depth_in rest shards next) ∙ ap (λ n. depth + n) (sym (ap (λ n. depth_in n shards at) one_more ∙ deeper shards at next rest e)) ∙ h
-
-pub no_deeper_step : (shards : List Listed) (at : Listed) (depth rest all : ℕ) → above_of shards at ≡ None → depth + depth_in rest shards at ≡ all → depth ≡ all
-no_deeper_step shards at depth rest all e h =
-    let nothing_more : depth ≡ depth + 0 = omega arith in
-    nothing_more ∙ ap (λ n. depth + n) (sym (no_deeper shards at rest e)) ∙ h
-
 -- ---- depths
 
 abbrev with_record : Option Listed → Option BackSnap

@@ -4,6 +4,8 @@ pub mod Swept
 pub mod Gone
 pub mod Counted
 pub mod Owning
+pub mod Named
+pub mod Steps
 pub mod Deep
 pub mod InOrder
 pub mod NumberOrder

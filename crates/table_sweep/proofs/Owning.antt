@@ -42,7 +42,7 @@ object_known (Snap s a) (Blob b) e = absurd cc
 object_known (Snap s a) (Begun b) e = absurd cc
 object_known (Snap s a) (Snap t b) e = let both = and_parts (bytes_eq s t) (a == b) e in λ i. Snap ((bytes_eq-Decides s t).0 both.0 i) ((Decides-eqb a b).0 both.1 i)
 
-bytes_turned : (a b : Text) → bytes_eq a b ≡ bytes_eq b a
+pub bytes_turned : (a b : Text) → bytes_eq a b ≡ bytes_eq b a
 bytes_turned a b = elim (cases_Bool (bytes_eq a b)) [
   | inl t ↦ t ∙ sym ((bytes_eq-Decides b a).1 (sym ((bytes_eq-Decides a b).0 t)))
   | inr f ↦ elim (cases_Bool (bytes_eq b a)) [
@@ -51,7 +51,7 @@ bytes_turned a b = elim (cases_Bool (bytes_eq a b)) [
   ]
 ]
 
-number_turned : (a b : ℕ) → (a == b) ≡ (b == a)
+pub number_turned : (a b : ℕ) → (a == b) ≡ (b == a)
 number_turned a b = elim (cases_Bool (a == b)) [
   | inl t ↦ t ∙ sym ((Decides-eqb b a).1 (sym ((Decides-eqb a b).0 t)))
   | inr f ↦ elim (cases_Bool (b == a)) [

@@ -24,9 +24,13 @@ abbrev pub depth_in : ℕ → List Listed → Listed → ℕ
 depth_in zero shards snap = zero
 depth_in (suc most) shards snap = option_map_or (λ above. suc (depth_in most shards above)) (above_of shards snap) zero
 
+-- a snapshot with its depth, which order it among those that go (ours)
+abbrev pub key_at : Listed → ℕ → Key
+key_at snap depth = record { snapshotter = snap.0; depth = depth; number = snap.1 }
+
 -- what orders a snapshot that goes (ours)
 abbrev pub key_of : List Listed → Listed → Key
-key_of shards snap = record { snapshotter = snap.0; depth = depth_in (length shards) shards snap; number = snap.1 }
+key_of shards snap = key_at snap (depth_in (length shards) shards snap)
 
 -- by snapshotter, then the deepest first, then by number (children before parents: containerd snapshots service; the rest ours)
 abbrev pub is_first : Key → Key → Bool

@@ -1,9 +1,11 @@
 //! The order in which backend snapshots go: children before their parents.
-ghost use Rattle.std.specs.Prelude.{◌≡◌, ◌&&◌, ◌==◌, bytes_eq, find, map, length, option_copied, None, IfOk};
+ghost use Rattle.std.specs.Prelude.{◌≡◌, map, length, slice_get, None, IfOk};
 ghost use Rattle.meta_types.specs.Faults.{Refuses};
 ghost use Rattle.meta_types.specs.Keys.{in_order};
-ghost use Rattle.table_sweep.specs.Depths.{above_of, depth_in, is_first, key_cmp, key_name};
+ghost use Rattle.table_sweep.specs.Depths.{depth_in, is_first, key_cmp, key_name};
+ghost use Rattle.table_sweep.specs.Places.{above_from, deep, depths_to};
 
+use crate::places::aboves_of;
 use meta_types::{Fault, ShortName};
 use std::alloc::Global;
 use std::cmp::Ordering;
@@ -19,38 +21,64 @@ pub(crate) struct Key {
     pub(crate) number: u64,
 }
 
-fn find_snap<'a>(
-    shards: &'a [BackSnap],
-    snapshotter: &ShortName,
-    number: u64,
-) -> Option<&'a BackSnap>
-    ensures { option_copied result
-        ≡ find (λ s. bytes_eq s.0 snapshotter.now && s.1 == number) shards.now }
+fn above_at(aboves: &[Option<usize>], place: usize) -> Option<usize>
+    ensures { result ≡ above_from aboves.now place }
 {
-    shards.iter().find(|s| s.0 == *snapshotter && s.1 == number)
-}
-
-fn above<'a>(shards: &'a [BackSnap], snap: &BackSnap) -> Option<&'a BackSnap>
-    ensures { option_copied result ≡ above_of shards.now snap.now }
-{
-    match snap.2 {
-        Some(number) => find_snap(shards, &snap.0, number),
+    match aboves.get(place) {
+        Some(above) => *above,
         None => None,
     }
 }
 
-// How many ancestors it has; parents are followed at most as often as there are snapshots.
-pub(crate) fn depth_of(shards: &[BackSnap], snap: &BackSnap) -> usize
-    ensures { result ≡ depth_in (length shards.now) shards.now snap.now }
+fn known_at(depths: &[usize], place: usize) -> Option<usize>
+    ensures { result ≡ slice_get depths.now place }
 {
-    let mut at = snap;
-    for depth in 0..shards.len() {
-        match above(shards, at) {
-            Some(next) => at = next,
+    depths.get(place).copied()
+}
+
+// How many ancestors there are of a place, the depths of all places before it being known. Where
+// parents are listed before their children it is one step.
+fn depth_at(aboves: &[Option<usize>], depths: &[usize], place: usize) -> usize
+    requires { depths.now ≡ depths_to aboves.now place }
+    ensures { result ≡ deep (length aboves.now) aboves.now place }
+{
+    let most = aboves.len();
+    let mut at = place;
+    for depth in 0..most {
+        if let Some(known) = known_at(depths, at) {
+            return depth + known.min(most - depth);
+        }
+        match above_at(aboves, at) {
+            Some(above) => at = above,
             None => return depth,
         }
     }
-    shards.len()
+    most
+}
+
+// How many ancestors there are of each place.
+fn depths_in(alloc: Global, aboves: &[Option<usize>]) -> Result<Vec<usize>, Fault>
+    ensures fault { Refuses result None }
+    ensures ok { IfOk result (λ depths. depths.items ≡ depths_to aboves.now (length aboves.now)) }
+{
+    let mut depths = Vec::with_capacity(alloc, aboves.len())?;
+    for place in 0..aboves.len() {
+        let depth = depth_at(aboves, &depths, place);
+        depths.push(depth)?;
+    }
+    Ok(depths)
+}
+
+// How many ancestors each snapshot has; parents are followed at most as often as there are
+// snapshots.
+pub(crate) fn depths_of(alloc: Global, shards: &[BackSnap]) -> Result<Vec<usize>, Fault>
+    ensures fault { Refuses result None }
+    ensures ok { IfOk result (λ depths. depths.items
+        ≡ map (depth_in (length shards.now) shards.now) shards.now) }
+{
+    let aboves = aboves_of(alloc, shards)?;
+    let depths = depths_in(alloc, &aboves)?;
+    Ok(depths)
 }
 
 // How two snapshots compare: by snapshotter, the deepest first, then by number.

@@ -9,6 +9,7 @@ mod names;
 mod objects;
 mod owners;
 mod pass;
+mod places;
 mod planning;
 #[cfg(test)]
 mod tests;

@@ -1,15 +1,15 @@
 //! The backend objects that go, in the order of a report.
-ghost use Rattle.std.specs.Prelude.{◌≡◌, ◌++◌, ◌∷◌, [], if◌then◌else◌, OnOk, None, IfOk};
+ghost use Rattle.std.specs.Prelude.{◌≡◌, ◌++◌, ◌∷◌, [], map, length, if◌then◌else◌, OnOk, None, IfOk};
 ghost use Rattle.std.specs.List.{flat_map};
 ghost use Rattle.meta_types.specs.Faults.{Refuses};
 ghost use Rattle.meta_types.specs.Backends.{no_objects, removed_objects};
 ghost use Rattle.gc_graph.specs.Stored.{records_of};
 ghost use Rattle.table_sweep.specs.Stays.{FitRows};
-ghost use Rattle.table_sweep.specs.Depths.{key_of};
+ghost use Rattle.table_sweep.specs.Depths.{depth_in, key_at, key_of};
 ghost use Rattle.table_sweep.specs.Owned.{blob_goes, begun_goes, snap_goes};
 ghost use Rattle.table_sweep.specs.Backed.{lists_of, left_by};
 
-use crate::depths::{BackSnap, Key, depth_of, in_order, names_of};
+use crate::depths::{BackSnap, Key, depths_of, in_order, names_of};
 use crate::masks::Masks;
 use crate::owners::{Object, Owners, owners_of};
 use gc_graph::StoreRows;
@@ -74,18 +74,17 @@ fn ingests_gone(alloc: Global, owners: &Owners, numbers: &[u64]) -> Result<Vec<u
 
 fn push_key(
     owners: &Owners,
-    shards: &[BackSnap],
     snap: &BackSnap,
+    depth: usize,
     keys: &mut Vec<Key>,
 ) -> Result<(), Fault>
     ensures fault { Refuses result None }
     ensures ok { OnOk result (keys.new.items ≡ keys.old.items
-        ++ (if snap_goes owners.now snap.now then key_of shards.now snap.now ∷ [] else [])) }
+        ++ (if snap_goes owners.now snap.now then key_at snap.now depth ∷ [] else [])) }
 {
     let object = Object::Snap(snap.0.copy()?, snap.1);
     if !owners.has(&object) {
         let snapshotter = snap.0.copy()?;
-        let depth = depth_of(shards, snap);
         keys.push(Key {
             snapshotter,
             depth,
@@ -95,15 +94,31 @@ fn push_key(
     Ok(())
 }
 
-fn keys_gone(alloc: Global, owners: &Owners, shards: &[BackSnap]) -> Result<Vec<Key>, Fault>
+fn keys_in(
+    alloc: Global,
+    owners: &Owners,
+    shards: &[BackSnap],
+    depths: &[usize],
+) -> Result<Vec<Key>, Fault>
+    requires { depths.now ≡ map (depth_in (length shards.now) shards.now) shards.now }
     ensures fault { Refuses result None }
     ensures ok { IfOk result (λ v. v.items ≡ flat_map
         (λ s. if snap_goes owners.now s then key_of shards.now s ∷ [] else []) shards.now) }
 {
     let mut keys = Vec::new(alloc);
-    for snap in shards {
-        push_key(owners, shards, snap, &mut keys)?;
+    for (i, snap) in shards.iter().enumerate() {
+        push_key(owners, snap, depths[i], &mut keys)?;
     }
+    Ok(keys)
+}
+
+fn keys_gone(alloc: Global, owners: &Owners, shards: &[BackSnap]) -> Result<Vec<Key>, Fault>
+    ensures fault { Refuses result None }
+    ensures ok { IfOk result (λ v. v.items ≡ flat_map
+        (λ s. if snap_goes owners.now s then key_of shards.now s ∷ [] else []) shards.now) }
+{
+    let depths = depths_of(alloc, shards)?;
+    let keys = keys_in(alloc, owners, shards, &depths)?;
     Ok(keys)
 }
 

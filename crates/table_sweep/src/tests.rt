@@ -539,8 +539,8 @@ fn children_go_before_their_parents(rt: HostRuntime) -> Result<(), Fail> {
         ],
         blobs: &[],
         shards: &[
-            ("native", 3, None),
             ("native", 4, Some(3)),
+            ("native", 3, None),
             ("overlayfs", 1, None),
             ("overlayfs", 2, Some(1)),
         ],

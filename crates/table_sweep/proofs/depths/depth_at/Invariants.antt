@@ -1,0 +1,7 @@
+use Rattle.std.proofs.Common.{◌≡◌, ℕ, ◌+◌, length}
+use Rattle.table_sweep.specs.Places.{deep}
+use Rattle.table_sweep.proofs.depths.depth_at.Given as goal
+
+-- the ancestors so far are counted, and those of the last of them are left
+abbrev pub invariant-loop-depth : goal.invariant-loop-depth
+invariant-loop-depth l = (rest : ℕ) → rest + l.depth ≡ length l.aboves → l.depth + deep rest l.aboves l.at ≡ deep (length l.aboves) l.aboves l.fn.place

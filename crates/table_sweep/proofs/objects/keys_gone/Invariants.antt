@@ -1,9 +1,0 @@
-use Rattle.std.proofs.Common.{◌≡◌, ◌∷◌, [], take, if◌then◌else◌}
-use Rattle.std.specs.List.{flat_map}
-use Rattle.table_sweep.specs.Owned.{snap_goes}
-use Rattle.table_sweep.specs.Depths.{key_of}
-use Rattle.table_sweep.proofs.objects.keys_gone.Given as goal
-
--- those so far that go are there
-abbrev pub invariant-loop-snap : goal.invariant-loop-snap
-invariant-loop-snap l = l.keys.items ≡ flat_map (λ s. if snap_goes l.owners s then key_of l.shards s ∷ [] else []) (take l.snap-index l.shards)

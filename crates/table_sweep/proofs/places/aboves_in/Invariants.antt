@@ -1,0 +1,7 @@
+use Rattle.std.proofs.Common.{◌≡◌, map, take}
+use Rattle.table_sweep.specs.Places.{above_in}
+use Rattle.table_sweep.proofs.places.aboves_in.Given as goal
+
+-- the parents so far have their places
+abbrev pub invariant-loop-snap : goal.invariant-loop-snap
+invariant-loop-snap l = l.aboves.items ≡ map (above_in l.places) (take l.snap-index l.shards)
