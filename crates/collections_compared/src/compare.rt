@@ -50,12 +50,21 @@ pub const COUNTED: &[&str] = &[
     "backend.snapshots",
 ];
 
+const REMOVED: &[&str] = &[
+    "removed.content",
+    "removed.images",
+    "removed.ingests",
+    "removed.leases",
+    "removed.snapshots",
+];
+
 /// Numbers of all stores so far.
 #[derive(Drop)]
 pub struct Totals {
     pub stores: u64,
     pub refused: u64,
     pub scanned: u64,
+    pub removed: u64,
     pub differences: u64,
     /// In the order of COUNTED.
     pub counts: Vec<u64>,
@@ -71,6 +80,7 @@ impl Totals {
             stores: 0,
             refused: 0,
             scanned: 0,
+            removed: 0,
             differences: 0,
             counts,
         })
@@ -80,6 +90,9 @@ impl Totals {
         self.stores = self.stores.wrapping_add(1);
         self.differences = self.differences.wrapping_add(differences);
         self.scanned = self.scanned.wrapping_add(sum_of(facts, "scanned"));
+        for list in REMOVED {
+            self.removed = self.removed.wrapping_add(count_of(facts, list));
+        }
         for (place, list) in COUNTED.iter().enumerate() {
             if let Some(count) = self.counts.get_mut(place) {
                 *count = count.wrapping_add(count_of(facts, list));

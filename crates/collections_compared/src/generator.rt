@@ -188,13 +188,9 @@ fn flat(random: &mut Random) -> Step {
     Step::Label(ns, "lease", random.pick(NAMES), FLAT, "t")
 }
 
-fn expiry(random: &mut Random) -> Step {
+// An end of an image or of a lease.
+fn expiry(random: &mut Random, kind: &'static str) -> Step {
     let ns = random.pick(NAMESPACES);
-    let kind = if random.below(2) == 0 {
-        "image"
-    } else {
-        "lease"
-    };
     Step::Label(ns, kind, random.pick(NAMES), EXPIRE, random.pick(ENDS))
 }
 
@@ -221,12 +217,13 @@ fn maker(random: &mut Random) -> Step {
 
 // A step that lets one thing reference another, or says when it ends.
 fn tie(random: &mut Random) -> Step {
-    match random.below(16) {
+    match random.below(20) {
         0..=4 => hold(random),
         5..=10 => reference(random),
         11 => root(random),
         12..=13 => flat(random),
-        _ => expiry(random),
+        14..=16 => expiry(random, "lease"),
+        _ => expiry(random, "image"),
     }
 }
 

@@ -87,8 +87,13 @@ fn print_totals(rt: &impl Print, totals: &Totals) -> Result<(), Fault> {
     }
     print_line(rt, "scanned", totals.scanned)?;
     print_line(rt, "steps refused", totals.refused)?;
-    print_line(rt, "stores", totals.stores)?;
-    print_line(rt, "differences", totals.differences)
+    let stores = totals.stores;
+    let removed = totals.removed;
+    let differences = totals.differences;
+    if println!(rt; "{stores} stores, {removed} rows removed, {differences} differences").is_err() {
+        return Err(Fault::WriteFailed);
+    }
+    Ok(())
 }
 
 fn main(rt: HostRuntime) -> ExitCode {

@@ -34,15 +34,10 @@ enum Kind {
     FlatSnapshot,
 }
 
-// A thing by its kind and its names, whether it is stored or not. Snapshots alone have a
-// snapshotter, the others "".
+// A thing, stored or not: its kind, its namespace, its snapshotter, or "" where it is no snapshot,
+// and its name.
 #[derive(Clone, Copy, PartialEq, Eq)]
-struct Thing<'a> {
-    kind: Kind,
-    ns: &'a str,
-    snapshotter: &'a str,
-    name: &'a str,
-}
+struct Thing<'a>(Kind, &'a str, &'a str, &'a str);
 
 // ---- what is reached
 
@@ -57,6 +52,7 @@ fn reach<'a>(reached: &mut Vec<Thing<'a>>, thing: Thing<'a>) -> Result<(), Fault
     Ok(())
 }
 
+// An end is past where it is before the moment; one that can't be read is none.
 fn ended(labels: &Labels, at: Instant) -> bool {
     match expiry(labels) {
         Expiry::At(end) => end.0 < at.0,
@@ -72,35 +68,24 @@ fn from_labels<'a>(
 ) -> Result<(), Fault> {
     for (key, value) in labels.entries() {
         if content_ref(key) {
-            reach(
-                reached,
-                Thing {
-                    kind: Kind::Content,
-                    ns,
-                    snapshotter: "",
-                    name: value.as_str(),
-                },
-            )?;
+            reach(reached, Thing(Kind::Content, ns, "", value.as_str()))?;
         }
         if let Some(snapshotter) = snapshot_ref(key) {
             reach(
                 reached,
-                Thing {
-                    kind: Kind::Snapshot,
-                    ns,
-                    snapshotter,
-                    name: value.as_str(),
-                },
+                Thing(Kind::Snapshot, ns, snapshotter, value.as_str()),
             )?;
         }
     }
     Ok(())
 }
 
+// Images end in profile 2 alone.
 fn image_stays(rows: &Rows<'_, '_>, row: &ImageRow) -> bool {
     rows.profile != 2 || !ended(&row.labels, rows.at)
 }
 
+// An image that stays references its target, and what its labels name.
 fn from_image<'a>(
     reached: &mut Vec<Thing<'a>>,
     rows: &Rows<'_, 'a>,
@@ -108,34 +93,18 @@ fn from_image<'a>(
 ) -> Result<(), Fault> {
     if image_stays(rows, row) {
         let ns = row.ns.text();
-        let name = row.target.text();
-        reach(
-            reached,
-            Thing {
-                kind: Kind::Content,
-                ns,
-                snapshotter: "",
-                name,
-            },
-        )?;
+        reach(reached, Thing(Kind::Content, ns, "", row.target.text()))?;
         from_labels(reached, ns, &row.labels)?;
     }
     Ok(())
 }
 
+// A container references its snapshot, if any, and what its labels name.
 fn from_container<'a>(reached: &mut Vec<Thing<'a>>, row: &'a ContainerRow) -> Result<(), Fault> {
     let ns = row.ns.text();
     if let Some((by, key)) = &row.snapshot {
         let snapshotter = by.text();
-        reach(
-            reached,
-            Thing {
-                kind: Kind::Snapshot,
-                ns,
-                snapshotter,
-                name: key.text(),
-            },
-        )?;
+        reach(reached, Thing(Kind::Snapshot, ns, snapshotter, key.text()))?;
     }
     from_labels(reached, ns, &row.labels)
 }
@@ -143,26 +112,14 @@ fn from_container<'a>(reached: &mut Vec<Thing<'a>>, row: &'a ContainerRow) -> Re
 // What a lease holds, in a flat lease's way or not. An ingest has no labels.
 fn held<'a>(ns: &'a str, resource: &'a Resource, flat: bool) -> Thing<'a> {
     match resource {
-        Resource::Ingest(name) => {
-            Thing {
-                kind: Kind::Ingest,
-                ns,
-                snapshotter: "",
-                name: name.text(),
-            }
-        }
+        Resource::Ingest(name) => Thing(Kind::Ingest, ns, "", name.text()),
         Resource::Content(digest) => {
             let kind = if flat {
                 Kind::FlatContent
             } else {
                 Kind::Content
             };
-            Thing {
-                kind,
-                ns,
-                snapshotter: "",
-                name: digest.text(),
-            }
+            Thing(kind, ns, "", digest.text())
         }
         Resource::Snapshot(by, name) => {
             let kind = if flat {
@@ -170,12 +127,7 @@ fn held<'a>(ns: &'a str, resource: &'a Resource, flat: bool) -> Thing<'a> {
             } else {
                 Kind::Snapshot
             };
-            Thing {
-                kind,
-                ns,
-                snapshotter: by.text(),
-                name: name.text(),
-            }
+            Thing(kind, ns, by.text(), name.text())
         }
     }
 }
@@ -184,6 +136,7 @@ fn lease_stays(rows: &Rows<'_, '_>, row: &Lease) -> bool {
     !ended(row.labels(), rows.at)
 }
 
+// A lease that stays references what it holds.
 fn from_lease<'a>(
     reached: &mut Vec<Thing<'a>>,
     rows: &Rows<'_, 'a>,
@@ -200,14 +153,10 @@ fn from_lease<'a>(
 
 fn ingest(row: &IngestRow) -> Thing<'_> {
     let ns = row.ns.text();
-    Thing {
-        kind: Kind::Ingest,
-        ns,
-        snapshotter: "",
-        name: row.name.text(),
-    }
+    Thing(Kind::Ingest, ns, "", row.name.text())
 }
 
+// Up to its own end, that moment included.
 fn holds_itself(rows: &Rows<'_, '_>, row: &IngestRow) -> bool {
     match row.expires {
         Some(end) => rows.at.0 <= end.0,
@@ -215,6 +164,7 @@ fn holds_itself(rows: &Rows<'_, '_>, row: &IngestRow) -> bool {
     }
 }
 
+// An ingest references the content that it expects.
 fn from_ingest<'a>(
     reached: &mut Vec<Thing<'a>>,
     rows: &Rows<'_, 'a>,
@@ -226,30 +176,17 @@ fn from_ingest<'a>(
     if is_in(reached, ingest(row)) {
         if let Some(digest) = &row.expected {
             let ns = row.ns.text();
-            let name = digest.text();
-            reach(
-                reached,
-                Thing {
-                    kind: Kind::Content,
-                    ns,
-                    snapshotter: "",
-                    name,
-                },
-            )?;
+            reach(reached, Thing(Kind::Content, ns, "", digest.text()))?;
         }
     }
     Ok(())
 }
 
 fn content(kind: Kind, row: &ContentRow) -> Thing<'_> {
-    Thing {
-        kind,
-        ns: row.ns.text(),
-        snapshotter: "",
-        name: row.digest.text(),
-    }
+    Thing(kind, row.ns.text(), "", row.digest.text())
 }
 
+// Content references what its labels name, but where it is reached flat alone.
 fn from_content<'a>(reached: &mut Vec<Thing<'a>>, row: &'a ContentRow) -> Result<(), Fault> {
     if is_root(&row.labels) {
         reach(reached, content(Kind::Content, row))?;
@@ -263,12 +200,7 @@ fn from_content<'a>(reached: &mut Vec<Thing<'a>>, row: &'a ContentRow) -> Result
 fn snapshot(kind: Kind, row: &SnapRow) -> Thing<'_> {
     let key = &row.key;
     let snapshotter = key.snapshotter.text();
-    Thing {
-        kind,
-        ns: key.ns.text(),
-        snapshotter,
-        name: key.name.text(),
-    }
+    Thing(kind, key.ns.text(), snapshotter, key.name.text())
 }
 
 // A snapshot's parent is reached as the snapshot is.
@@ -280,19 +212,12 @@ fn from_parent<'a>(
     if let Some(parent) = &row.parent {
         let snapshotter = row.key.snapshotter.text();
         let ns = row.key.ns.text();
-        reach(
-            reached,
-            Thing {
-                kind,
-                ns,
-                snapshotter,
-                name: parent.text(),
-            },
-        )?;
+        reach(reached, Thing(kind, ns, snapshotter, parent.text()))?;
     }
     Ok(())
 }
 
+// A snapshot references its parent, and what its labels name, but where it is reached flat alone.
 fn from_snapshot<'a>(reached: &mut Vec<Thing<'a>>, row: &'a SnapRow) -> Result<(), Fault> {
     if is_root(&row.labels) {
         reach(reached, snapshot(Kind::Snapshot, row))?;
