@@ -71,7 +71,7 @@ pub struct Totals {
 }
 
 impl Totals {
-    pub fn new(alloc: Global) -> Result<Totals, Fault> {
+    pub(crate) fn new(alloc: Global) -> Result<Totals, Fault> {
         let mut counts = Vec::new(alloc);
         for _ in COUNTED {
             counts.push(0u64)?;
@@ -254,7 +254,7 @@ fn compare_store<R: Threads + Wait + Sync + Print>(
 }
 
 /// Makes the store, collects it in both ways, and prints what differs.
-pub fn run_case<R: Threads + Wait + Sync + Print>(
+pub(crate) fn run_case<R: Threads + Wait + Sync + Print>(
     rt: &R,
     alloc: Global,
     case: Case<'_>,

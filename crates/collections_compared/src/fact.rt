@@ -39,7 +39,7 @@ pub const LISTS: &[&str] = &[
     "scanned",
 ];
 
-pub fn add<'a>(
+pub(crate) fn add<'a>(
     facts: &mut Vec<Fact<'a>>,
     list: &'static str,
     texts: (&'a str, &'a str, &'a str),
@@ -53,12 +53,20 @@ pub fn add<'a>(
     Ok(())
 }
 
-pub fn tell_count(facts: &mut Vec<Fact<'_>>, list: &'static str, number: u64) -> Result<(), Fault> {
+pub(crate) fn tell_count(
+    facts: &mut Vec<Fact<'_>>,
+    list: &'static str,
+    number: u64,
+) -> Result<(), Fault> {
     add(facts, list, ("", "", ""), number)
 }
 
 /// The facts of one list, in their order.
-pub fn facts_of<'a>(alloc: Global, facts: &[Fact<'a>], list: &str) -> Result<Vec<Fact<'a>>, Fault> {
+pub(crate) fn facts_of<'a>(
+    alloc: Global,
+    facts: &[Fact<'a>],
+    list: &str,
+) -> Result<Vec<Fact<'a>>, Fault> {
     let mut chosen = Vec::new(alloc);
     for fact in facts {
         if fact.list == list {
@@ -69,12 +77,18 @@ pub fn facts_of<'a>(alloc: Global, facts: &[Fact<'a>], list: &str) -> Result<Vec
 }
 
 /// How many facts a list has.
-pub fn count_of(facts: &[Fact<'_>], list: &str) -> u64 {
-    facts.iter().filter(|fact| fact.list == list).count() as u64
+pub(crate) fn count_of(facts: &[Fact<'_>], list: &str) -> u64 {
+    let mut count = 0u64;
+    for fact in facts {
+        if fact.list == list {
+            count = count.wrapping_add(1);
+        }
+    }
+    count
 }
 
 /// The sum of the numbers of a list.
-pub fn sum_of(facts: &[Fact<'_>], list: &str) -> u64 {
+pub(crate) fn sum_of(facts: &[Fact<'_>], list: &str) -> u64 {
     let mut sum = 0u64;
     for fact in facts {
         if fact.list == list {

@@ -48,7 +48,7 @@ pub struct Random {
 }
 
 impl Random {
-    pub fn new(seed: u64) -> Random {
+    pub(crate) fn new(seed: u64) -> Random {
         Random {
             state: seed.wrapping_mul(0x9e37_79b9_7f4a_7c15) | 1,
         }
@@ -64,7 +64,7 @@ impl Random {
     }
 
     /// A number below `count`, or 0.
-    pub fn below(&mut self, count: u64) -> u64
+    pub(crate) fn below(&mut self, count: u64) -> u64
         ensures { result ≤ count }
     {
         let number = self.next();
@@ -228,7 +228,7 @@ fn tie(random: &mut Random) -> Step {
 }
 
 /// The steps of a small store in the namespaces `x` and `y`.
-pub fn steps_of(alloc: Global, random: &mut Random) -> Result<Vec<Step>, Fault> {
+pub(crate) fn steps_of(alloc: Global, random: &mut Random) -> Result<Vec<Step>, Fault> {
     let mut steps = Vec::new(alloc);
     steps.push(Step::Namespace("x"))?;
     steps.push(Step::Namespace("y"))?;

@@ -74,33 +74,43 @@ fn run<R: Threads + Wait + Sync + Print>(rt: &R, alloc: Global) -> Result<Totals
     Ok(totals)
 }
 
-fn print_line(rt: &impl Print, name: &str, number: u64) -> Result<(), Fault> {
-    if println!(rt; "{name}: {number}").is_err() {
-        return Err(Fault::WriteFailed);
+fn print_count(rt: &impl Print, name: &str, number: u64) -> Result<(), Fault> {
+    match println!(rt; "{name}: {number}") {
+        Ok(()) => Ok(()),
+        Err(_) => Err(Fault::WriteFailed),
+    }
+}
+
+fn print_counts(rt: &impl Print, counts: &[u64]) -> Result<(), Fault> {
+    for (place, list) in COUNTED.iter().enumerate() {
+        if let Some(count) = counts.get(place) {
+            print_count(rt, list, *count)?;
+        }
     }
     Ok(())
+}
+
+fn print_sums(rt: &impl Print, stores: u64, removed: u64, differences: u64) -> Result<(), Fault> {
+    match println!(rt; "{stores} stores, {removed} rows removed, {differences} differences") {
+        Ok(()) => Ok(()),
+        Err(_) => Err(Fault::WriteFailed),
+    }
 }
 
 fn print_totals(rt: &impl Print, totals: &Totals) -> Result<(), Fault> {
-    for (list, count) in COUNTED.iter().zip(&totals.counts) {
-        print_line(rt, list, *count)?;
-    }
-    print_line(rt, "scanned", totals.scanned)?;
-    print_line(rt, "steps refused", totals.refused)?;
-    let stores = totals.stores;
-    let removed = totals.removed;
-    let differences = totals.differences;
-    if println!(rt; "{stores} stores, {removed} rows removed, {differences} differences").is_err() {
-        return Err(Fault::WriteFailed);
-    }
-    Ok(())
+    print_counts(rt, &totals.counts)?;
+    print_count(rt, "scanned", totals.scanned)?;
+    print_count(rt, "steps refused", totals.refused)?;
+    print_sums(rt, totals.stores, totals.removed, totals.differences)
+}
+
+fn compare_all<R: Threads + Wait + Sync + Print>(rt: &R, alloc: Global) -> Result<(), Fault> {
+    let totals = run(rt, alloc)?;
+    print_totals(rt, &totals)
 }
 
 fn main(rt: HostRuntime) -> ExitCode {
-    let Ok(totals) = run(&rt, rt.alloc()) else {
-        return ExitCode::from(1);
-    };
-    match print_totals(&rt, &totals) {
+    match compare_all(&rt, rt.alloc()) {
         Ok(()) => ExitCode::SUCCESS,
         Err(_) => ExitCode::from(1),
     }

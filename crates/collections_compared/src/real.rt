@@ -1,9 +1,11 @@
 //! The collection of the libraries: graph, marks, plan and sweep.
-ghost use Rattle.std.specs.Prelude.{IfOk};
+ghost use Rattle.std.specs.Prelude.{◌≡◌, ◌↔◌, ℕ, IfOk};
+ghost use Rattle.meta_types.specs.Sound.{AreNumbered};
 ghost use Rattle.gc_graph.specs.Built.{AreApart};
 ghost use Rattle.gc_graph.specs.Stored.{records_of};
-ghost use Rattle.mark_core.specs.Reach.{IsInRange};
-ghost use Rattle.table_sweep.specs.Stays.{FitRows};
+ghost use Rattle.mark_core.specs.Bits.{bit_of};
+ghost use Rattle.mark_core.specs.Reach.{IsInRange, Reached};
+ghost use Rattle.table_sweep.specs.Stays.{FitRows, StayNumbered};
 
 use crate::fact::{Fact, add, tell_count};
 use crate::steps::Back;
@@ -29,6 +31,7 @@ fn marks_of<R: Threads + Wait + Sync>(
     workers: usize,
 ) -> Result<Marks, Fault>
     requires { IsInRange graph.now }
+    ensures { IfOk result (λ m. (n : ℕ) → (bit_of m n ≡ 1) ↔ Reached graph.now n) }
 {
     if workers == 0 {
         return mark_plain(alloc, graph);
@@ -45,9 +48,13 @@ fn plan_rows<R: Threads + Wait + Sync>(
     workers: usize,
     at: Instant,
 ) -> Result<Plan, Fault>
-    requires { AreApart (records_of rows.now) }
-    ensures { IfOk result (λ plan.
+    requires apart { AreApart (records_of rows.now) }
+    requires numbered { AreNumbered (records_of rows.now).tables.snapshots
+        (records_of rows.now).tables.ingests }
+    ensures rows { IfOk result (λ plan.
         FitRows (records_of rows.now).tables rows.now.leases.now plan.masks) }
+    ensures numbered { IfOk result (λ plan.
+        StayNumbered (records_of rows.now).tables plan.masks) }
 {
     let (book, graph, ignored) = build(rt, alloc, rows, at)?;
     let marks = marks_of(rt, alloc, &graph, workers)?;
@@ -63,7 +70,7 @@ fn plan_rows<R: Threads + Wait + Sync>(
 
 /// The plan of a collection of the tables and leases, by the marks of so many workers, or of one
 /// thread where the number is 0.
-pub fn plan_tables<R: Threads + Wait + Sync>(
+pub(crate) fn plan_tables<R: Threads + Wait + Sync>(
     rt: &R,
     alloc: Global,
     tables: &Tables,
@@ -73,9 +80,10 @@ pub fn plan_tables<R: Threads + Wait + Sync>(
     at: Instant,
     workers: usize,
 ) -> Result<Plan, Fault>
-    ensures { IfOk result (λ plan. FitRows tables.now leases.now plan.masks) }
+    ensures rows { IfOk result (λ plan. FitRows tables.now leases.now plan.masks) }
+    ensures numbered { IfOk result (λ plan. StayNumbered tables.now plan.masks) }
 {
-    // Its clause says that the rows stand in order.
+    // Its clauses say that the rows stand in order, and that they are numbered.
     let _there = tables.has_ns(&ShortName::read(alloc, "x")?);
     let images = tables.image_rows(alloc)?;
     let containers = tables.container_rows(alloc)?;
@@ -151,7 +159,7 @@ fn tell_kept(facts: &mut Vec<Fact<'_>>, kept: Kept) -> Result<(), Fault> {
 }
 
 /// What a plan says.
-pub fn tell_plan<'a>(facts: &mut Vec<Fact<'a>>, plan: &'a Plan) -> Result<(), Fault> {
+pub(crate) fn tell_plan<'a>(facts: &mut Vec<Fact<'a>>, plan: &'a Plan) -> Result<(), Fault> {
     tell_removed(facts, &plan.removed)?;
     tell_objects(facts, &plan.backend)?;
     tell_kept(facts, plan.kept)?;
@@ -216,7 +224,7 @@ fn tell_snapshots<'a>(facts: &mut Vec<Fact<'a>>, rows: &[&'a SnapRow]) -> Result
 }
 
 /// What tables and leases hold.
-pub fn tell_left<'a>(
+pub(crate) fn tell_left<'a>(
     alloc: Global,
     facts: &mut Vec<Fact<'a>>,
     tables: &'a Tables,

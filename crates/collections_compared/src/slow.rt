@@ -10,6 +10,7 @@ use meta_types::{
     SnapRow,
 };
 use std::alloc::Global;
+use table_sweep::BackSnap;
 
 /// The rows of a store, borrowed, its profile, and the moment of its collection.
 #[derive(Clone, Copy)]
@@ -42,7 +43,12 @@ struct Thing<'a>(Kind, &'a str, &'a str, &'a str);
 // ---- what is reached
 
 fn is_in(reached: &[Thing<'_>], thing: Thing<'_>) -> bool {
-    reached.iter().any(|other| *other == thing)
+    for other in reached {
+        if *other == thing {
+            return true;
+        }
+    }
+    false
 }
 
 fn reach<'a>(reached: &mut Vec<Thing<'a>>, thing: Thing<'a>) -> Result<(), Fault> {
@@ -421,17 +427,30 @@ fn tell_counts(facts: &mut Vec<Fact<'_>>, back: &Back) -> Result<(), Fault> {
 
 // Some content that stays, of any namespace, has the digest.
 fn is_owned_blob(facts: &[Fact<'_>], digest: &str) -> bool {
-    facts.iter().any(|fact| fact.list == "left.content" && fact.texts.1 == digest)
+    for fact in facts {
+        if fact.list == "left.content" && fact.texts.1 == digest {
+            return true;
+        }
+    }
+    false
 }
 
 fn is_owned_ingest(facts: &[Fact<'_>], number: u64) -> bool {
-    facts.iter().any(|fact| fact.list == "left.ingests" && fact.number == number)
+    for fact in facts {
+        if fact.number == number && fact.list == "left.ingests" {
+            return true;
+        }
+    }
+    false
 }
 
 fn is_owned_snapshot(facts: &[Fact<'_>], snapshotter: &str, number: u64) -> bool {
-    facts.iter().any(|fact| {
-        fact.list == "left.snapshots" && fact.texts.1 == snapshotter && fact.number == number
-    })
+    for fact in facts {
+        if fact.number == number && fact.list == "left.snapshots" && fact.texts.1 == snapshotter {
+            return true;
+        }
+    }
+    false
 }
 
 fn tell_blobs<'a>(facts: &mut Vec<Fact<'a>>, back: &'a Back) -> Result<(), Fault> {
@@ -484,6 +503,21 @@ fn depth_of(back: &Back, snapshotter: &ShortName, number: u64) -> u64 {
     depth
 }
 
+// A backend snapshot is owned, or is put to those that go.
+fn tell_shard<'a>(
+    facts: &mut Vec<Fact<'a>>,
+    back: &'a Back,
+    snap: &'a BackSnap,
+    lost: &mut Vec<(&'a str, u64, u64)>,
+) -> Result<(), Fault> {
+    let by = snap.0.text();
+    if is_owned_snapshot(facts, by, snap.1) {
+        return tell_count(facts, "owned.snapshots", snap.1);
+    }
+    lost.push((by, u64::MAX - depth_of(back, &snap.0, snap.1), snap.1))?;
+    Ok(())
+}
+
 // What goes of the snapshots: by snapshotter, the deepest first, then by number.
 fn lost_snapshots<'a>(
     alloc: Global,
@@ -491,13 +525,8 @@ fn lost_snapshots<'a>(
     back: &'a Back,
 ) -> Result<Vec<(&'a str, u64, u64)>, Fault> {
     let mut lost = Vec::new(alloc);
-    for (by, number, _) in &back.snapshots {
-        if is_owned_snapshot(facts, by.text(), *number) {
-            tell_count(facts, "owned.snapshots", *number)?;
-        } else {
-            let height = u64::MAX - depth_of(back, by, *number);
-            lost.push((by.text(), height, *number))?;
-        }
+    for snap in &back.snapshots {
+        tell_shard(facts, back, snap, &mut lost)?;
     }
     lost.sort()?;
     Ok(lost)
@@ -512,7 +541,7 @@ fn tell_shards<'a>(alloc: Global, facts: &mut Vec<Fact<'a>>, back: &'a Back) -> 
 }
 
 /// What a collection of the rows leaves and reports.
-pub fn collect<'a>(
+pub(crate) fn collect<'a>(
     alloc: Global,
     rows: &Rows<'_, 'a>,
     back: &'a Back,

@@ -52,7 +52,7 @@ pub struct Back {
 }
 
 impl Back {
-    pub fn new(alloc: Global) -> Back {
+    pub(crate) fn new(alloc: Global) -> Back {
         Back {
             blobs: Vec::new(alloc),
             snapshots: Vec::new(alloc),
@@ -66,8 +66,17 @@ impl Back {
         self.last.wrapping_add(1)
     }
 
+    fn has_blob(&self, digest: &Digest) -> bool {
+        for other in &self.blobs {
+            if *other == *digest {
+                return true;
+            }
+        }
+        false
+    }
+
     fn add_blob(&mut self, digest: Digest) -> Result<(), Fault> {
-        if !self.blobs.iter().any(|other| *other == digest) {
+        if !self.has_blob(&digest) {
             self.blobs.push(digest)?;
         }
         Ok(())
@@ -195,12 +204,16 @@ fn add_ingest(
     expected: &str,
     end: &str,
 ) -> Result<(), Fault> {
+    let number = back.next();
+    if !tables.is_above(number) {
+        return Err(Fault::InvalidArgument);
+    }
     let row = IngestRow {
         ns: ShortName::read(alloc, ns)?,
         name: Name::read(alloc, name)?,
         expected: digest_named(alloc, expected)?,
         expires: read_instant(end),
-        number: back.next(),
+        number,
     };
     tables.add_ingest(alloc, row)?;
     back.add_ingest()
@@ -263,6 +276,9 @@ fn add_snapshot(
     back: &mut Back,
     row: SnapRow,
 ) -> Result<(), Fault> {
+    if !tables.is_above(row.number) {
+        return Err(Fault::InvalidArgument);
+    }
     let parent = tables.parent_number(&row);
     let by = row.key.snapshotter.copy()?;
     tables.add_snap(alloc, row)?;
@@ -378,7 +394,7 @@ fn take(
 }
 
 /// Takes the steps in turn, and tells how many were refused, which change nothing.
-pub fn fill(
+pub(crate) fn fill(
     alloc: Global,
     tables: &mut Tables,
     leases: &mut Leases,

@@ -122,7 +122,7 @@ const fn store(steps: &'static [Step], profile: u8, at: i128) -> Worked {
 }
 
 /// The stores.
-pub fn worked_stores() -> [Worked; 14] {
+pub(crate) fn worked_stores() -> [Worked; 14] {
     [
         store(BOTH_MODES, 1, END),
         store(FLAT_LEASE, 1, END),

@@ -98,13 +98,22 @@ fn add_lease(
     leases.add_resource(alloc, &ns, &id, resource)
 }
 
-fn add_ingest(alloc: Global, tables: &mut Tables, name: &str, expected: &str) -> Result<(), Fault> {
+fn add_ingest(
+    alloc: Global,
+    tables: &mut Tables,
+    name: &str,
+    expected: &str,
+    number: u64,
+) -> Result<(), Fault> {
+    if !tables.is_above(number) {
+        return Err(Fault::InvalidArgument);
+    }
     let row = IngestRow {
         ns: space(alloc)?,
         name: Name::read(alloc, name)?,
         expected: Some(Digest::read(alloc, expected)?),
         expires: Some(Instant(END)),
-        number: 1,
+        number,
     };
     tables.add_ingest(alloc, row)
 }
@@ -138,12 +147,16 @@ fn add_snapshot(
     tables: &mut Tables,
     key: SnapKey,
     parent: Option<Name>,
+    number: u64,
 ) -> Result<(), Fault> {
+    if !tables.is_above(number) {
+        return Err(Fault::InvalidArgument);
+    }
     let row = SnapRow {
         key,
         kind: SnapKind::Committed,
         parent,
-        number: 1,
+        number,
         labels: Labels::new(alloc),
     };
     tables.add_snap(alloc, row)
@@ -206,11 +219,13 @@ fn label(
     tables.relabel_snap(alloc, &snap_key(alloc, kind, name)?, key, value)
 }
 
+// Takes a step. The number is that of a snapshot or ingest.
 fn add(
     alloc: Global,
     tables: &mut Tables,
     leases: &mut Leases,
     step: &Step<'_>,
+    number: u64,
 ) -> Result<(), Fault> {
     match step {
         Step::Image(name, target) => add_image(alloc, tables, name, target),
@@ -218,11 +233,11 @@ fn add(
         Step::Lease(id, kind, name) => {
             add_lease(alloc, leases, id, Resource::read(alloc, kind, name)?)
         }
-        Step::Ingest(name, expected) => add_ingest(alloc, tables, name, expected),
+        Step::Ingest(name, expected) => add_ingest(alloc, tables, name, expected, number),
         Step::Content(digest) => add_content(alloc, tables, digest),
         Step::Snapshot(by, name, parent) => {
             let key = snap_key(alloc, by, name)?;
-            add_snapshot(alloc, tables, key, parent_named(alloc, parent)?)
+            add_snapshot(alloc, tables, key, parent_named(alloc, parent)?, number)
         }
         Step::Label(kind, name, key, value) => {
             label(alloc, tables, leases, kind, name, key, value)
@@ -237,8 +252,8 @@ fn fill(
     steps: &[Step<'_>],
 ) -> Result<(), Fault> {
     tables.add_ns(alloc, space(alloc)?)?;
-    for step in steps {
-        add(alloc, tables, leases, step)?;
+    for (place, step) in steps.iter().enumerate() {
+        add(alloc, tables, leases, step, place as u64)?;
     }
     Ok(())
 }

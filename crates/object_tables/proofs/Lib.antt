@@ -14,5 +14,13 @@ pub mod Inserted
 pub mod Index
 pub mod IndexRead
 pub mod RowsAfter
-pub mod NamedAfter
-pub mod CommitNamed
+pub mod PairsKept
+pub mod ParentsKept
+pub mod NumbersKept
+pub mod CommitKept
+pub mod SomeKept
+pub mod OtherTables
+pub mod SnapTablesKept
+pub mod TablesKept
+pub mod NumberedAfter
+pub mod Above

@@ -1,25 +1,14 @@
 -- Rows after a change: still in order, each in a namespace that is there.
-use Rattle.std.proofs.Common.{◌≡◌, Bool, true, false, List, [], ◌∷◌, sym, subst, arith}
-use Rattle.std.specs.Prelude.{All, Result, Ok, Err, OnOk, OnErr, IsTrue, bytes_eq}
+use Rattle.std.proofs.Common.{◌≡◌, Bool, true, false, List, sym, subst}
+use Rattle.std.specs.Prelude.{Result, Ok, Err, OnOk, OnErr, bytes_eq}
 use Rattle.std.specs.List.{list_any}
-use Rattle.std.proofs.lemmas.List.Elements.{All-cons, All-head, All-tail}
 use Rattle.meta_types.specs.Text.{Text}
 use Rattle.meta_types.specs.Keys.{Key, has_row, add_row, remove_row, change_row}
 use Rattle.meta_types.specs.Sound.{AreRows}
 use Rattle.meta_types.specs.declared.fault.Fault.{Fault}
 use Rattle.meta_types.proofs.KeepsSound.{rows_added, rows_removed, rows_changed}
 use Rattle.object_tables.specs.Calls.{kept}
-use Rattle.object_tables.proofs.Ordering.{order_kept}
-
--- what holds of each row holds of those that stay
-all_kept : {Row : Type 0} (P : Row → Type 0) (marks : List Bool) (rows : List Row) → All P rows
-    → All P (kept marks rows)
-all_kept P [] rows h = λ k d lt. absurd (omega arith)
-all_kept P (stays ∷ marks) [] h = h
-all_kept P (true ∷ marks) (row ∷ rows) h =
-    All-cons P row (kept marks rows) (All-head P row rows h)
-    (all_kept P marks rows (All-tail P row rows h))
-all_kept P (false ∷ marks) (row ∷ rows) h = all_kept P marks rows (All-tail P row rows h)
+use Rattle.object_tables.proofs.OtherTables.{rows_kept}
 
 module _ {Row : Type 0} (key_of : Row → Key) (ns_of : Row → Text) (namespaces : List Text)
     (old new : List Row) (s : AreRows key_of ns_of namespaces old) where
@@ -51,7 +40,5 @@ module _ {Row : Type 0} (key_of : Row → Key) (ns_of : Row → Text) (namespace
 
   -- the rows whose places are marked
   pub left : (marks : List Bool) → new ≡ kept marks old → AreRows key_of ns_of namespaces new
-  left marks e = subst (AreRows key_of ns_of namespaces) (sym e) (record {
-    in_order = order_kept key_of marks old s.in_order;
-    named = all_kept (λ row. IsTrue (list_any (bytes_eq (ns_of row)) namespaces)) marks old s.named;
-  })
+  left marks e = subst (AreRows key_of ns_of namespaces) (sym e)
+      (rows_kept key_of ns_of namespaces marks old s)

@@ -3,6 +3,7 @@ ghost use Rattle.std.specs.Prelude.{◌≡◌, ◌∷◌, [], map, None, IfOk, O
 ghost use Rattle.meta_types.specs.Keys.{row_at, has_row, add_row, remove_row};
 ghost use Rattle.meta_types.specs.Rows.{ingest_key};
 ghost use Rattle.meta_types.specs.Faults.{Refuses, OnlyRefuses};
+ghost use Rattle.meta_types.specs.Sound.{AreNumbered};
 ghost use Rattle.object_tables.specs.Calls.{adding_fault, missing_fault, kept};
 
 use crate::tables::Tables;
@@ -33,8 +34,12 @@ impl Tables {
         self.ingests.borrowed(alloc)
     }
 
-    /// Adds an ingest's row.
+    /// Adds an ingest's row, with the backend number that the caller chose: one that no snapshot
+    /// and no other ingest has.
     pub fn add_ingest(&mut self, _alloc: Global, row: IngestRow) -> Result<(), Fault>
+        requires numbered { adding_fault self.old row.ns (has_row ingest_key (ingest_key row)
+            self.old.ingests) ≡ None → AreNumbered self.old.snapshots (add_row ingest_key row
+            self.old.ingests) }
         ensures fault { Refuses result (adding_fault self.old row.ns (has_row ingest_key
             (ingest_key row) self.old.ingests)) }
         ensures ok { OnOk result (self.new ≡ record self.old

@@ -8,6 +8,7 @@ ghost use Rattle.meta_types.specs.Keys.{row_at, has_row, add_row, change_row, ar
 ghost use Rattle.meta_types.specs.Labels.{put_label};
 ghost use Rattle.meta_types.specs.Rows.{snap_key};
 ghost use Rattle.meta_types.specs.Faults.{Refuses, OnlyRefuses};
+ghost use Rattle.meta_types.specs.Sound.{AreNumbered};
 ghost use Rattle.meta_types.specs.SnapshotOps.{is_child_of, committed, snapshots_in, parent_row};
 ghost use Rattle.meta_types.specs.Changes.{has_namespace};
 ghost use Rattle.meta_types.specs.declared.rows.SnapKind.TheVariants.{Committed};
@@ -73,8 +74,11 @@ impl Tables {
         )
     }
 
-    /// Adds a snapshot's row, with the backend number that the caller chose.
+    /// Adds a snapshot's row, with the backend number that the caller chose: one that no ingest and
+    /// no other snapshot has, above its parent's.
     pub fn add_snap(&mut self, _alloc: Global, row: SnapRow) -> Result<(), Fault>
+        requires numbered { adding_snap_fault self.old row ≡ None
+            → AreNumbered (add_row snap_key row self.old.snapshots) self.old.ingests }
         ensures fault { Refuses result (adding_snap_fault self.old row) }
         ensures ok { OnOk result (self.new ≡ record self.old
             { snapshots = add_row snap_key row self.old.snapshots }) }
@@ -238,9 +242,10 @@ impl Tables {
         snapshotters_of(self.snapshots.table().rows_in(ns), alloc)
     }
 
-    /// Leaves the rows whose places are marked. It takes no memory.
+    /// Leaves the rows whose places are marked, the parent of each with it. It takes no memory.
     pub fn retain_snapshots(&mut self, keep: &[bool])
-        requires { length keep.now ≡ length self.old.snapshots }
+        requires length { length keep.now ≡ length self.old.snapshots }
+        requires numbered { AreNumbered (kept keep.now self.old.snapshots) self.old.ingests }
         ensures { self.new ≡ record self.old { snapshots = kept keep.now self.old.snapshots } }
     {
         self.snapshots.retain(keep);

@@ -1,15 +1,18 @@
 //! The tables: rows of five kinds, and the namespaces that they are in.
-ghost use Rattle.std.specs.Prelude.{◌≡◌, ◌∷◌, [], ◌||◌, not, false, None, IfOk, OnOk, OnErr, length};
+ghost use Rattle.std.specs.Prelude.{◌≡◌, ◌∷◌, [], ◌||◌, not, false, None, IfOk, OnOk, OnErr, length, nat_lt};
+ghost use Rattle.std.specs.List.{list_all};
 ghost use Rattle.meta_types.specs.Keys.{add_row, remove_row};
 ghost use Rattle.meta_types.specs.Rows.{namespace_key};
 ghost use Rattle.meta_types.specs.Changes.{has_namespace, is_in_use};
 ghost use Rattle.meta_types.specs.Faults.{Refuses, OnlyRefuses, least_of};
-ghost use Rattle.object_tables.specs.Calls.{AreInOrder, missing_fault, names_of_kind};
-ghost use Rattle.object_tables.specs.Named.{AreNamed};
+ghost use Rattle.object_tables.specs.Calls.{AreInOrder, is_above, missing_fault, names_of_kind};
+ghost use Rattle.meta_types.specs.Sound.{AreTables};
 
 use crate::children::Snapshots;
 use crate::table::Table;
-use meta_types::{ContainerRow, ContentRow, Fault, ImageRow, IngestRow, Kind, Listing, ShortName};
+use meta_types::{
+    ContainerRow, ContentRow, Fault, ImageRow, IngestRow, Kind, Listing, ShortName, SnapRow,
+};
 use std::alloc::Global;
 use std::marker::Model;
 
@@ -26,7 +29,7 @@ pub struct Tables {
 
 impl Model for Tables {
     ghost use Rattle.meta_types.specs.Rows.{Tables};
-    ghost use Rattle.object_tables.specs.Named.{AreNamed};
+    ghost use Rattle.meta_types.specs.Sound.{AreTables};
 
     ghost Value = { Tables };
 
@@ -39,7 +42,7 @@ impl Model for Tables {
       snapshots = t.snapshots;
     } };
 
-    ghost invariant = { λ t. AreNamed (record {
+    ghost invariant = { λ t. AreTables (record {
       namespaces = t.namespaces;
       images = t.images;
       containers = t.containers;
@@ -122,13 +125,23 @@ impl Tables {
         }
     }
 
-    /// Whether the namespace is there. Each caller learns here how rows are ordered and named.
+    /// Whether the namespace is there. Each caller learns here what the tables keep of themselves.
     pub fn has_ns(&self, ns: &ShortName) -> bool
         ensures there { result ≡ has_namespace self.now ns.now }
         ensures order { AreInOrder self.now }
-        ensures named { AreNamed self.now }
+        ensures sound { AreTables self.now }
     {
         self.namespaces.has(&[ns.text()])
+    }
+
+    /// Whether a backend number is above those of all snapshots and ingests, so that a row may be
+    /// added under it. It passes over both kinds: a store keeps a counter instead.
+    pub fn is_above(&self, number: u64) -> bool
+        ensures above { result ≡ is_above self.now number }
+        ensures sound { AreTables self.now }
+    {
+        are_snapshots_below(self.snapshots.table().rows(), number)
+            && are_ingests_below(self.ingests.rows(), number)
     }
 
     /// The namespaces, by their bytes.
@@ -203,4 +216,16 @@ impl Tables {
             Kind::Ingest => self.ingests.names(alloc, ns),
         }
     }
+}
+
+fn are_snapshots_below(rows: &[SnapRow], number: u64) -> bool
+    ensures { result ≡ list_all (λ row. nat_lt row.number number) rows.now }
+{
+    rows.iter().all(|row| row.number < number)
+}
+
+fn are_ingests_below(rows: &[IngestRow], number: u64) -> bool
+    ensures { result ≡ list_all (λ row. nat_lt row.number number) rows.now }
+{
+    rows.iter().all(|row| row.number < number)
 }

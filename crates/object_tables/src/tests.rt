@@ -284,8 +284,16 @@ fn all_content(tables: &mut Tables, alloc: Global) -> Result<bool, Fault> {
 
 // ---- ingests
 
+/// Adds a row under a number above all others.
+fn begin(tables: &mut Tables, alloc: Global, row: IngestRow) -> Result<(), Fault> {
+    if !tables.is_above(row.number) {
+        return Err(Fault::InvalidArgument);
+    }
+    tables.add_ingest(alloc, row)
+}
+
 fn adds_an_ingest(tables: &mut Tables, alloc: Global) -> Result<bool, Fault> {
-    tables.add_ingest(alloc, ingest(alloc)?)?;
+    begin(tables, alloc, ingest(alloc)?)?;
     Ok(tables.ingest_rows(alloc)?.len() == 1)
 }
 

@@ -32,10 +32,23 @@ fn child(alloc: Global) -> Result<SnapRow, Fault> {
     })
 }
 
+/// Adds a row under a number above all others.
+fn put(tables: &mut Tables, alloc: Global, row: SnapRow) -> Result<(), Fault> {
+    if !tables.is_above(row.number) {
+        return Err(Fault::InvalidArgument);
+    }
+    tables.add_snap(alloc, row)
+}
+
 /// Adds a committed snapshot, and an active one over it.
 fn adds_two_snapshots(tables: &mut Tables, alloc: Global) -> Result<(), Fault> {
-    tables.add_snap(alloc, parent(alloc)?)?;
-    tables.add_snap(alloc, child(alloc)?)
+    put(tables, alloc, parent(alloc)?)?;
+    put(tables, alloc, child(alloc)?)
+}
+
+/// Whether numbers count as above those that are there, and no others.
+fn is_above_the_last(tables: &Tables) -> bool {
+    tables.is_above(3) && !tables.is_above(2)
 }
 
 fn has_two_rows(tables: &Tables, alloc: Global) -> Result<bool, Fault> {
@@ -104,18 +117,19 @@ fn commits_a_snapshot(tables: &mut Tables, alloc: Global, at: &SnapKey) -> Resul
     Ok(!tables.has_snap(at))
 }
 
-fn retains_the_parent(tables: &mut Tables) -> bool {
-    if tables.counts().snapshots != 2 {
+fn retains_neither(tables: &mut Tables) -> bool {
+    if tables.counts().snapshots != 2 || !tables.is_above(3) {
         return false;
     }
-    tables.retain_snapshots(&[false, true]);
-    tables.counts().snapshots == 1
+    tables.retain_snapshots(&[false, false]);
+    tables.counts().snapshots == 0
 }
 
 fn list_steps(tables: &mut Tables, alloc: Global, at: &SnapKey) -> Result<bool, Fault> {
     adds_two_snapshots(tables, alloc)?;
     Ok(
         has_two_rows(tables, alloc)?
+            && is_above_the_last(tables)
             && lists_snapshots(tables, alloc, at)?
             && lists_one_snapshotter(tables, alloc, &at.ns)?
             && labels_a_snapshot(tables, alloc, at)?,
@@ -174,9 +188,10 @@ fn commit_steps(tables: &mut Tables, alloc: Global) -> Result<bool, Fault> {
     Ok(committed(tables, alloc)? && keeps_its_parent(tables, alloc)?)
 }
 
-/// Of the new snapshot and its parent the parent alone stays.
-fn marked(tables: &mut Tables, alloc: Global) -> Result<bool, Fault> {
-    Ok(retains_the_parent(tables) && has(tables, alloc, "p")?)
+/// Neither the new snapshot nor its parent stays where neither is marked.
+fn unmarked(tables: &mut Tables, alloc: Global) -> Result<bool, Fault> {
+    let was_there = has(tables, alloc, "p")?;
+    Ok(was_there && retains_neither(tables) && !has(tables, alloc, "p")?)
 }
 
 fn all_steps(tables: &mut Tables, alloc: Global) -> Result<bool, Fault> {
@@ -185,7 +200,7 @@ fn all_steps(tables: &mut Tables, alloc: Global) -> Result<bool, Fault> {
         lists(tables, alloc)?
             && parents(tables, alloc)?
             && commit_steps(tables, alloc)?
-            && marked(tables, alloc)?,
+            && unmarked(tables, alloc)?,
     )
 }
 

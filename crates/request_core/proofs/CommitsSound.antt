@@ -18,9 +18,9 @@ use Rattle.meta_types.specs.declared.resource.Resource.TheVariants.{Snapshot}
 use Rattle.meta_types.specs.declared.request.Request.TheVariants.{SnapCommit}
 use Rattle.meta_types.proofs.KeepsSound.{all_added, all_removed}
 use Rattle.request_core.proofs.ListsSound.{none_applies, from_not, sound_leases, sound_snapshots, leases_held}
-use Rattle.request_core.proofs.ParentsKept.{key_above, number_above, Stays, parent_kept}
-use Rattle.request_core.proofs.CommitKept.{named, committed_is, stays_committed, row_of, named_kept}
-use Rattle.request_core.proofs.TablesKept.{snap_committed}
+use Rattle.object_tables.proofs.ParentsKept.{key_above, number_above, Stays, parent_kept}
+use Rattle.object_tables.proofs.CommitKept.{named, committed_is, stays_committed, row_of, named_kept}
+use Rattle.object_tables.proofs.TablesKept.{snap_committed}
 use Rattle.request_core.proofs.ObjectsKept.{HasObject, objects_kept}
 use Rattle.request_core.proofs.SnapshotsSound.{rows_backed}
 

@@ -18,7 +18,7 @@ use Rattle.meta_types.specs.declared.resource.Resource.{Resource}
 use Rattle.meta_types.specs.declared.resource.Resource.TheVariants.{Content}
 use Rattle.meta_types.specs.declared.request.Request.TheVariants.{ContentAdd, ContentRemove, ContentLabel, LeaseAdd, LeaseRemove, LeaseLabel, LeaseHold, LeaseDrop, Profile}
 use Rattle.meta_types.proofs.KeepsSound.{all_removed, all_changed, rows_added, rows_removed, rows_changed}
-use Rattle.request_core.proofs.TablesKept.{content_added, content_removed, content_changed}
+use Rattle.object_tables.proofs.TablesKept.{content_added, content_removed, content_changed}
 use Rattle.request_core.proofs.ListsSound.{none_applies, from_not, sound_content, sound_leases, still_stored, leases_held}
 
 -- ---- content

@@ -21,8 +21,8 @@ use Rattle.meta_types.specs.declared.resource.Resource.TheVariants.{Content, Ing
 use Rattle.meta_types.specs.declared.request.Request.TheVariants.{IngestBegin, IngestCommit, IngestAbort}
 use Rattle.meta_types.proofs.KeepsSound.{all_added, all_removed, any_added, added_any}
 use Rattle.request_core.proofs.ListsSound.{none_applies, from_not, sound_content, sound_leases, sound_ingests, still_stored, leases_held}
-use Rattle.request_core.proofs.PairsKept.{all_put, pairs_put}
-use Rattle.request_core.proofs.TablesKept.{content_added, ingest_added, ingest_removed}
+use Rattle.object_tables.proofs.PairsKept.{all_put, pairs_put}
+use Rattle.object_tables.proofs.TablesKept.{content_added, ingest_added, ingest_removed}
 
 -- ---- numbers below the next
 
@@ -110,7 +110,7 @@ module _ (state : State) (row : IngestRow) (s : IsSound state)
   more = put_in_order nat_lt next state.backends.ingests
 
   -- all other numbers are smaller
-  tables_begun : AreTables (record state.records.tables { ingests = add_row ingest_key row rows })
+  pub tables_begun : AreTables (record state.records.tables { ingests = add_row ingest_key row rows })
   tables_begun = ingest_added state.records.tables s.tables row there free
       (All-weaker (Below next) (λ other. IsTrue (not (row.number == other.number)))
       (λ other h. not_above other.number row.number (omega (arith, h, numbered))) rows

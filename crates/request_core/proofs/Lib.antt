@@ -1,20 +1,12 @@
 pub mod PairLabels
 pub mod Refusals
+pub mod Reading
 pub mod Undone
 pub mod Numbers
 pub mod Quiet
 pub mod Following
 pub mod Ends
 pub mod LeaseRows
-pub mod PairsKept
-pub mod RowsKept
-pub mod ParentsKept
-pub mod NumbersKept
-pub mod CommitKept
-pub mod SomeKept
-pub mod OtherTables
-pub mod SnapTablesKept
-pub mod TablesKept
 pub mod ObjectOrder
 pub mod ObjectsKept
 pub mod ListsSound
@@ -27,3 +19,4 @@ pub mod MadeSound
 pub mod PreparesSound
 pub mod RequestsSound
 pub mod Prepared
+pub mod NextNumber

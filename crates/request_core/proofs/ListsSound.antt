@@ -23,7 +23,7 @@ use Rattle.meta_types.proofs.KeepsSound.{all_added, rows_changed, any_added, add
 
 -- ---- which tests failed
 
-fine : (invalid missing there forbidden : Bool)
+pub fine : (invalid missing there forbidden : Bool)
     → least_of invalid missing there forbidden ≡ None
     → (invalid ≡ false) × (missing ≡ false) × (there ≡ false) × (forbidden ≡ false)
 fine true m t d h = absurd cc

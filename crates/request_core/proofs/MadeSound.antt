@@ -17,9 +17,9 @@ use Rattle.meta_types.proofs.KeepsSound.{all_added}
 use Rattle.meta_types.proofs.TablesAfter.{above_is}
 use Rattle.meta_types.proofs.Found.{no_none}
 use Rattle.request_core.proofs.ListsSound.{sound_snapshots}
-use Rattle.request_core.proofs.PairsKept.{all_put}
-use Rattle.request_core.proofs.ParentsKept.{key_above, number_above, parent_kept, stays_added}
-use Rattle.request_core.proofs.TablesKept.{snap_added}
+use Rattle.object_tables.proofs.PairsKept.{all_put}
+use Rattle.object_tables.proofs.ParentsKept.{key_above, number_above, parent_kept, stays_added}
+use Rattle.object_tables.proofs.TablesKept.{snap_added}
 use Rattle.request_core.proofs.IngestsSound.{not_above}
 use Rattle.request_core.proofs.ObjectOrder.{object_in_order}
 use Rattle.request_core.proofs.ObjectsKept.{HasObject, objects_kept, objects_grown, object_found, parents_grown, object_there}
@@ -127,7 +127,7 @@ module _ (state : State) (new : SnapRow) (s : IsSound state)
     -- ---- the state
 
     -- all other numbers are smaller
-    tables_made : AreTables (record state.records.tables { snapshots = after })
+    pub tables_made : AreTables (record state.records.tables { snapshots = after })
     tables_made = snap_added state.records.tables s.tables new there free has
         (All-weaker (λ (row : SnapRow). row.number < next)
         (λ row. IsTrue (not (new.number == row.number)))

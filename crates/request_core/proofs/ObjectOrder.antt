@@ -13,7 +13,7 @@ use Rattle.meta_types.specs.Text.{Text, text_cmp}
 use Rattle.meta_types.specs.Keys.{put_in_order}
 use Rattle.meta_types.specs.Rows.{BackSnap}
 use Rattle.meta_types.specs.Changes.{stands_before}
-use Rattle.request_core.proofs.PairsKept.{pairs_put}
+use Rattle.object_tables.proofs.PairsKept.{pairs_put}
 
 -- ---- the order
 

@@ -1,6 +1,6 @@
 -- The number of a new snapshot is free, and its parent's object is there.
 use Rattle.std.proofs.Common.{◌≡◌, ℕ, ◌<◌, Bool, true, false, not, List, [], ◌∷◌, Option, Some, None, refl, sym, ap, ◌∙◌, subst, inl, inr}
-use Rattle.std.specs.Prelude.{All, ◌==◌, ◌&&◌, ◌||◌, bytes_eq, is_some, is_none, option_map}
+use Rattle.std.specs.Prelude.{All, ◌==◌, ◌&&◌, bytes_eq, is_some, is_none, option_map}
 use Rattle.std.specs.List.{list_any}
 use Rattle.std.specs.Option.{option_map_or}
 use Rattle.std.specs.Cmp.Lexicographic.{same_text}

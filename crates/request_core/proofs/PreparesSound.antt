@@ -19,7 +19,7 @@ use Rattle.meta_types.specs.declared.rows.SnapKind.TheVariants.{Active, View}
 use Rattle.meta_types.specs.declared.resource.Resource.TheVariants.{Snapshot}
 use Rattle.meta_types.specs.declared.request.Request.TheVariants.{SnapPrepare, SnapView}
 use Rattle.request_core.proofs.ListsSound.{none_applies, from_not, sound_leases, leases_held}
-use Rattle.request_core.proofs.ParentsKept.{has_parent}
+use Rattle.object_tables.proofs.ParentsKept.{has_parent}
 use Rattle.request_core.proofs.MadeSound.{parent_below, snap_made}
 
 -- what requests ask for is enough

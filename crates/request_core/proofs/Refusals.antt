@@ -1,5 +1,5 @@
 -- A refusal of a layer below is the request's own.
-use Rattle.std.proofs.Common.{◌≡◌, Bool, true, false, not, List, Option, Some, None, refl}
+use Rattle.std.proofs.Common.{◌≡◌, Bool, true, false, not, List, Option, refl}
 use Rattle.std.specs.Prelude.{Result, Err, is_none}
 use Rattle.meta_types.specs.Text.{Text}
 use Rattle.meta_types.specs.Labels.{LabelList}

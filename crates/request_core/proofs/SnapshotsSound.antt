@@ -14,9 +14,9 @@ use Rattle.meta_types.specs.declared.rows.SnapRow.{SnapRow}
 use Rattle.meta_types.specs.declared.request.Request.TheVariants.{SnapRemove, SnapLabel}
 use Rattle.meta_types.proofs.KeepsSound.{all_removed, all_changed}
 use Rattle.request_core.proofs.ListsSound.{none_applies, sound_snapshots}
-use Rattle.request_core.proofs.PairsKept.{all_both, each_fails}
-use Rattle.request_core.proofs.ParentsKept.{key_above, number_above, parent_kept, stays_removed, stays_relabelled, other_parent, relabel}
-use Rattle.request_core.proofs.TablesKept.{snap_removed, snap_relabelled}
+use Rattle.object_tables.proofs.PairsKept.{all_both, each_fails}
+use Rattle.object_tables.proofs.ParentsKept.{key_above, number_above, parent_kept, stays_removed, stays_relabelled, other_parent, relabel}
+use Rattle.object_tables.proofs.TablesKept.{snap_removed, snap_relabelled}
 use Rattle.request_core.proofs.ObjectsKept.{HasObject, objects_kept}
 
 -- ---- one list is another

@@ -14,8 +14,8 @@ use Rattle.meta_types.specs.declared.rows.ImageRow.{ImageRow}
 use Rattle.meta_types.specs.declared.rows.ContainerRow.{ContainerRow}
 use Rattle.meta_types.specs.declared.request.Request.TheVariants.{NsAdd, NsRemove, ImageAdd, ImageTarget, ImageRemove, ImageLabel, ContainerAdd, ContainerRemove, ContainerLabel}
 use Rattle.meta_types.proofs.KeepsSound.{rows_among, any_added}
-use Rattle.request_core.proofs.OtherTables.{unused, namespace_added, namespace_removed}
-use Rattle.request_core.proofs.TablesKept.{image_added, image_removed, image_changed, container_added, container_removed, container_changed}
+use Rattle.object_tables.proofs.OtherTables.{unused, namespace_added, namespace_removed}
+use Rattle.object_tables.proofs.TablesKept.{image_added, image_removed, image_changed, container_added, container_removed, container_changed}
 use Rattle.request_core.proofs.ListsSound.{none_applies, from_not, sound_images, sound_containers}
 
 -- ---- namespaces

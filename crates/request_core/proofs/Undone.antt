@@ -7,7 +7,7 @@ use Rattle.std.proofs.lemmas.Cmp.{tied_itself}
 use Rattle.meta_types.proofs.Ordered.{keys_total, key_ties}
 use Rattle.meta_types.specs.Text.{Text}
 use Rattle.meta_types.specs.Keys.{Key, is_key, is_before, has_row, add_row, remove_row}
-use Rattle.meta_types.specs.Resources.{resource_key, held}
+use Rattle.meta_types.specs.Resources.{resource_key}
 use Rattle.meta_types.specs.Changes.{hold_in, drop_in, holds_in, held_by, dropped_by, is_new_to}
 use Rattle.meta_types.specs.Rows.{LeaseRow, Tables, content_key, ingest_key, lease_key}
 use Rattle.meta_types.specs.declared.rows.ContentRow.{ContentRow}

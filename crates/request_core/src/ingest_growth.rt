@@ -1,10 +1,12 @@
 //! A beginning of an ingest that happens whole or not at all.
-ghost use Rattle.std.specs.Prelude.{◌≡◌, ◌∷◌, [], true, false, OnOk, OnErr, IfOk, Err};
+ghost use Rattle.std.specs.Prelude.{◌≡◌, ◌∷◌, [], true, false, None, OnOk, OnErr, IfOk, Err};
 ghost use Rattle.meta_types.specs.Keys.{has_row, add_row};
 ghost use Rattle.meta_types.specs.Rows.{ingest_key};
+ghost use Rattle.meta_types.specs.Sound.{AreNumbered};
 ghost use Rattle.meta_types.specs.Changes.{has_namespace, held_by};
 ghost use Rattle.meta_types.specs.declared.fault.Fault.TheVariants as F;
 ghost use Rattle.meta_types.specs.declared.resource.Resource.TheVariants as H;
+ghost use Rattle.object_tables.specs.Calls.{adding_fault};
 ghost use Rattle.back_model.specs.Objects.{has_number, put_number};
 ghost use Rattle.request_core.specs.Parts.{is_lease_there, MakesOrFails};
 
@@ -125,6 +127,15 @@ pub(crate) fn grow_ingest<S: SnapBackend, B: BlobBackend, I: IngestBackend>(
     requires lease { is_lease_there ns.now lease.now leases.old ≡ true }
     requires free { has_row ingest_key (ns.now ∷ name.now ∷ []) tables.old.ingests ≡ false }
     requires number { has_number number (I.contents backends.old.ingests) ≡ false }
+    requires numbered { adding_fault tables.old ns.now
+        (has_row ingest_key (ns.now ∷ name.now ∷ []) tables.old.ingests) ≡ None
+        → AreNumbered tables.old.snapshots (add_row ingest_key (record {
+          ns = ns.now;
+          name = name.now;
+          expected = expected;
+          expires = expires;
+          number = number;
+        }) tables.old.ingests) }
     ensures tables { OnOk result (tables.new ≡ record tables.old {
       ingests = add_row ingest_key (record {
         ns = ns.now;

@@ -6,7 +6,7 @@ ghost use Rattle.meta_types.specs.Keys.{add_row, put_in_order};
 ghost use Rattle.meta_types.specs.Rows.{snap_key};
 ghost use Rattle.meta_types.specs.Changes.{held_by, stands_before};
 ghost use Rattle.meta_types.specs.Backends.{is_named};
-ghost use Rattle.meta_types.specs.Sound.{AreTables};
+ghost use Rattle.meta_types.specs.Sound.{AreTables, AreNumbered};
 ghost use Rattle.meta_types.specs.declared.resource.Resource.TheVariants as H;
 ghost use Rattle.object_tables.specs.Calls.{adding_snap_fault};
 ghost use Rattle.back_model.specs.Shown.{all_snaps, all_failures, back_snap};
@@ -98,6 +98,8 @@ pub(crate) fn grow_snap<S: SnapBackend, B: BlobBackend, I: IngestBackend>(
 ) -> Result<(), Fault>
     requires fine { adding_snap_fault tables.old row ≡ None }
     requires sound { AreTables tables.old }
+    requires numbered { adding_snap_fault tables.old row ≡ None
+        → AreNumbered (add_row snap_key row tables.old.snapshots) tables.old.ingests }
     requires lease { is_lease_there row.key.ns lease.now leases.old ≡ true }
     requires number { list_any (is_named (row.key.snapshotter, row.number))
         (all_snaps backends.old.shards) ≡ false }

@@ -13,3 +13,4 @@ pub mod KeyOrder
 pub mod Goes
 pub mod Planned
 pub mod Fitting
+pub mod NumbersLeft

@@ -20,7 +20,8 @@ use Rattle.table_sweep.proofs.Counted.{count_of}
 gone_by : {Row Name : Type 0} (name : Row → Name) (stays : Row → Bool) (rows : List Row) (mask : List Bool) → mask ≡ map stays rows → map name (gone mask rows) ≡ map name (filter (λ row. not (stays row)) rows)
 gone_by name stays rows mask is = ap (map name) (ap (λ m. gone m rows) is ∙ gone_is stays rows)
 
-kept_by : {Row : Type 0} (stays : Row → Bool) (rows : List Row) (mask : List Bool) → mask ≡ map stays rows → kept mask rows ≡ filter stays rows
+-- by a mask that tells what a test does, the rows are kept that pass it
+pub kept_by : {Row : Type 0} (stays : Row → Bool) (rows : List Row) (mask : List Bool) → mask ≡ map stays rows → kept mask rows ≡ filter stays rows
 kept_by stays rows mask is = ap (λ m. kept m rows) is ∙ kept_is stays rows
 
 module _ (records : Records) (at : ℤ) (reached : Thing → Bool) (masks : Masks) (are : AreMasks records at reached masks) where

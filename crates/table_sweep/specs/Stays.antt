@@ -1,9 +1,11 @@
 -- When masks are those of a collection.
 use Rattle.std.specs.Prelude.{◌≡◌, ℕ, List, map, length, count_by, Bool, ℤ}
 use Rattle.meta_types.specs.Rows.{Tables, Records, LeaseRow}
+use Rattle.meta_types.specs.Sound.{AreNumbered}
 use Rattle.meta_types.specs.Paths.{Thing, image_stays, lease_stays}
 use Rattle.meta_types.specs.Collected.{content_stays, snapshot_stays, ingest_stays}
 use Rattle.meta_types.specs.Reports.{Kept, Removed}
+use Rattle.object_tables.specs.Calls.{kept}
 use Rattle.table_sweep.specs.declared.masks.Masks.{Masks}
 use Rattle.table_sweep.specs.Masks.{gone}
 
@@ -28,6 +30,10 @@ pub record FitRows (tables : Tables) (held : List LeaseRow) (masks : Masks) : Ty
   pub ingests : length masks.ingests.items ≡ length tables.ingests
   pub content : length masks.content.items ≡ length tables.content
   pub snapshots : length masks.snapshots.items ≡ length tables.snapshots
+
+-- a snapshot that stays keeps its parent, and no backend number is used twice among what stays (ours)
+pub record StayNumbered (tables : Tables) (masks : Masks) : Type 0 where
+  pub numbered : AreNumbered (kept masks.snapshots.items tables.snapshots) (kept masks.ingests.items tables.ingests)
 
 -- the names of the rows that the masks leave out (ours)
 abbrev pub gone_names : Records → Masks → Removed

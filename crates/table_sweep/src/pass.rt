@@ -1,15 +1,18 @@
 //! The sweep of the tables.
 ghost use Rattle.std.specs.Prelude.{◌≡◌};
 ghost use Rattle.meta_types.specs.Collected.{collected_records};
-ghost use Rattle.table_sweep.specs.Stays.{AreMasks, FitRows, Collection};
+ghost use Rattle.table_sweep.specs.Stays.{AreMasks, FitRows, StayNumbered, Collection};
 
 use crate::masks::Masks;
 use lease_book::Leases;
 use object_tables::Tables;
 
 /// Leaves the rows that stay, in one pass a kind. It takes no memory.
+/// The tables never hold a snapshot without its parent, so the masks have to keep each parent of
+/// what they keep, as those of a plan do whose marks are the reached numbers.
 pub fn sweep(tables: &mut Tables, leases: &mut Leases, masks: &Masks)
-    requires { FitRows tables.old leases.old masks.now }
+    requires rows { FitRows tables.old leases.old masks.now }
+    requires numbered { StayNumbered tables.old masks.now }
     ensures tables { (of : Collection) → tables.old ≡ of.records.tables
         → AreMasks of.records of.at of.reached masks.now
         → tables.new ≡ (collected_records of.at of.reached of.records).tables }

@@ -2,7 +2,8 @@
 ghost use Rattle.std.specs.Prelude.{IfOk};
 ghost use Rattle.gc_graph.specs.Built.{AreApart};
 ghost use Rattle.gc_graph.specs.Stored.{records_of};
-ghost use Rattle.table_sweep.specs.Stays.{FitRows};
+ghost use Rattle.meta_types.specs.Sound.{AreNumbered};
+ghost use Rattle.table_sweep.specs.Stays.{FitRows, StayNumbered};
 
 use crate::{BackRows, BackSnap, Plan, plan_of, sweep};
 use gc_graph::{StoreRows, build};
@@ -46,11 +47,12 @@ enum Step<'a> {
     Container(&'a str, &'a str, &'a str),
     // The id of a lease, and the type and the id of what it holds.
     Lease(&'a str, &'a str, &'a str),
-    // The name of an ingest, and the digest that it expects. It ends at END.
-    Ingest(&'a str, &'a str),
+    // The name of an ingest, the digest that it expects, and its number. It ends at END.
+    Ingest(&'a str, &'a str, u64),
     // The digest of content.
     Content(&'a str),
-    // The snapshotter, the name and the parent of a snapshot, or "" for no parent; and its number.
+    // The snapshotter, the name and the parent of a snapshot, or "" for no parent; and its number,
+    // which is above those of the steps before.
     Snapshot(&'a str, &'a str, &'a str, u64),
     // `image`, `lease`, `content` or a snapshotter, a name there, and the key and value of a label.
     Label(&'a str, &'a str, &'a str, &'a str),
@@ -101,13 +103,22 @@ fn add_lease(
     leases.add_resource(alloc, &ns, &id, resource)
 }
 
-fn add_ingest(alloc: Global, tables: &mut Tables, name: &str, expected: &str) -> Result<(), Fault> {
+fn add_ingest(
+    alloc: Global,
+    tables: &mut Tables,
+    name: &str,
+    expected: &str,
+    number: u64,
+) -> Result<(), Fault> {
+    if !tables.is_above(number) {
+        return Err(Fault::InvalidArgument);
+    }
     let row = IngestRow {
         ns: space(alloc)?,
         name: Name::read(alloc, name)?,
         expected: Some(Digest::read(alloc, expected)?),
         expires: Some(Instant(END)),
-        number: 1,
+        number,
     };
     tables.add_ingest(alloc, row)
 }
@@ -143,6 +154,9 @@ fn add_snapshot(
     parent: Option<Name>,
     number: u64,
 ) -> Result<(), Fault> {
+    if !tables.is_above(number) {
+        return Err(Fault::InvalidArgument);
+    }
     let row = SnapRow {
         key,
         kind: SnapKind::Committed,
@@ -222,7 +236,9 @@ fn add(
         Step::Lease(id, kind, name) => {
             add_lease(alloc, leases, id, Resource::read(alloc, kind, name)?)
         }
-        Step::Ingest(name, expected) => add_ingest(alloc, tables, name, expected),
+        Step::Ingest(name, expected, number) => {
+            add_ingest(alloc, tables, name, expected, *number)
+        }
         Step::Content(digest) => add_content(alloc, tables, digest),
         Step::Snapshot(by, name, parent, number) => {
             let key = snap_key(alloc, by, name)?;
@@ -255,9 +271,13 @@ fn plan_rows(
     back: &BackRows<'_>,
     at: i128,
 ) -> Result<Plan, Fault>
-    requires { AreApart (records_of rows.now) }
-    ensures { IfOk result (λ plan.
+    requires apart { AreApart (records_of rows.now) }
+    requires numbered { AreNumbered (records_of rows.now).tables.snapshots
+        (records_of rows.now).tables.ingests }
+    ensures rows { IfOk result (λ plan.
         FitRows (records_of rows.now).tables rows.now.leases.now plan.masks) }
+    ensures numbered { IfOk result (λ plan.
+        StayNumbered (records_of rows.now).tables plan.masks) }
 {
     let (book, graph, ignored) = build(rt, alloc, rows, Instant(at))?;
     let marks = mark_plain(alloc, &graph)?;
@@ -274,9 +294,10 @@ fn plan_tables(
     profile: u8,
     at: i128,
 ) -> Result<Plan, Fault>
-    ensures { IfOk result (λ plan. FitRows tables.now leases.now plan.masks) }
+    ensures rows { IfOk result (λ plan. FitRows tables.now leases.now plan.masks) }
+    ensures numbered { IfOk result (λ plan. StayNumbered tables.now plan.masks) }
 {
-    // Its clause says that the rows stand in order.
+    // Its clauses say that the rows stand in order, and that they are numbered.
     let _there = tables.has_ns(&space(alloc)?);
     let images = tables.image_rows(alloc)?;
     let containers = tables.container_rows(alloc)?;
@@ -570,7 +591,7 @@ fn children_go_before_their_parents(rt: HostRuntime) -> Result<(), Fail> {
 fn an_ingest_keeps_what_it_expects_up_to_its_end(rt: HostRuntime) -> Result<(), Fail> {
     for (at, ingests, went, scanned) in [(END, 1, 0, 2), (END + 1, 0, 1, 0)] {
         let store = Store {
-            steps: &[Step::Content(B), Step::Ingest("r", B)],
+            steps: &[Step::Content(B), Step::Ingest("r", B, 1)],
             blobs: &[B],
             shards: &[],
             begun: &[1],

@@ -1,5 +1,5 @@
 use Rattle.request_core.proofs.Prepared.{added_fine}
-use Rattle.request_core.proofs.SnapTablesKept.{snapshots_again}
+use Rattle.object_tables.proofs.SnapTablesKept.{snapshots_again}
 use Rattle.request_core.proofs.snap_growth.grow_snap.Goals as goal
 
 -- the row is taken out again

@@ -2,7 +2,7 @@ use Rattle.std.proofs.Common.{◌≡◌, true, rules, subst, sym}
 use Rattle.meta_types.specs.Rows.{Tables, container_key}
 use Rattle.meta_types.specs.Changes.{has_namespace}
 use Rattle.meta_types.specs.declared.rows.ContainerRow.{ContainerRow}
-use Rattle.object_tables.proofs.NamedAfter.{other_containers}
+use Rattle.object_tables.proofs.OtherTables.{other_containers}
 use Rattle.object_tables.proofs.RowsAfter.{grown}
 use Rattle.object_tables.proofs.tables.Tables.add_container.Goals as goal
 

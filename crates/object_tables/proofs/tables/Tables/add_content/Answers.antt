@@ -2,7 +2,7 @@ use Rattle.std.proofs.Common.{◌≡◌, true, rules, subst, sym}
 use Rattle.meta_types.specs.Rows.{Tables, content_key}
 use Rattle.meta_types.specs.Changes.{has_namespace}
 use Rattle.meta_types.specs.declared.rows.ContentRow.{ContentRow}
-use Rattle.object_tables.proofs.NamedAfter.{other_content}
+use Rattle.object_tables.proofs.OtherTables.{other_content}
 use Rattle.object_tables.proofs.RowsAfter.{grown}
 use Rattle.object_tables.proofs.tables.Tables.add_content.Goals as goal
 

@@ -1,49 +1,59 @@
-use Rattle.std.proofs.Common.{ap, List, [], ◌∷◌, Some, false, sym, subst, ◌≡◌, ◌∙◌}
+use Rattle.std.proofs.Common.{◌≡◌, ◌∙◌, Bool, true, false, not, List, [], ◌∷◌, Some, None, refl, sym, ap, subst}
 use Rattle.std.specs.Prelude.{IsTrue}
 use Rattle.meta_types.specs.Keys.{row_at, has_row, are_in_order}
+use Rattle.meta_types.specs.Text.{Text}
+use Rattle.meta_types.specs.Labels.{LabelList}
 use Rattle.meta_types.specs.Rows.{Tables, snap_key}
-use Rattle.meta_types.specs.SnapshotOps.{committed}
+use Rattle.meta_types.specs.SnapshotOps.{is_active, committed}
 use Rattle.meta_types.specs.declared.rows.SnapRow.{SnapRow}
-use Rattle.object_tables.proofs.CommitNamed.{commit_named}
+use Rattle.object_tables.specs.Calls.{committing_fault}
+use Rattle.object_tables.proofs.Above.{passed}
 use Rattle.object_tables.proofs.Committing.{commit_steps}
-use Rattle.object_tables.proofs.NamedAfter.{other_snapshots}
+use Rattle.object_tables.proofs.SnapTablesKept.{snap_committed}
 use Rattle.object_tables.proofs.tables.Tables.commit_snap.Goals as goal
+
+-- the tables with the list that a commit leaves
+with_committed : (ns snapshotter key name : Text) (labels : LabelList) (tables now : Tables)
+    (left : List SnapRow) → left ≡ committed ns snapshotter key name labels tables.snapshots
+    → tables ≡ now → record tables { snapshots = left }
+    ≡ record now { snapshots = committed ns snapshotter key name labels now.snapshots }
+with_committed ns snapshotter key name labels tables now left is same =
+    ap (λ (rows : List SnapRow). record tables { snapshots = rows }) is
+    ∙ ap (λ (t : Tables).
+    record t { snapshots = committed ns snapshotter key name labels t.snapshots }) same
+
+-- a commit that isn't refused is of an active snapshot
+is_of_active : (ns snapshotter key name : Text) (rows : List SnapRow) (row : SnapRow)
+    → row_at snap_key (ns ∷ snapshotter ∷ key ∷ []) rows ≡ Some row
+    → committing_fault ns snapshotter key name rows ≡ None → is_active row.kind ≡ true
+is_of_active ns snapshotter key name rows row found fine =
+    from_not (is_active row.kind) (passed false
+    (has_row snap_key (ns ∷ snapshotter ∷ name ∷ []) rows) (not (is_active row.kind))
+    (rw found at fine)).2
+  where
+    from_not : (b : Bool) → not b ≡ false → b ≡ true
+    from_not true h = refl
+    from_not false h = absurd cc
 
 -- the new row is in before the old one goes
 pub returns-clause-ok : goal.returns-clause-ok
 returns-clause-ok c =
     let key = c.args.key.now in
-    let in_place : c.remove.new.self ≡ committed key.ns key.snapshotter key.name c.args.name
-    c.args.labels c.self.inside.snapshots =
-    commit_steps key.ns key.snapshotter key.name c.args.name c.args.labels c.self.inside.snapshots
+    with_committed key.ns key.snapshotter key.name c.args.name c.args.labels _ _ c.remove.new.self
+    (commit_steps key.ns key.snapshotter key.name c.args.name c.args.labels c.self.inside.snapshots
     c.in-Some.row.now c.in_ok-row.row c.add.new.self c.remove.new.self
     c.in_ok-row.ensures.ok c.in_ok-add.ensures.ok
     (rw (c.text.ensures.text, c.text-2.ensures.text, c.text-3.ensures.text) at
     c.remove.ensures.left)
-    (subst (λ (t : Tables). IsTrue (are_in_order snap_key t.snapshots))
-    (sym c.self.view_is) c.check_commit.ensures.order)
-    (subst (λ (t : Tables). Some c.in-Some.row.now ≡ row_at snap_key
-    (key.ns ∷ key.snapshotter ∷ key.name ∷ []) t.snapshots)
-    (sym c.self.view_is) c.in-Some.ensures)
+    (subst (λ (t : Tables). IsTrue (are_in_order snap_key t.snapshots)) (sym c.self.view_is)
+    c.check_commit.ensures.order)
+    (subst (λ (t : Tables). Some c.in-Some.row.now
+    ≡ row_at snap_key (key.ns ∷ key.snapshotter ∷ key.name ∷ []) t.snapshots) (sym c.self.view_is)
+    c.in-Some.ensures)
     (subst (λ (t : Tables). has_row snap_key (key.ns ∷ key.snapshotter ∷ c.args.name ∷ [])
-    t.snapshots ≡ false) (sym c.self.view_is) c.in_ok-check_commit.ensures.free) in
-    ap (λ (rows : List SnapRow). record {
-      namespaces = c.self.inside.namespaces;
-      images =
-          c.self.inside.images;
-      containers = c.self.inside.containers;
-      content =
-          c.self.inside.content;
-      ingests = c.self.inside.ingests;
-      snapshots = rows;
-    }) in_place
-    ∙ ap (λ (tables : Tables). record tables {
-      snapshots =
-          committed key.ns key.snapshotter key.name c.args.name c.args.labels tables.snapshots;
-    })
-    c.self.view_is
+    t.snapshots ≡ false) (sym c.self.view_is) c.in_ok-check_commit.ensures.free)) c.self.view_is
 
--- the new row is in the namespace of the old one
+-- the row is as before but for its name, its kind and its labels
 pub invariant_of-self-2 : goal.invariant_of-self-2
 invariant_of-self-2 c =
     let key = c.args.key.now in
@@ -57,11 +67,17 @@ invariant_of-self-2 c =
     subst (λ (t : Tables).
     has_row snap_key (key.ns ∷ key.snapshotter ∷ c.args.name ∷ []) t.snapshots ≡ false)
     (sym c.self.view_is) c.in_ok-check_commit.ensures.free in
-    other_snapshots _ c.self.invariant _
-    (commit_named _ rows c.self.invariant.snapshots key.ns key.snapshotter key.name
-    c.in-Some.row.now c.in_ok-row.row _ _ found
-    (ap (λ (r : SnapRow). r.key.ns) c.in_ok-row.ensures.ok)
-    (ap (λ (r : SnapRow). has_row snap_key (snap_key r) rows) c.in_ok-row.ensures.ok ∙ free)
+    let fine : committing_fault key.ns key.snapshotter key.name c.args.name rows ≡ None =
+    subst (λ (t : Tables).
+    committing_fault key.ns key.snapshotter key.name c.args.name t.snapshots ≡ None)
+    (sym c.self.view_is) c.in_ok-check_commit.ensures.fault in
+    rw (commit_steps key.ns key.snapshotter key.name c.args.name c.args.labels rows
+    c.in-Some.row.now c.in_ok-row.row c.add.new.self c.remove.new.self c.in_ok-row.ensures.ok
     c.in_ok-add.ensures.ok
     (rw (c.text.ensures.text, c.text-2.ensures.text, c.text-3.ensures.text) at
-    c.remove.ensures.left))
+    c.remove.ensures.left)
+    c.self.invariant.snapshots.in_order (sym found) free)
+    (snap_committed _ c.self.invariant key.ns key.snapshotter key.name c.args.name c.args.labels
+    c.in-Some.row.now found
+    (is_of_active key.ns key.snapshotter key.name c.args.name rows c.in-Some.row.now found fine)
+    free)

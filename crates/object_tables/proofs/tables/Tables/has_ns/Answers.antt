@@ -1,7 +1,7 @@
 use Rattle.std.proofs.Common.{sym, subst}
-use Rattle.object_tables.specs.Named.{AreNamed}
+use Rattle.meta_types.specs.Sound.{AreTables}
 use Rattle.object_tables.proofs.Kept.{names_row}
-use Rattle.object_tables.proofs.NamedAfter.{named_in_order}
+use Rattle.object_tables.proofs.OtherTables.{tables_in_order}
 use Rattle.object_tables.proofs.tables.Tables.has_ns.Goals as goal
 
 -- a namespace is found by its text
@@ -10,9 +10,9 @@ returns-clause-there c =
     rw (c.has.ensures, c.text.ensures.text, ← c.self.view_is)
     (sym (names_row c.args.ns.now c.self.inside.namespaces))
 
--- rows are named, as the tables themselves keep
-pub returns-clause-named : goal.returns-clause-named
-returns-clause-named c = subst AreNamed c.self.view_is c.self.invariant
+-- as the tables themselves keep
+pub returns-clause-sound : goal.returns-clause-sound
+returns-clause-sound c = subst AreTables c.self.view_is c.self.invariant
 
 pub returns-clause-order : goal.returns-clause-order
-returns-clause-order c = named_in_order _ (subst AreNamed c.self.view_is c.self.invariant)
+returns-clause-order c = tables_in_order _ (subst AreTables c.self.view_is c.self.invariant)

@@ -1,4 +1,4 @@
-use Rattle.object_tables.proofs.NamedAfter.{none_named}
+use Rattle.object_tables.proofs.OtherTables.{no_rows}
 use Rattle.object_tables.proofs.tables.Tables.new.Goals as goal
 
 -- there is no row yet
@@ -11,4 +11,4 @@ invariant_of-result c =
       c.new-4.ensures,
       c.new-5.ensures,
       c.new-6.ensures,
-    ) none_named
+    ) no_rows

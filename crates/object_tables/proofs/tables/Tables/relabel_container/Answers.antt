@@ -2,7 +2,7 @@ use Rattle.std.proofs.Common.{refl, [], ◌∷◌}
 use Rattle.meta_types.specs.Labels.{put_label}
 use Rattle.meta_types.specs.Rows.{container_key}
 use Rattle.meta_types.specs.declared.rows.ContainerRow.{ContainerRow}
-use Rattle.object_tables.proofs.NamedAfter.{other_containers}
+use Rattle.object_tables.proofs.OtherTables.{other_containers}
 use Rattle.object_tables.proofs.RowsAfter.{labelled}
 use Rattle.object_tables.proofs.tables.Tables.relabel_container.Goals as goal
 

@@ -2,7 +2,7 @@ use Rattle.std.proofs.Common.{refl, [], ◌∷◌}
 use Rattle.meta_types.specs.Labels.{put_label}
 use Rattle.meta_types.specs.Rows.{content_key}
 use Rattle.meta_types.specs.declared.rows.ContentRow.{ContentRow}
-use Rattle.object_tables.proofs.NamedAfter.{other_content}
+use Rattle.object_tables.proofs.OtherTables.{other_content}
 use Rattle.object_tables.proofs.RowsAfter.{labelled}
 use Rattle.object_tables.proofs.tables.Tables.relabel_content.Goals as goal
 

@@ -2,7 +2,7 @@ use Rattle.std.proofs.Common.{refl, [], ◌∷◌}
 use Rattle.meta_types.specs.Labels.{put_label}
 use Rattle.meta_types.specs.Rows.{image_key}
 use Rattle.meta_types.specs.declared.rows.ImageRow.{ImageRow}
-use Rattle.object_tables.proofs.NamedAfter.{other_images}
+use Rattle.object_tables.proofs.OtherTables.{other_images}
 use Rattle.object_tables.proofs.RowsAfter.{labelled}
 use Rattle.object_tables.proofs.tables.Tables.relabel_image.Goals as goal
 

@@ -2,7 +2,8 @@ use Rattle.std.proofs.Common.{refl, [], ◌∷◌}
 use Rattle.meta_types.specs.Labels.{put_label}
 use Rattle.meta_types.specs.Rows.{snap_key}
 use Rattle.meta_types.specs.declared.rows.SnapRow.{SnapRow}
-use Rattle.object_tables.proofs.NamedAfter.{other_snapshots}
+use Rattle.object_tables.proofs.OtherTables.{other_snapshots}
+use Rattle.object_tables.proofs.NumberedAfter.{relabelled}
 use Rattle.object_tables.proofs.RowsAfter.{labelled}
 use Rattle.object_tables.proofs.tables.Tables.relabel_snap.Goals as goal
 
@@ -14,3 +15,7 @@ invariant_of-self c =
     (c.text.result.now ∷ c.text-2.result.now ∷ c.text-3.result.now ∷ [])
     (λ row. record row { labels = put_label c.args.key.now c.args.value.now row.labels })
     (λ row. refl) (λ row. refl) c.relabel.result c.relabel.ensures.ok c.relabel.ensures.err)
+    (relabelled _ _ _ c.self.invariant.numbered
+    (c.text.result.now ∷ c.text-2.result.now ∷ c.text-3.result.now ∷ [])
+    (λ row. put_label c.args.key.now c.args.value.now row.labels) c.relabel.result
+    c.relabel.ensures.ok c.relabel.ensures.err)

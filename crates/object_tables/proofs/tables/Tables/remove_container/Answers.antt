@@ -1,7 +1,7 @@
 use Rattle.std.proofs.Common.{[], ◌∷◌}
 use Rattle.meta_types.specs.Rows.{container_key}
 use Rattle.meta_types.specs.declared.rows.ContainerRow.{ContainerRow}
-use Rattle.object_tables.proofs.NamedAfter.{other_containers}
+use Rattle.object_tables.proofs.OtherTables.{other_containers}
 use Rattle.object_tables.proofs.RowsAfter.{removed}
 use Rattle.object_tables.proofs.tables.Tables.remove_container.Goals as goal
 

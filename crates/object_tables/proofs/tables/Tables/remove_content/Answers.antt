@@ -1,7 +1,7 @@
 use Rattle.std.proofs.Common.{[], ◌∷◌}
 use Rattle.meta_types.specs.Rows.{content_key}
 use Rattle.meta_types.specs.declared.rows.ContentRow.{ContentRow}
-use Rattle.object_tables.proofs.NamedAfter.{other_content}
+use Rattle.object_tables.proofs.OtherTables.{other_content}
 use Rattle.object_tables.proofs.RowsAfter.{removed}
 use Rattle.object_tables.proofs.tables.Tables.remove_content.Goals as goal
 

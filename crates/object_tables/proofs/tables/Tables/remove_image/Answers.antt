@@ -1,7 +1,7 @@
 use Rattle.std.proofs.Common.{[], ◌∷◌}
 use Rattle.meta_types.specs.Rows.{image_key}
 use Rattle.meta_types.specs.declared.rows.ImageRow.{ImageRow}
-use Rattle.object_tables.proofs.NamedAfter.{other_images}
+use Rattle.object_tables.proofs.OtherTables.{other_images}
 use Rattle.object_tables.proofs.RowsAfter.{removed}
 use Rattle.object_tables.proofs.tables.Tables.remove_image.Goals as goal
 

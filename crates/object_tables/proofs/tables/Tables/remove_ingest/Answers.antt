@@ -1,7 +1,8 @@
 use Rattle.std.proofs.Common.{[], ◌∷◌}
 use Rattle.meta_types.specs.Rows.{ingest_key}
 use Rattle.meta_types.specs.declared.rows.IngestRow.{IngestRow}
-use Rattle.object_tables.proofs.NamedAfter.{other_ingests}
+use Rattle.object_tables.proofs.OtherTables.{other_ingests}
+use Rattle.object_tables.proofs.NumberedAfter.{begun_removed}
 use Rattle.object_tables.proofs.RowsAfter.{removed}
 use Rattle.object_tables.proofs.tables.Tables.remove_ingest.Goals as goal
 
@@ -11,4 +12,6 @@ invariant_of-self c =
     other_ingests _ c.self.invariant _
     (removed ingest_key (λ (row : IngestRow). row.ns) _ _ _ c.self.invariant.ingests
     (c.text.result.now ∷ c.text-2.result.now ∷ [])
+    c.remove.ensures.left)
+    (begun_removed _ _ _ c.self.invariant.numbered (c.text.result.now ∷ c.text-2.result.now ∷ [])
     c.remove.ensures.left)

@@ -1,7 +1,7 @@
 use Rattle.std.proofs.Common.{◌≡◌, false, rules, subst, sym}
 use Rattle.meta_types.specs.Rows.{Tables}
 use Rattle.meta_types.specs.Changes.{is_in_use}
-use Rattle.object_tables.proofs.NamedAfter.{namespace_removed}
+use Rattle.object_tables.proofs.OtherTables.{namespace_removed}
 use Rattle.object_tables.proofs.tables.Tables.remove_ns.Goals as goal
 
 -- one goes that no row is in

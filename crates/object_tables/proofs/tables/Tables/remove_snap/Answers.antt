@@ -2,7 +2,8 @@ use Rattle.std.proofs.Common.{ap, List, rules, [], ◌∷◌}
 use Rattle.meta_types.specs.Rows.{Tables, snap_key}
 use Rattle.meta_types.specs.declared.rows.SnapRow.{SnapRow}
 use Rattle.object_tables.proofs.Kept.{nothing_without}
-use Rattle.object_tables.proofs.NamedAfter.{other_snapshots}
+use Rattle.object_tables.proofs.OtherTables.{other_snapshots}
+use Rattle.object_tables.proofs.NumberedAfter.{unstacked}
 use Rattle.object_tables.proofs.RowsAfter.{removed}
 use Rattle.object_tables.proofs.tables.Tables.remove_snap.Goals as goal
 
@@ -14,10 +15,14 @@ returns-then-not-has_snap-clause-left c =
     ap (λ (rows : List SnapRow). record tables { snapshots = rows })
     (nothing_without key.ns key.snapshotter key.name tables.snapshots (search rules))
 
--- one goes
+-- one goes that is no parent
 pub invariant_of-self : goal.invariant_of-self
 invariant_of-self c =
     other_snapshots _ c.self.invariant _
     (removed snap_key (λ (row : SnapRow). row.key.ns) _ _ _ c.self.invariant.snapshots
     (c.text.result.now ∷ c.text-2.result.now ∷ c.text-3.result.now ∷ [])
     c.remove.ensures.left)
+    (unstacked _ _ _ c.self.invariant.numbered c.args.key.now.ns c.args.key.now.snapshotter
+    c.args.key.now.name (search rules)
+    (rw (c.text.ensures.text, c.text-2.ensures.text, c.text-3.ensures.text) at
+    c.remove.ensures.left))

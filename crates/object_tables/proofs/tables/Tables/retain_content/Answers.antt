@@ -1,6 +1,6 @@
 use Rattle.meta_types.specs.Rows.{content_key}
 use Rattle.meta_types.specs.declared.rows.ContentRow.{ContentRow}
-use Rattle.object_tables.proofs.NamedAfter.{other_content}
+use Rattle.object_tables.proofs.OtherTables.{other_content}
 use Rattle.object_tables.proofs.RowsAfter.{left}
 use Rattle.object_tables.proofs.tables.Tables.retain_content.Goals as goal
 

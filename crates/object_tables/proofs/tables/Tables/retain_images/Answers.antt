@@ -1,6 +1,6 @@
 use Rattle.meta_types.specs.Rows.{image_key}
 use Rattle.meta_types.specs.declared.rows.ImageRow.{ImageRow}
-use Rattle.object_tables.proofs.NamedAfter.{other_images}
+use Rattle.object_tables.proofs.OtherTables.{other_images}
 use Rattle.object_tables.proofs.RowsAfter.{left}
 use Rattle.object_tables.proofs.tables.Tables.retain_images.Goals as goal
 

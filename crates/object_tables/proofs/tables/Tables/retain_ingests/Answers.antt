@@ -1,6 +1,7 @@
 use Rattle.meta_types.specs.Rows.{ingest_key}
 use Rattle.meta_types.specs.declared.rows.IngestRow.{IngestRow}
-use Rattle.object_tables.proofs.NamedAfter.{other_ingests}
+use Rattle.object_tables.proofs.OtherTables.{other_ingests}
+use Rattle.object_tables.proofs.NumberedAfter.{begun_left}
 use Rattle.object_tables.proofs.RowsAfter.{left}
 use Rattle.object_tables.proofs.tables.Tables.retain_ingests.Goals as goal
 
@@ -10,3 +11,4 @@ invariant_of-self c =
     other_ingests _ c.self.invariant _
     (left ingest_key (λ (row : IngestRow). row.ns) _ _ _ c.self.invariant.ingests _
     c.retain.ensures)
+    (begun_left _ _ _ c.self.invariant.numbered _ c.retain.ensures)

@@ -1,7 +1,7 @@
 use Rattle.std.proofs.Common.{refl, [], ◌∷◌}
 use Rattle.meta_types.specs.Rows.{image_key}
 use Rattle.meta_types.specs.declared.rows.ImageRow.{ImageRow}
-use Rattle.object_tables.proofs.NamedAfter.{other_images}
+use Rattle.object_tables.proofs.OtherTables.{other_images}
 use Rattle.object_tables.proofs.RowsAfter.{changed}
 use Rattle.object_tables.proofs.tables.Tables.set_target.Goals as goal
 

@@ -1,8 +1,7 @@
 -- What each change of the snapshots keeps: `AreTables` after it.
-use Rattle.std.proofs.Common.{◌≡◌, Bool, true, false, not, List, [], ◌∷◌, refl, ap, ◌∙◌, inl, inr}
-use Rattle.std.specs.Prelude.{All, Contains, Some, IsTrue, filter, is_some, is_none, bytes_eq, ◌&&◌, ◌==◌}
+use Rattle.std.proofs.Common.{◌≡◌, true, false, not, List, [], ◌∷◌, refl, ap, ◌∙◌}
+use Rattle.std.specs.Prelude.{All, Some, IsTrue, is_some, is_none, bytes_eq, ◌&&◌, ◌==◌}
 use Rattle.std.specs.List.{list_any}
-use Rattle.std.proofs.lemmas.Bool.{cases_Bool}
 use Rattle.std.proofs.lemmas.List.Elements.{All-contains}
 use Rattle.meta_types.specs.Text.{Text}
 use Rattle.meta_types.specs.Keys.{Key, has_row, row_at, add_row, remove_row, change_row}
@@ -14,14 +13,13 @@ use Rattle.meta_types.specs.Sound.{parent_of, HasParent, AreTables}
 use Rattle.meta_types.specs.declared.rows.IngestRow.{IngestRow}
 use Rattle.meta_types.specs.declared.rows.SnapRow.{SnapRow}
 use Rattle.meta_types.proofs.KeepsSound.{rows_added, rows_removed, rows_changed}
-use Rattle.meta_types.proofs.TablesAfter.{rows_filtered}
-use Rattle.object_tables.specs.Calls.{kept, without_snap}
-use Rattle.request_core.proofs.RowsKept.{taken_out, free_removed}
-use Rattle.request_core.proofs.ParentsKept.{relabel}
-use Rattle.request_core.proofs.NumbersKept.{numbered_snap_added, numbered_snap_removed, numbered_snap_relabelled}
-use Rattle.request_core.proofs.CommitKept.{named, committed_is, row_of, numbered_committed}
-use Rattle.request_core.proofs.SomeKept.{numbered_filtered, numbered_kept, fresh_is_childless}
-use Rattle.request_core.proofs.OtherTables.{rows_kept, other_snapshots}
+use Rattle.object_tables.specs.Calls.{without_snap}
+use Rattle.object_tables.proofs.RowsKept.{taken_out, free_removed}
+use Rattle.object_tables.proofs.ParentsKept.{relabel}
+use Rattle.object_tables.proofs.NumbersKept.{numbered_snap_added, numbered_snap_removed, numbered_snap_relabelled}
+use Rattle.object_tables.proofs.CommitKept.{named, committed_is, row_of, numbered_committed}
+use Rattle.object_tables.proofs.SomeKept.{fresh_is_childless}
+use Rattle.object_tables.proofs.OtherTables.{other_snapshots}
 
 module _ (tables : Tables) (s : AreTables tables) where
   pub snap_added : (row : SnapRow) → has_namespace tables row.key.ns ≡ true
@@ -45,15 +43,6 @@ module _ (tables : Tables) (s : AreTables tables) where
       (ns ∷ snapshotter ∷ key ∷ []) tables.snapshots s.snapshots)
       (numbered_snap_removed tables.ingests ns snapshotter key tables.snapshots childless
       s.numbered)
-
-  -- whether or not it has children
-  pub snap_without : (ns snapshotter key : Text)
-      → AreTables (record tables { snapshots = without_snap ns snapshotter key tables.snapshots })
-  snap_without ns snapshotter key =
-      elim (cases_Bool (list_any (is_child_of ns snapshotter key) tables.snapshots)) [
-        | inl t ↦ rw t s
-        | inr f ↦ rw f (snap_removed ns snapshotter key f)
-      ]
 
   pub snap_relabelled : (key : Key) (labels_in : SnapRow → LabelList)
       → AreTables
@@ -92,24 +81,6 @@ module _ (tables : Tables) (s : AreTables tables) where
       s.snapshots))
       (numbered_committed ns snapshotter key name labels rows row found active free tables.ingests
       s.numbered))
-
-  pub snapshots_filtered : (p : SnapRow → Bool)
-      → ((row above : SnapRow) → Contains tables.snapshots row → p row ≡ true
-      → parent_of tables.snapshots row ≡ Some above → p above ≡ true)
-      → AreTables (record tables { snapshots = filter p tables.snapshots })
-  snapshots_filtered p closed = other_snapshots tables s _
-      (rows_filtered snap_key (λ (row : SnapRow). row.key.ns) p tables.namespaces tables.snapshots
-      s.snapshots)
-      (numbered_filtered p tables.ingests tables.snapshots s.snapshots.in_order closed s.numbered)
-
-  pub snapshots_kept : (marks : List Bool)
-      → ((row above : SnapRow) → Contains (kept marks tables.snapshots) row
-      → parent_of tables.snapshots row ≡ Some above → Contains (kept marks tables.snapshots) above)
-      → AreTables (record tables { snapshots = kept marks tables.snapshots })
-  snapshots_kept marks closed = other_snapshots tables s _
-      (rows_kept snap_key (λ (row : SnapRow). row.key.ns) tables.namespaces marks tables.snapshots
-      s.snapshots)
-      (numbered_kept marks tables.ingests tables.snapshots s.snapshots.in_order closed s.numbered)
 
   -- the rows are those before an addition that was taken back
   pub snapshots_again : (added end : Tables) (row : SnapRow)

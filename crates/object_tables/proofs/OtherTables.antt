@@ -1,17 +1,18 @@
--- The tables with another list in place of one, and with other namespaces: rows stay named.
-use Rattle.std.proofs.Common.{◌≡◌, true, false, List, [], ◌∷◌, refl, sym, subst, arith}
+-- The tables with another list in place of one, and with other namespaces.
+use Rattle.std.proofs.Common.{◌≡◌, Bool, true, false, List, [], ◌∷◌, refl, sym, subst, arith}
 use Rattle.std.specs.Prelude.{All, Result, Ok, Err, OnOk, OnErr, IsTrue, bytes_eq}
 use Rattle.std.specs.List.{list_any}
 use Rattle.std.proofs.lemmas.Bool.{both_ways, or_parts, false_from_ne_true}
 use Rattle.std.proofs.lemmas.Slice.Eq.{bytes_eq-Decides}
 use Rattle.std.proofs.lemmas.List.Elements.{All-cons}
-use Rattle.object_tables.specs.Calls.{AreInOrder}
-use Rattle.object_tables.specs.Named.{AreNamed}
+use Rattle.object_tables.specs.Calls.{AreInOrder, kept}
+use Rattle.object_tables.proofs.Ordering.{order_kept}
+use Rattle.object_tables.proofs.RowsKept.{all_kept}
 use Rattle.meta_types.specs.Text.{Text}
-use Rattle.meta_types.specs.Keys.{add_row, remove_row, are_in_order, is_before}
+use Rattle.meta_types.specs.Keys.{Key, add_row, remove_row, are_in_order, is_before}
 use Rattle.meta_types.specs.Rows.{Tables, snap_key, ingest_key, image_key, container_key, content_key, namespace_key}
 use Rattle.meta_types.specs.Changes.{has_namespace, is_in_use}
-use Rattle.meta_types.specs.Sound.{AreRows}
+use Rattle.meta_types.specs.Sound.{AreRows, AreNumbered, AreTables}
 use Rattle.meta_types.specs.declared.fault.Fault.{Fault}
 use Rattle.meta_types.specs.declared.rows.ImageRow.{ImageRow}
 use Rattle.meta_types.specs.declared.rows.ContainerRow.{ContainerRow}
@@ -47,12 +48,21 @@ unused ns_of gone namespaces (row ∷ rows) h =
         (λ t. both_ways (bytes_eq a b) h
         ((bytes_eq-Decides a b).1 (sym ((bytes_eq-Decides b a).0 t))))
 
-module _ (tables : Tables) (s : AreNamed tables) where
+-- rows whose places are marked
+pub rows_kept : {Row : Type 0} (key_of : Row → Key) (ns_of : Row → Text) (namespaces : List Text)
+    (marks : List Bool) (rows : List Row) → AreRows key_of ns_of namespaces rows
+    → AreRows key_of ns_of namespaces (kept marks rows)
+rows_kept key_of ns_of namespaces marks rows s = record {
+  in_order = order_kept key_of marks rows s.in_order;
+  named = all_kept (λ row. IsTrue (list_any (bytes_eq (ns_of row)) namespaces)) marks rows s.named;
+}
+
+module _ (tables : Tables) (s : AreTables tables) where
   -- ---- one list is another
 
   pub other_images : (rows : List ImageRow)
       → AreRows image_key (λ (row : ImageRow). row.ns) tables.namespaces rows
-      → AreNamed (record tables { images = rows })
+      → AreTables (record tables { images = rows })
   other_images rows new =
       record {
         namespaces = s.namespaces;
@@ -61,11 +71,12 @@ module _ (tables : Tables) (s : AreNamed tables) where
         content = s.content;
         ingests = s.ingests;
         snapshots = s.snapshots;
+        numbered = s.numbered;
       }
 
   pub other_containers : (rows : List ContainerRow)
       → AreRows container_key (λ (row : ContainerRow). row.ns) tables.namespaces rows
-      → AreNamed (record tables { containers = rows })
+      → AreTables (record tables { containers = rows })
   other_containers rows new =
       record {
         namespaces = s.namespaces;
@@ -74,11 +85,12 @@ module _ (tables : Tables) (s : AreNamed tables) where
         content = s.content;
         ingests = s.ingests;
         snapshots = s.snapshots;
+        numbered = s.numbered;
       }
 
   pub other_content : (rows : List ContentRow)
       → AreRows content_key (λ (row : ContentRow). row.ns) tables.namespaces rows
-      → AreNamed (record tables { content = rows })
+      → AreTables (record tables { content = rows })
   other_content rows new =
       record {
         namespaces = s.namespaces;
@@ -87,12 +99,13 @@ module _ (tables : Tables) (s : AreNamed tables) where
         content = new;
         ingests = s.ingests;
         snapshots = s.snapshots;
+        numbered = s.numbered;
       }
 
   pub other_ingests : (rows : List IngestRow)
       → AreRows ingest_key (λ (row : IngestRow). row.ns) tables.namespaces rows
-      → AreNamed (record tables { ingests = rows })
-  other_ingests rows new =
+      → AreNumbered tables.snapshots rows → AreTables (record tables { ingests = rows })
+  other_ingests rows new numbered =
       record {
         namespaces = s.namespaces;
         images = s.images;
@@ -100,12 +113,13 @@ module _ (tables : Tables) (s : AreNamed tables) where
         content = s.content;
         ingests = new;
         snapshots = s.snapshots;
+        numbered = numbered;
       }
 
   pub other_snapshots : (rows : List SnapRow)
       → AreRows snap_key (λ (row : SnapRow). row.key.ns) tables.namespaces rows
-      → AreNamed (record tables { snapshots = rows })
-  other_snapshots rows new =
+      → AreNumbered rows tables.ingests → AreTables (record tables { snapshots = rows })
+  other_snapshots rows new numbered =
       record {
         namespaces = s.namespaces;
         images = s.images;
@@ -113,6 +127,7 @@ module _ (tables : Tables) (s : AreNamed tables) where
         content = s.content;
         ingests = s.ingests;
         snapshots = new;
+        numbered = numbered;
       }
 
   -- ---- namespaces
@@ -123,7 +138,7 @@ module _ (tables : Tables) (s : AreNamed tables) where
       → All (StaysNamed (λ (row : ContentRow). row.ns) tables.namespaces new) tables.content
       → All (StaysNamed (λ (row : IngestRow). row.ns) tables.namespaces new) tables.ingests
       → All (StaysNamed (λ (row : SnapRow). row.key.ns) tables.namespaces new) tables.snapshots
-      → AreNamed (record tables { namespaces = new })
+      → AreTables (record tables { namespaces = new })
   other_namespaces new order images containers content ingests snapshots = record {
     namespaces = order;
     images = rows_among image_key (λ (row : ImageRow). row.ns) tables.namespaces new tables.images
@@ -136,10 +151,11 @@ module _ (tables : Tables) (s : AreNamed tables) where
         tables.ingests ingests s.ingests;
     snapshots = rows_among snap_key (λ (row : SnapRow). row.key.ns) tables.namespaces new
         tables.snapshots snapshots s.snapshots;
+    numbered = s.numbered;
   }
 
   pub namespace_added : (ns : Text) → has_namespace tables ns ≡ false
-      → AreNamed (record tables { namespaces = add_row namespace_key ns tables.namespaces })
+      → AreTables (record tables { namespaces = add_row namespace_key ns tables.namespaces })
   namespace_added ns free =
       let stays : (text : Text) → list_any (bytes_eq text) tables.namespaces ≡ true
       → list_any (bytes_eq text) (add_row namespace_key ns tables.namespaces) ≡ true =
@@ -155,15 +171,15 @@ module _ (tables : Tables) (s : AreNamed tables) where
   pub namespace_grown : (ns : Text) (new : List Text) (r : Result (Unit {0}) Fault)
       → has_namespace tables ns ≡ false
       → OnOk r (new ≡ add_row namespace_key ns tables.namespaces)
-      → OnErr r (new ≡ tables.namespaces) → AreNamed (record tables { namespaces = new })
+      → OnErr r (new ≡ tables.namespaces) → AreTables (record tables { namespaces = new })
   namespace_grown ns new (Ok u) free ok err =
-      subst (λ (names : List Text). AreNamed (record tables { namespaces = names })) (sym ok)
+      subst (λ (names : List Text). AreTables (record tables { namespaces = names })) (sym ok)
       (namespace_added ns free)
   namespace_grown ns new (Err e) free ok err =
-      subst (λ (names : List Text). AreNamed (record tables { namespaces = names })) (sym err) s
+      subst (λ (names : List Text). AreTables (record tables { namespaces = names })) (sym err) s
 
   pub namespace_removed : (ns : Text) → is_in_use tables ns ≡ false
-      → AreNamed
+      → AreTables
       (record tables { namespaces = remove_row namespace_key (ns ∷ []) tables.namespaces })
   namespace_removed ns free =
       let snapshots =
@@ -183,8 +199,8 @@ module _ (tables : Tables) (s : AreNamed tables) where
       (unused (λ (row : SnapRow). row.key.ns) ns tables.namespaces tables.snapshots snapshots.1)
 
 -- so rows are in order
-pub named_in_order : (tables : Tables) → AreNamed tables → AreInOrder tables
-named_in_order tables s = record {
+pub tables_in_order : (tables : Tables) → AreTables tables → AreInOrder tables
+tables_in_order tables s = record {
   namespaces = s.namespaces;
   images = s.images.in_order;
   containers = s.containers.in_order;
@@ -193,8 +209,8 @@ named_in_order tables s = record {
   snapshots = s.snapshots.in_order;
 }
 
--- where there is no row, each is named
-pub none_named : AreNamed (record {
+-- where there is no row, all is sound
+pub no_rows : AreTables (record {
   namespaces = [];
   images = [];
   containers = [];
@@ -202,11 +218,17 @@ pub none_named : AreNamed (record {
   ingests = [];
   snapshots = [];
 })
-none_named = record {
+no_rows = record {
   namespaces = refl;
   images = record { in_order = refl; named = λ k d lt. absurd (omega arith) };
   containers = record { in_order = refl; named = λ k d lt. absurd (omega arith) };
   content = record { in_order = refl; named = λ k d lt. absurd (omega arith) };
   ingests = record { in_order = refl; named = λ k d lt. absurd (omega arith) };
   snapshots = record { in_order = refl; named = λ k d lt. absurd (omega arith) };
+  numbered = record {
+    parents = λ k d lt. absurd (omega arith);
+    snapshots_apart = λ i j d lt within. absurd (omega arith);
+    ingests_apart = λ i j d lt within. absurd (omega arith);
+    apart = λ k d lt. absurd (omega arith);
+  };
 }

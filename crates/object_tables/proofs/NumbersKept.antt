@@ -13,9 +13,9 @@ use Rattle.meta_types.specs.Sound.{HasParent, AreNumbered}
 use Rattle.meta_types.specs.declared.rows.IngestRow.{IngestRow}
 use Rattle.meta_types.specs.declared.rows.SnapRow.{SnapRow}
 use Rattle.meta_types.proofs.KeepsSound.{all_added, all_removed, all_changed}
-use Rattle.request_core.proofs.PairsKept.{pairs_added, each_fails, all_both}
-use Rattle.request_core.proofs.RowsKept.{pairs_removed, pairs_changed}
-use Rattle.request_core.proofs.ParentsKept.{key_above, parent_kept, stays_added, stays_removed, other_parent, relabel, stays_relabelled}
+use Rattle.object_tables.proofs.PairsKept.{pairs_added, each_fails, all_both}
+use Rattle.object_tables.proofs.RowsKept.{pairs_removed, pairs_changed}
+use Rattle.object_tables.proofs.ParentsKept.{key_above, parent_kept, stays_added, stays_removed, other_parent, relabel, stays_relabelled}
 
 -- ---- numbers of ingests
 

@@ -1,7 +1,7 @@
 -- What each change of the tables keeps: `AreTables` after it. It passes on the lemmas on namespaces
 -- (OtherTables) and snapshots (SnapTablesKept). A new row's parent: `has_parent` of ParentsKept.
-use Rattle.std.proofs.Common.{◌≡◌, Bool, true, false, not, List}
-use Rattle.std.specs.Prelude.{All, IsTrue, filter, ◌==◌}
+use Rattle.std.proofs.Common.{◌≡◌, true, false, not}
+use Rattle.std.specs.Prelude.{All, IsTrue, ◌==◌}
 use Rattle.meta_types.specs.Keys.{Key, has_row, add_row, remove_row, change_row}
 use Rattle.meta_types.specs.Rows.{Tables, ingest_key, image_key, container_key, content_key}
 use Rattle.meta_types.specs.Changes.{has_namespace}
@@ -12,13 +12,10 @@ use Rattle.meta_types.specs.declared.rows.ContentRow.{ContentRow}
 use Rattle.meta_types.specs.declared.rows.IngestRow.{IngestRow}
 use Rattle.meta_types.specs.declared.rows.SnapRow.{SnapRow}
 use Rattle.meta_types.proofs.KeepsSound.{rows_added, rows_removed, rows_changed}
-use Rattle.meta_types.proofs.TablesAfter.{rows_filtered}
-use Rattle.object_tables.specs.Calls.{kept}
-use Rattle.request_core.proofs.NumbersKept.{numbered_ingest_added, numbered_ingest_removed}
-use Rattle.request_core.proofs.SomeKept.{numbered_ingests_kept}
-use Rattle.request_core.proofs.OtherTables.{rows_kept, other_images, other_containers, other_content, other_ingests}
-pub use Rattle.request_core.proofs.OtherTables.{namespace_added, namespace_removed}
-pub use Rattle.request_core.proofs.SnapTablesKept.{snap_added, snap_removed, snap_without, snap_relabelled, snap_committed, snapshots_filtered, snapshots_kept, snapshots_again}
+use Rattle.object_tables.proofs.NumbersKept.{numbered_ingest_added, numbered_ingest_removed}
+use Rattle.object_tables.proofs.OtherTables.{other_images, other_containers, other_content, other_ingests}
+pub use Rattle.object_tables.proofs.OtherTables.{namespace_added, namespace_removed}
+pub use Rattle.object_tables.proofs.SnapTablesKept.{snap_added, snap_removed, snap_relabelled, snap_committed, snapshots_again}
 
 module _ (tables : Tables) (s : AreTables tables) where
   -- ---- images, containers and content
@@ -45,20 +42,6 @@ module _ (tables : Tables) (s : AreTables tables) where
       other_images tables s _
       (rows_changed image_key (λ (row : ImageRow). row.ns) tables.namespaces key change same same_ns
       tables.images s.images)
-
-  pub images_filtered : (p : ImageRow → Bool)
-      → AreTables (record tables { images = filter p tables.images })
-  images_filtered p =
-      other_images tables s _
-      (rows_filtered image_key (λ (row : ImageRow). row.ns) p tables.namespaces tables.images
-      s.images)
-
-  pub images_kept : (marks : List Bool)
-      → AreTables (record tables { images = kept marks tables.images })
-  images_kept marks =
-      other_images tables s _
-      (rows_kept image_key (λ (row : ImageRow). row.ns) tables.namespaces marks tables.images
-      s.images)
 
   pub container_added : (row : ContainerRow) → has_namespace tables row.ns ≡ true
       → has_row container_key (container_key row) tables.containers ≡ false
@@ -106,20 +89,6 @@ module _ (tables : Tables) (s : AreTables tables) where
       (rows_changed content_key (λ (row : ContentRow). row.ns) tables.namespaces key change same
       same_ns tables.content s.content)
 
-  pub content_filtered : (p : ContentRow → Bool)
-      → AreTables (record tables { content = filter p tables.content })
-  content_filtered p =
-      other_content tables s _
-      (rows_filtered content_key (λ (row : ContentRow). row.ns) p tables.namespaces tables.content
-      s.content)
-
-  pub content_kept : (marks : List Bool)
-      → AreTables (record tables { content = kept marks tables.content })
-  content_kept marks =
-      other_content tables s _
-      (rows_kept content_key (λ (row : ContentRow). row.ns) tables.namespaces marks tables.content
-      s.content)
-
   -- ---- ingests
 
   pub ingest_added : (row : IngestRow) → has_namespace tables row.ns ≡ true
@@ -139,11 +108,3 @@ module _ (tables : Tables) (s : AreTables tables) where
       other_ingests tables s _
       (rows_removed ingest_key (λ (row : IngestRow). row.ns) tables.namespaces key tables.ingests
       s.ingests) (numbered_ingest_removed tables.snapshots key tables.ingests s.numbered)
-
-  pub ingests_kept : (marks : List Bool)
-      → AreTables (record tables { ingests = kept marks tables.ingests })
-  ingests_kept marks =
-      other_ingests tables s _
-      (rows_kept ingest_key (λ (row : IngestRow). row.ns) tables.namespaces marks tables.ingests
-      s.ingests)
-      (numbered_ingests_kept marks tables.snapshots tables.ingests s.numbered)

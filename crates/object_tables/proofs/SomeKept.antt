@@ -1,86 +1,26 @@
--- Some of the rows keep parents and numbers, where the parent of each stays.
--- And a snapshot whose name was free has no children.
+-- Some of the ingests keep their numbers, and a snapshot whose name was free has no children.
 use Rattle.std.proofs.Common.{◌≡◌, ◌<◌, Bool, true, false, not, List, [], ◌∷◌, refl, sym, ap, ◌∙◌}
-use Rattle.std.specs.Prelude.{All, Contains, Option, Some, None, IfSome, IsTrue, filter, is_some, is_none, bytes_eq, ◌&&◌, ◌==◌}
+use Rattle.std.specs.Prelude.{Option, Some, None, IfSome, IsTrue, is_some, is_none, bytes_eq, ◌&&◌, ◌==◌}
 use Rattle.std.specs.List.{list_any}
 use Rattle.std.specs.Option.{option_map_or}
 use Rattle.std.proofs.lemmas.Bool.{and_parts, false_from_ne_true, false≢true}
-use Rattle.std.proofs.lemmas.List.Elements.{All-weaker, All-contains_itself, All-filter}
-use Rattle.std.proofs.lemmas.List.Kept.{AllPairs-filter}
+use Rattle.std.proofs.lemmas.List.Elements.{All-weaker}
 use Rattle.std.proofs.lemmas.Slice.Eq.{bytes_eq-Decides}
 use Rattle.meta_types.specs.Text.{Text}
-use Rattle.meta_types.specs.Keys.{row_at, has_row, add_row, are_in_order}
+use Rattle.meta_types.specs.Keys.{row_at, has_row, add_row}
 use Rattle.meta_types.specs.Rows.{snap_key}
 use Rattle.meta_types.specs.SnapshotOps.{is_committed, parent_row, is_child_of}
 use Rattle.meta_types.specs.Sound.{parent_of, HasParent, AreNumbered}
 use Rattle.meta_types.specs.declared.rows.IngestRow.{IngestRow}
 use Rattle.meta_types.specs.declared.rows.SnapRow.{SnapRow}
-use Rattle.meta_types.proofs.Filtered.{in_order_filtered}
-use Rattle.meta_types.proofs.Members.{in_filter, from_filter}
 use Rattle.object_tables.specs.Calls.{kept}
-use Rattle.object_tables.proofs.Ordering.{order_kept}
 use Rattle.meta_types.proofs.KeepsSound.{all_added}
-use Rattle.meta_types.proofs.Found.{no_none}
-use Rattle.request_core.proofs.PairsKept.{none_of, all_both}
-use Rattle.request_core.proofs.RowsKept.{row_is, row_there, all_kept, pairs_kept}
-use Rattle.request_core.proofs.ParentsKept.{key_above, parent_kept}
-use Rattle.request_core.proofs.NumbersKept.{Apart, TwoIngests, TwoSnaps}
+use Rattle.object_tables.proofs.PairsKept.{none_of}
+use Rattle.object_tables.proofs.RowsKept.{all_kept, pairs_kept}
+use Rattle.object_tables.proofs.ParentsKept.{key_above}
+use Rattle.object_tables.proofs.NumbersKept.{Apart, TwoIngests}
 
--- ---- some of the rows
-
--- some of the rows, with the parent of each
-pub parents_among : (rows new : List SnapRow) → are_in_order snap_key new ≡ true
-    → All (HasParent rows) new
-    → ((row above : SnapRow) → Contains new row → parent_of rows row ≡ Some above
-    → Contains new above)
-    → All (HasParent new) new
-parents_among rows new order had closed = all_both (HasParent rows) (Contains new) (HasParent new)
-    (λ row has c. (parent_kept rows new row (λ name e above there committed.
-    let above_in : Contains new above = closed row above c
-    (ap (parent_row rows row.key.ns row.key.snapshotter) e ∙ there) in (
-      above,
-      ap (λ k. row_at snap_key k new) (row_is snap_key (key_above row name) rows above there).1
-          ∙ row_there snap_key new order above above_in,
-      committed,
-      refl,
-    )) has).0)
-    new had (All-contains_itself new)
-
-pub numbered_filtered : (p : SnapRow → Bool) (ingests : List IngestRow) (rows : List SnapRow)
-    → are_in_order snap_key rows ≡ true
-    → ((row above : SnapRow) → Contains rows row → p row ≡ true → parent_of rows row ≡ Some above
-    → p above ≡ true) → AreNumbered rows ingests → AreNumbered (filter p rows) ingests
-numbered_filtered p ingests rows order closed s = record {
-  parents = parents_among rows (filter p rows) (in_order_filtered snap_key p rows order)
-      (All-filter p (HasParent rows) rows s.parents)
-      (λ row above c e. let both = from_filter p rows row c in
-      in_filter p rows above (above_in row above e) (closed row above both.0 both.1 e));
-  snapshots_apart = AllPairs-filter TwoSnaps p rows s.snapshots_apart;
-  ingests_apart = s.ingests_apart;
-  apart = All-filter p (λ snap. Apart snap ingests) rows s.apart;
-}
-  where
-    above_in : (row above : SnapRow) → parent_of rows row ≡ Some above → Contains rows above
-    above_in row above = go row.parent
-      where
-        go : (parent : Option Text) → parent_row rows row.key.ns row.key.snapshotter parent
-            ≡ Some above
-            → Contains rows above
-        go None e = no_none above e
-        go (Some name) e = (row_is snap_key (key_above row name) rows above e).0
-
-pub numbered_kept : (marks : List Bool) (ingests : List IngestRow) (rows : List SnapRow)
-    → are_in_order snap_key rows ≡ true
-    → ((row above : SnapRow) → Contains (kept marks rows) row → parent_of rows row ≡ Some above
-    → Contains (kept marks rows) above) → AreNumbered rows ingests
-    → AreNumbered (kept marks rows) ingests
-numbered_kept marks ingests rows order closed s = record {
-  parents = parents_among rows (kept marks rows) (order_kept snap_key marks rows order)
-      (all_kept (HasParent rows) marks rows s.parents) closed;
-  snapshots_apart = pairs_kept TwoSnaps marks rows s.snapshots_apart;
-  ingests_apart = s.ingests_apart;
-  apart = all_kept (λ snap. Apart snap ingests) marks rows s.apart;
-}
+-- ---- some of the ingests
 
 pub numbered_ingests_kept : (marks : List Bool) (snapshots : List SnapRow) (rows : List IngestRow)
     → AreNumbered snapshots rows → AreNumbered snapshots (kept marks rows)

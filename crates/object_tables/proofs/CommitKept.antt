@@ -17,10 +17,10 @@ use Rattle.meta_types.specs.declared.rows.SnapKind.TheVariants.{Active, View, Co
 use Rattle.meta_types.proofs.KeepsSound.{all_added, all_removed}
 use Rattle.meta_types.proofs.TablesAfter.{above_is}
 use Rattle.meta_types.proofs.Found.{some_is}
-use Rattle.request_core.proofs.PairsKept.{pairs_added}
-use Rattle.request_core.proofs.RowsKept.{keys_same, pairs_removed, pairs_of, no_row_of, row_removed, row_added, free_removed}
-use Rattle.request_core.proofs.ParentsKept.{key_above, number_above, Stays, parent_kept}
-use Rattle.request_core.proofs.NumbersKept.{Apart, TwoSnaps, turned}
+use Rattle.object_tables.proofs.PairsKept.{pairs_added}
+use Rattle.object_tables.proofs.RowsKept.{keys_same, pairs_removed, pairs_of, no_row_of, row_removed, row_added, free_removed}
+use Rattle.object_tables.proofs.ParentsKept.{key_above, number_above, Stays, parent_kept}
+use Rattle.object_tables.proofs.NumbersKept.{Apart, TwoSnaps, turned}
 
 active_stays_out : (kind : SnapKind) → is_active kind ≡ true → is_committed kind ≡ true → ⊥
 active_stays_out Active a c = absurd cc

@@ -1,0 +1,69 @@
+-- Parents and numbers after a call: of ingests that changed, and of snapshots.
+use Rattle.std.proofs.Common.{◌≡◌, Bool, false, List, [], ◌∷◌, sym, subst}
+use Rattle.std.specs.Prelude.{Result, Ok, Err, OnOk, OnErr}
+use Rattle.std.specs.List.{list_any}
+use Rattle.meta_types.specs.Text.{Text}
+use Rattle.meta_types.specs.Keys.{Key, add_row, remove_row, change_row}
+use Rattle.meta_types.specs.Labels.{LabelList}
+use Rattle.meta_types.specs.Rows.{ingest_key, snap_key}
+use Rattle.meta_types.specs.SnapshotOps.{is_child_of}
+use Rattle.meta_types.specs.Sound.{AreNumbered}
+use Rattle.meta_types.specs.declared.fault.Fault.{Fault}
+use Rattle.meta_types.specs.declared.rows.IngestRow.{IngestRow}
+use Rattle.meta_types.specs.declared.rows.SnapRow.{SnapRow}
+use Rattle.object_tables.specs.Calls.{kept}
+use Rattle.object_tables.proofs.ParentsKept.{relabel}
+use Rattle.object_tables.proofs.NumbersKept.{numbered_ingest_removed, numbered_snap_removed, numbered_snap_relabelled}
+use Rattle.object_tables.proofs.SomeKept.{numbered_ingests_kept}
+
+-- as a call that was refused, or wasn't, leaves it
+either : {X : Type 0} (P : X → Type 0) (old more new : X) (r : Result (Unit {0}) Fault) → P old
+    → P more → OnOk r (new ≡ more) → OnErr r (new ≡ old) → P new
+either P old more new (Ok u) p q ok err = subst P (sym ok) q
+either P old more new (Err e) p q ok err = subst P (sym err) p
+
+-- ---- ingests
+
+module _ (snapshots : List SnapRow) (old new : List IngestRow) (s : AreNumbered snapshots old) where
+  -- one more, or as before
+  pub begun_grown : (row : IngestRow) (r : Result (Unit {0}) Fault)
+      → AreNumbered snapshots (add_row ingest_key row old)
+      → OnOk r (new ≡ add_row ingest_key row old) → OnErr r (new ≡ old)
+      → AreNumbered snapshots new
+  begun_grown row r more ok err =
+      either (AreNumbered snapshots) old (add_row ingest_key row old) new r s more ok err
+
+  pub begun_removed : (key : Key) → new ≡ remove_row ingest_key key old
+      → AreNumbered snapshots new
+  begun_removed key e =
+      subst (AreNumbered snapshots) (sym e) (numbered_ingest_removed snapshots key old s)
+
+  pub begun_left : (marks : List Bool) → new ≡ kept marks old → AreNumbered snapshots new
+  begun_left marks e =
+      subst (AreNumbered snapshots) (sym e) (numbered_ingests_kept marks snapshots old s)
+
+-- ---- snapshots
+
+module _ (ingests : List IngestRow) (old new : List SnapRow) (s : AreNumbered old ingests) where
+  abbrev Numbered : List SnapRow → Type 0
+  Numbered rows = AreNumbered rows ingests
+
+  -- one more, or as before
+  pub stacked : (row : SnapRow) (r : Result (Unit {0}) Fault)
+      → AreNumbered (add_row snap_key row old) ingests
+      → OnOk r (new ≡ add_row snap_key row old) → OnErr r (new ≡ old) → AreNumbered new ingests
+  stacked row r more ok err = either Numbered old (add_row snap_key row old) new r s more ok err
+
+  -- one goes that is no parent
+  pub unstacked : (ns snapshotter key : Text) → list_any (is_child_of ns snapshotter key) old ≡ false
+      → new ≡ remove_row snap_key (ns ∷ snapshotter ∷ key ∷ []) old → AreNumbered new ingests
+  unstacked ns snapshotter key childless e =
+      subst Numbered (sym e) (numbered_snap_removed ingests ns snapshotter key old childless s)
+
+  -- one has other labels, or as before
+  pub relabelled : (key : Key) (labels_in : SnapRow → LabelList) (r : Result (Unit {0}) Fault)
+      → OnOk r (new ≡ change_row snap_key key (relabel labels_in) old) → OnErr r (new ≡ old)
+      → AreNumbered new ingests
+  relabelled key labels_in r ok err =
+      either Numbered old (change_row snap_key key (relabel labels_in) old) new r s
+      (numbered_snap_relabelled ingests key labels_in old s) ok err
