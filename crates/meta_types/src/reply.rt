@@ -51,7 +51,7 @@ impl Listing {
         ensures fault { Refuses result None }
         ensures ok { IfOk result (λ names. names ≡ self.now) }
     {
-        let names = Vec::from_clones(alloc, self.texts())?;
+        let names = Vec::from_clones(alloc, &self.names)?;
         Ok(Listing { names })
     }
 
@@ -123,8 +123,8 @@ impl Holdings {
         ensures fault { Refuses result None }
         ensures ok { IfOk result (λ holdings. holdings ≡ self.now) }
     {
-        let resources = copies_of(alloc, self.resources())?;
-        Ok(Holdings::new(resources))
+        let resources = copies_of(alloc, &self.resources)?;
+        Ok(Holdings { resources })
     }
 
     /// The resources.

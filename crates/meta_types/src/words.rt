@@ -42,7 +42,7 @@ impl Words {
         ensures ok { IfOk result (λ words. words ≡ self.now) }
     {
         let text = self.text.clone()?;
-        Ok(Words::new(text))
+        Ok(Words { text })
     }
 }
 
@@ -75,8 +75,8 @@ impl Pairs {
         ensures fault { Refuses result None }
         ensures ok { IfOk result (λ pairs. pairs ≡ self.now) }
     {
-        let entries = Vec::from_clones(alloc, self.entries())?;
-        Ok(Pairs::new(entries))
+        let entries = Vec::from_clones(alloc, &self.entries)?;
+        Ok(Pairs { entries })
     }
 
     /// The keys and values as they came.

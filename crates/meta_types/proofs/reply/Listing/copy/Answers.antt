@@ -1,4 +1,4 @@
-use Rattle.std.proofs.Common.{◌≡◌, ◌∙◌, ℕ, List, [], ◌∷◌, map, refl}
+use Rattle.std.proofs.Common.{◌≡◌, ◌∙◌, ap, ℕ, List, [], ◌∷◌, map, refl}
 use Rattle.std.specs.List.{AllZip}
 use Rattle.std.specs.Arc.{arc_str_bytes}
 use Rattle.meta_types.proofs.reply.Listing.copy.Goals as goal
@@ -11,4 +11,4 @@ shared text_of (x ∷ xs) (y ∷ ys) same = λ i. same.0 i ∷ shared text_of xs
 
 -- the names share their texts
 pub returns-clause-ok : goal.returns-clause-ok
-returns-clause-ok c = shared arc_str_bytes c.texts.result.now c.in_ok-names.names.items c.in_ok-names.ensures.items ∙ c.texts.ensures
+returns-clause-ok c = shared arc_str_bytes c.deref.result.now c.in_ok-names.names.items c.in_ok-names.ensures.items ∙ ap (map arc_str_bytes) c.deref.ensures.value ∙ c.self.view_is
