@@ -11,8 +11,6 @@ mod parallel;
 mod refs;
 mod roots;
 mod rows;
-#[cfg(test)]
-mod tests;
 mod whole;
 
 pub use book::NodeBook;

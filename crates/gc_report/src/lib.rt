@@ -5,8 +5,6 @@ mod lists;
 mod objects;
 mod report;
 mod rows;
-#[cfg(test)]
-mod tests;
 
 pub use objects::Objects;
 pub use report::Report;

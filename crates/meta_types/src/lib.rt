@@ -14,14 +14,6 @@ mod request;
 mod resource;
 mod rows;
 mod short_name;
-#[cfg(test)]
-mod tests;
-#[cfg(test)]
-mod tests_copies;
-#[cfg(test)]
-mod tests_labels;
-#[cfg(test)]
-mod tests_rows;
 mod text;
 mod words;
 

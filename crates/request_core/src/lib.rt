@@ -17,8 +17,6 @@ mod refusal;
 mod snap_growth;
 mod snapshots;
 mod state;
-#[cfg(test)]
-mod tests;
 mod texts;
 
 pub use back_model::{Backends, BlobBackend, IngestBackend, SnapBackend};

@@ -11,8 +11,6 @@ mod owners;
 mod pass;
 mod places;
 mod planning;
-#[cfg(test)]
-mod tests;
 
 pub use depths::BackSnap;
 pub use masks::{Masks, masks_of};
