@@ -2,6 +2,7 @@
 use crate::{Asked, read_line};
 use meta_types::{Fault, Removal, Request};
 use std::alloc::Global;
+use std::mem::drop;
 use std::test::Fail;
 
 fn is_bad(alloc: Global, line: &[u8]) -> bool {
@@ -237,60 +238,78 @@ fn refuses_each_op_without_a_member_of_its_own(rt: HostRuntime) -> Result<(), Fa
     Ok(())
 }
 
-// Whether a line asks for a collection at this moment.
-fn asks_at(alloc: Global, line: &[u8], moment: &str, is_dry: bool) -> bool {
-    match read_line(alloc, line) {
-        Ok(Asked::Collect { at, dry }) => at.text() == moment && dry == is_dry,
+fn is_collection(asked: &Asked, moment: &str, is_dry: bool) -> bool {
+    match asked {
+        Asked::Collect { at, dry } => at.text() == moment && *dry == is_dry,
         _ => false,
     }
+}
+
+// Whether a line asks for a collection at this moment.
+fn collects(alloc: Global, line: &[u8], moment: &str, is_dry: bool) -> Result<bool, Fault> {
+    let asked = read_line(alloc, line)?;
+    let answer = is_collection(&asked, moment, is_dry);
+    drop(asked);
+    Ok(answer)
 }
 
 #[test]
 fn tells_a_plan_from_a_run(rt: HostRuntime) -> Result<(), Fail> {
     let alloc = rt.alloc();
-    assert!(rt; asks_at(alloc, b"{\"op\":\"gc.run\",\"at\":\"t\"}", "t", false));
-    assert!(rt; asks_at(alloc, b"{\"op\":\"gc.plan\",\"at\":\"t\"}", "t", true));
+    assert!(rt; collects(alloc, b"{\"op\":\"gc.run\",\"at\":\"t\"}", "t", false)?);
+    assert!(rt; collects(alloc, b"{\"op\":\"gc.plan\",\"at\":\"t\"}", "t", true)?);
     Ok(())
 }
 
-// Whether a line asks for the removal of this image with a collection at a moment.
-fn removes_at(alloc: Global, line: &[u8], image: &str, moment: &str) -> bool {
-    match read_line(alloc, line) {
-        Ok(
-            Asked::Remove {
-                removal: Removal::Image { ns: _, name },
-                at,
-            },
-        ) => { name.text() == image && at.text() == moment }
+fn is_image(removal: &Removal, image: &str) -> bool {
+    match removal {
+        Removal::Image { ns: _, name } => name.text() == image,
         _ => false,
     }
+}
+
+fn is_removal(asked: &Asked, image: &str, moment: &str) -> bool {
+    match asked {
+        Asked::Remove { removal, at } => at.text() == moment && is_image(removal, image),
+        _ => false,
+    }
+}
+
+// Whether a line asks for the removal of this image with a collection at a moment.
+fn removes_at(alloc: Global, line: &[u8], image: &str, moment: &str) -> Result<bool, Fault> {
+    let asked = read_line(alloc, line)?;
+    let answer = is_removal(&asked, image, moment);
+    drop(asked);
+    Ok(answer)
 }
 
 #[test]
 fn a_removal_with_a_moment_is_one_event_with_its_collection(rt: HostRuntime) -> Result<(), Fail> {
     let line = b"{\"op\":\"image.remove\",\"ns\":\"x\",\"name\":\"i\",\"sync\":\"t\"}";
-    assert!(rt; removes_at(rt.alloc(), line, "i", "t"));
+    assert!(rt; removes_at(rt.alloc(), line, "i", "t")?);
     Ok(())
 }
 
-// Whether a line asks for this profile.
-fn chooses(alloc: Global, line: &[u8], profile: u64) -> bool {
-    match read_line(alloc, line) {
-        Ok(Asked::Request(Request::Profile { v })) => v == profile,
+fn is_profile(asked: &Asked, profile: u64) -> bool {
+    match asked {
+        Asked::Request(Request::Profile { v }) => *v == profile,
         _ => false,
     }
+}
+
+// Whether a line asks for this profile.
+fn chooses(alloc: Global, line: &[u8], profile: u64) -> Result<bool, Fault> {
+    let asked = read_line(alloc, line)?;
+    let answer = is_profile(&asked, profile);
+    drop(asked);
+    Ok(answer)
 }
 
 #[test]
 fn a_profile_is_a_whole_number(rt: HostRuntime) -> Result<(), Fail> {
     let alloc = rt.alloc();
-    assert!(rt; chooses(alloc, b"{\"op\":\"profile\",\"v\":2}", 2));
-    assert!(rt;
-        chooses(
-            alloc,
-            b"{\"op\":\"profile\",\"v\":18446744073709551615}",
-            18446744073709551615
-        )
-    );
+    let most = b"{\"op\":\"profile\",\"v\":18446744073709551615}";
+    assert!(rt; chooses(alloc, b"{\"op\":\"profile\",\"v\":2}", 2)?);
+    assert!(rt; chooses(alloc, most, 18446744073709551615)?);
     Ok(())
 }
