@@ -22,6 +22,7 @@ mod tests;
 #[cfg(test)]
 mod tests_parts;
 mod texts;
+mod unfailing;
 
 pub use back_model::{Backends, BlobBackend, IngestBackend, SnapBackend};
 pub use lease_book::Leases;
