@@ -13,6 +13,7 @@ mod mem_blobs;
 mod mem_ingests;
 mod shards;
 mod traits;
+mod unfailing;
 
 pub use backends::Backends;
 pub use faults::{MakeFault, RemoveFault};

@@ -13,6 +13,7 @@ mod reply;
 mod request;
 mod resource;
 mod rows;
+mod same;
 mod short_name;
 mod text;
 mod words;

@@ -18,6 +18,7 @@ mod snap_growth;
 mod snapshots;
 mod state;
 mod texts;
+mod unfailing;
 
 pub use back_model::{Backends, BlobBackend, IngestBackend, SnapBackend};
 pub use lease_book::Leases;

@@ -3,10 +3,17 @@
 
 mod asked;
 mod check;
+mod collection_ops;
+mod container_ops;
+mod content_ops;
+mod image_ops;
+mod lease_ops;
 mod line;
 mod members;
+mod namespace_ops;
 mod op;
 mod ops;
+mod snapshot_ops;
 
 pub use asked::Asked;
 pub use line::read_line;
