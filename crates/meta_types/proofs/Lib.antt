@@ -1,3 +1,5 @@
+pub mod Decided
+pub mod RowTests
 pub mod Members
 pub mod Places
 pub mod Ordered

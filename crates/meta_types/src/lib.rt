@@ -13,11 +13,14 @@ mod reply;
 mod request;
 mod resource;
 mod rows;
+mod same;
 mod short_name;
 #[cfg(test)]
 mod tests;
 #[cfg(test)]
 mod tests_copies;
+#[cfg(test)]
+mod tests_equality;
 #[cfg(test)]
 mod tests_labels;
 #[cfg(test)]

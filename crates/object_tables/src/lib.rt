@@ -14,6 +14,8 @@ mod tables;
 #[cfg(test)]
 mod tests;
 #[cfg(test)]
+mod tests_counts;
+#[cfg(test)]
 mod tests_snapshots;
 
 pub use tables::{Counts, Tables};

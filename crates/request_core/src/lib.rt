@@ -19,6 +19,8 @@ mod snapshots;
 mod state;
 #[cfg(test)]
 mod tests;
+#[cfg(test)]
+mod tests_parts;
 mod texts;
 
 pub use back_model::{Backends, BlobBackend, IngestBackend, SnapBackend};

@@ -16,4 +16,5 @@ pub record IsPlan (records : Records) (namespaces : ℕ) (back : BackLists) (at 
   pub kept : plan.kept ≡ record (kept_of (collected_records at reached records)) { namespaces = namespaces }
   pub ignored : plan.ignored.items ≡ ignored_of records
   pub ignored_images : plan.ignored_images.items ≡ ignored_images_of records
+  pub profile : plan.profile ≡ records.profile
   pub scanned : plan.scanned ≡ scanned_of reached records

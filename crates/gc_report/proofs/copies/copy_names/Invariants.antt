@@ -1,5 +1,5 @@
 use Rattle.std.proofs.Common.{◌≡◌, take}
-use Rattle.table_sweep.proofs.copies.copy_content_names.Given as goal
+use Rattle.gc_report.proofs.copies.copy_names.Given as goal
 
 -- those so far are copied
 abbrev pub invariant-loop-name : goal.invariant-loop-name
