@@ -15,4 +15,5 @@ pub mod Ends
 pub mod Backs
 pub mod Allowed
 pub mod Placed
+pub mod Cursors
 pub mod Dealing

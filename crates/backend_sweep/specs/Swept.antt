@@ -1,5 +1,6 @@
 -- What a sweep of all backends did, and what it left.
-use Rattle.std.specs.Prelude.{◌≡◌, ◌+◌, ◌≤◌, ℕ, Bool, true, false, List, length, filter}
+use Rattle.std.specs.Prelude.{◌≡◌, ◌+◌, ◌≤◌, ℕ, Bool, true, false, List, length, filter, slice_get}
+use Rattle.std.specs.Option.{option_map_or}
 use Rattle.std.specs.Vec.{vec_capacity}
 use Rattle.meta_types.specs.Text.{Text}
 use Rattle.meta_types.specs.Rows.{Tables, BackLists}
@@ -28,6 +29,10 @@ pub record AreDealt {X : Type 0} (names removed failed : List X) : Type 0 where
   pub apart : (x : X) → goes x ≡ true → fails x ≡ false
   pub removed_is : removed ≡ filter goes names
   pub failed_is : failed ≡ filter fails names
+
+-- this name stands at that place (ours)
+abbrev pub is_at : {X : Type 0} → (X → X → Bool) → List X → ℕ → X → Bool
+is_at same list place name = option_map_or (λ other. same other name) (slice_get list place) false
 
 -- of all these names (ours)
 pub record AreOf (names : BackNames) (swept : AllSwept) : Type 0 where

@@ -82,6 +82,21 @@ impl Swept {
         })
     }
 
+    /// The same as another sweep of what the plan names, in the room for it. It takes no memory.
+    pub fn fill(&mut self, alloc: Global, swept: &Swept)
+        requires empty { (self.old.removed ≡ no_objects) × (self.old.failed ≡ no_objects) }
+        requires of { AreOf self.old.room swept.now }
+        ensures { self.new ≡ record {
+          removed = swept.now.removed;
+          failed = swept.now.failed;
+          room = no_objects;
+        } }
+    {
+        self.blobs.fill(alloc, &swept.blobs);
+        self.ingests.fill(alloc, &swept.ingests);
+        self.snapshots.fill(alloc, &swept.snapshots);
+    }
+
     /// What was removed, and what failed.
     pub fn into_objects(self) -> (Objects, Objects)
         ensures removed { result.0 ≡ self.removed }
