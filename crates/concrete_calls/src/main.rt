@@ -12,7 +12,7 @@ use std::process::ExitCode;
 use std::thread::Threads;
 
 fn all_calls(rt: &(impl Threads + Sync), alloc: Global) -> Result<bool, Fault> {
-    Ok(backends::calls(alloc)? && graph::calls(rt, alloc)?)
+    Ok(backends::calls(alloc)? && graph::calls(rt, alloc))
 }
 
 fn main(rt: HostRuntime) -> ExitCode {
