@@ -5,6 +5,7 @@ mod book;
 mod edges;
 mod ends;
 mod ignored;
+pub mod laws;
 mod node;
 mod nodes;
 mod parallel;

@@ -10,6 +10,7 @@ mod images;
 mod ingest_growth;
 mod ingests;
 mod labels;
+pub mod laws;
 mod leases;
 mod lists;
 mod namespaces;

@@ -4,6 +4,7 @@
 mod copies;
 mod counts;
 mod depths;
+pub mod laws;
 mod masks;
 mod names;
 mod objects;
