@@ -25,4 +25,3 @@ pub use mem_backend::MemBackend;
 pub use mem_blobs::MemBlobs;
 pub use mem_ingests::MemIngests;
 pub use traits::{BlobBackend, IngestBackend, SnapBackend};
-

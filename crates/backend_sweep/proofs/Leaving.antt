@@ -4,7 +4,7 @@ use Rattle.std.specs.Prelude.{cond, None}
 use Rattle.std.specs.FinMap as map
 use Rattle.backend_sweep.specs.Shards.{IsChild, has}
 use Rattle.back_model.specs.Snaps.{Snaps}
-use Rattle.backend_sweep.specs.Sweep.{Swept, Childfirst, Climbs, Sweeps, or_in, Leaves}
+use Rattle.backend_sweep.specs.Sweep.{Swept, Childfirst, Climbs, Sweeps, is_told, Leaves}
 use Rattle.backend_sweep.proofs.Listing.{or_cases, or_left, or_right, or_none, both_none, not_both, truth, splits, front_member}
 
 module _ (list : List ℕ) (m now : Snaps) (before after : ℕ) (r : Swept) (first : Childfirst list m) (s : Sweeps list m now before after r) where
@@ -25,7 +25,7 @@ module _ (list : List ℕ) (m now : Snaps) (before after : ℕ) (r : Swept) (fir
       let here = s.all q p some c.0 (down p ps n c.1 h) in
       reach p ps n (or_right (has r.failed p) (has r.kept p) here) c.1 h
 
-  in_list : (n : ℕ) → or_in r n ≡ true → has list n ≡ true
+  in_list : (n : ℕ) → is_told r n ≡ true → has list n ≡ true
   in_list n h = s.sorted n ∙ h
 
   not_removed : (n : ℕ) → (has r.failed n || has r.kept n) ≡ true → has r.removed n ≡ false

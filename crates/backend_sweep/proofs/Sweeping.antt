@@ -8,7 +8,7 @@ use Rattle.backend_sweep.specs.Shards.{IsHeld, IsChild, has}
 use Rattle.back_model.specs.Snaps.{Snaps, parent_of}
 use Rattle.backend_sweep.specs.declared.shard_swept.Removal.{Removal}
 use Rattle.backend_sweep.specs.declared.shard_swept.Removal.TheVariants as R
-use Rattle.backend_sweep.specs.Sweep.{Swept, Childfirst, IsAncestor, Sweeps, Tries, put_of, with_parent, or_in}
+use Rattle.backend_sweep.specs.Sweep.{Swept, Childfirst, IsAncestor, Sweeps, Tries, put_of, with_parent, is_told}
 use Rattle.backend_sweep.proofs.Listing.{or_cases, or_left, or_right, or_none, both_none, not_both, truth, has_push, push_cases, push_old, push_new, push_none, splits, front_member, has_at, swap3, swap_first, swap_last, climb_on, cmp_is, two_tests, order_grows, order_stays}
 use Rattle.backend_sweep.proofs.Blocking.{Tried, puts, put_is, Blocks, parent_old, parent_new, parent_cases, child_of, parent_is}
 
@@ -75,7 +75,7 @@ module _ (list done rest : List ℕ) (n : ℕ) (m0 m : Snaps) (f0 f : ℕ) (r : 
   pub children_left : (c : ℕ) → IsChild m n c → (has r.failed c || has r.kept c) ≡ true
   children_left c child =
       let then : has done c ≡ true = a.first.children done rest n c a.split (before c n child) in
-      let some : or_in r c ≡ true = sym (s.sorted c) ∙ then in
+      let some : is_told r c ≡ true = sym (s.sorted c) ∙ then in
       elim (or_cases (has r.removed c) (has r.failed c || has r.kept c) some) [ inl h ↦ absurd (gone c n child h) | inr h ↦ h ]
 
   -- what a removal tells of the children, said of the beginning

@@ -19,32 +19,33 @@ pub record Swept : Type 0 where
   pub parents : List ℕ
   pub room : ℕ
 
--- each snapshot of the list is held and stands once, after all its children, which are all in the list
+-- each snapshot of the list is held and stands once, after all its children, which are all in the list (containerd snapshots service: a parent isn't removed before its children)
 pub record Childfirst (list : List ℕ) (m : Snaps) : Type 0 where
   pub held : (n : ℕ) → has list n ≡ true → IsHeld m n
   pub once : (xs ys : List ℕ) (n : ℕ) → list ≡ xs ++ n ∷ ys → has xs n ≡ false
   pub children : (xs ys : List ℕ) (n c : ℕ) → list ≡ xs ++ n ∷ ys → IsChild m n c → has xs c ≡ true
 
--- a chain of parents from f through these numbers
+-- a chain of parents from f through these numbers (containerd snapshots service)
 abbrev pub Climbs : Snaps → ℕ → List ℕ → Type 0
 Climbs m f [] = Unit {0}
 Climbs m f (p ∷ ps) = IsChild m p f × Climbs m p ps
 
--- a is an ancestor of f
+-- a is an ancestor of f (containerd snapshots service)
 abbrev pub IsAncestor : Snaps → ℕ → ℕ → Type 0
 IsAncestor m a f = (ps : List ℕ) × Climbs m f (ps ++ a ∷ [])
 
-abbrev pub or_in : Swept → ℕ → Bool
-or_in r n = has r.removed n || (has r.failed n || has r.kept n)
+-- the number is told as removed, failed or kept (ours)
+abbrev pub is_told : Swept → ℕ → Bool
+is_told r n = has r.removed n || (has r.failed n || has r.kept n)
 
--- the members of the list that are these, in the list's order
+-- the members of the list that are these, in the list's order (ours)
 abbrev pub InOrder : List ℕ → List ℕ → Type 0
 InOrder list xs = xs ≡ filter (λ n. has xs n) list
 
--- what was swept of the list: removed but for those that the device failed and their ancestors
+-- what was swept of the list: all is removed but what the device failed and the ancestors of that, which are kept; each told once, in the list's order (ours)
 pub record Sweeps (list : List ℕ) (m now : Snaps) (before after : ℕ) (r : Swept) : Type 0 where
   pub contents : (n : ℕ) → map.get now n ≡ cond (has r.removed n) None (map.get m n)
-  pub sorted : (n : ℕ) → has list n ≡ or_in r n
+  pub sorted : (n : ℕ) → has list n ≡ is_told r n
   pub apart : (n : ℕ) → has r.removed n ≡ true → (has r.failed n ≡ false) × (has r.kept n ≡ false)
   pub tried : (n : ℕ) → has r.failed n ≡ true → has r.kept n ≡ false
   pub why : (n : ℕ) → has r.kept n ≡ true → (f : ℕ) × (has r.failed f ≡ true) × IsAncestor m n f
@@ -75,15 +76,15 @@ put_of s n parent R.Removed = record s { removed = s.removed ++ n ∷ []; room =
 put_of s n parent R.Failed = record s { failed = with_number s.failed n; parents = with_parent s.parents parent; room = s.room - 1 }
 put_of s n parent R.Kept = record s { kept = with_number s.kept n; parents = with_parent s.parents parent; room = s.room - 1 }
 
--- empty lists, with room for the whole list in each
+-- empty lists, with room for the whole list in each (ours)
 abbrev pub IsRoomFor : List ℕ → Swept → Type 0
 IsRoomFor list s = (s.removed ≡ []) × (s.failed ≡ []) × (s.kept ≡ []) × (s.parents ≡ []) × (length list ≤ s.room)
 
--- it is one of these, or an ancestor of one
+-- it is one of these, or an ancestor of one (ours)
 abbrev pub IsAtOrAbove : Snaps → List ℕ → ℕ → Type 0
 IsAtOrAbove m failed n = (has failed n ≡ true) ⊎ ((f : ℕ) × (has failed f ≡ true) × IsAncestor m n f)
 
--- of the list, just the failed ones and their ancestors stay; what isn't in the list stays as it was
+-- of the list, just the failed ones and their ancestors stay, and no failed one is an ancestor of another; what isn't in the list stays as it was (ours)
 pub record Leaves (list : List ℕ) (m now : Snaps) (failed : List ℕ) : Type 0 where
   pub stays : (n : ℕ) → has list n ≡ true → IsAtOrAbove m failed n → map.get now n ≡ map.get m n
   pub goes : (n : ℕ) → has list n ≡ true → ¬ (IsAtOrAbove m failed n) → map.get now n ≡ None

@@ -1,6 +1,5 @@
 pub mod PairLabels
 pub mod Refusals
-pub mod Reading
 pub mod Undone
 pub mod Numbers
 pub mod Quiet

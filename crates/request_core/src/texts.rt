@@ -109,8 +109,7 @@ pub(crate) fn read_image(
           labels = labels_of labels.now;
         }) }
 {
-    let ns = read_short_name(alloc, ns)?;
-    let name = read_name(alloc, name)?;
+    let (ns, name) = read_object(alloc, ns, name)?;
     let target = read_digest(alloc, target)?;
     let labels = read_labels(alloc, labels)?;
     Ok(ImageRow {
@@ -133,8 +132,7 @@ pub(crate) fn read_new_content(
         ∷ are_labels labels.now ∷ is_allowed_if is_name lease.now ∷ []))
         (ns.now, digest.now, labels_of labels.now, lease.now) }
 {
-    let ns = read_short_name(alloc, ns)?;
-    let digest = read_digest(alloc, digest)?;
+    let (ns, digest) = read_content(alloc, ns, digest)?;
     let labels = read_labels(alloc, labels)?;
     let lease = read_name_if(alloc, lease)?;
     Ok((ns, digest, labels, lease))
@@ -154,8 +152,7 @@ pub(crate) fn read_snap(
           name = name.now;
         }) }
 {
-    let ns = read_short_name(alloc, ns)?;
-    let snapshotter = read_short_name(alloc, snapshotter)?;
+    let (ns, snapshotter) = read_snapshotter(alloc, ns, snapshotter)?;
     let name = read_name(alloc, name)?;
     Ok(SnapKey {
         ns,
@@ -188,8 +185,7 @@ pub(crate) fn read_target(
     ensures { ReadsTexts result (all_of (is_short_name ns.now ∷ is_name name.now
         ∷ is_digest target.now ∷ [])) (ns.now, name.now, target.now) }
 {
-    let ns = read_short_name(alloc, ns)?;
-    let name = read_name(alloc, name)?;
+    let (ns, name) = read_object(alloc, ns, name)?;
     let target = read_digest(alloc, target)?;
     Ok((ns, name, target))
 }
@@ -204,8 +200,7 @@ pub(crate) fn read_lease(
     ensures { ReadsTexts result (all_of (is_short_name ns.now ∷ is_name id.now
         ∷ are_labels labels.now ∷ [])) (ns.now, id.now, labels_of labels.now) }
 {
-    let ns = read_short_name(alloc, ns)?;
-    let id = read_name(alloc, id)?;
+    let (ns, id) = read_object(alloc, ns, id)?;
     let labels = read_labels(alloc, labels)?;
     Ok((ns, id, labels))
 }
@@ -229,17 +224,10 @@ pub(crate) fn read_commit(
           lease.now,
         ) }
 {
-    let ns = read_short_name(alloc, ns)?;
-    let snapshotter = read_short_name(alloc, snapshotter)?;
-    let key = read_name(alloc, key)?;
+    let key = read_snap(alloc, ns, snapshotter, key)?;
     let name = read_name(alloc, name)?;
     let labels = read_labels(alloc, labels)?;
     let lease = read_name_if(alloc, lease)?;
-    let key = SnapKey {
-        ns,
-        snapshotter,
-        name: key,
-    };
     Ok((key, name, labels, lease))
 }
 
@@ -287,8 +275,7 @@ pub(crate) fn read_begin(
         ∷ is_allowed_if is_name lease.now ∷ []))
         (ns.now, name.now, own_end lease.now at.now, expected.now, lease.now) }
 {
-    let ns = read_short_name(alloc, ns)?;
-    let name = read_name(alloc, name)?;
+    let (ns, name) = read_object(alloc, ns, name)?;
     let Some(end) = read_end(at) else {
         return Err(Refusal::By(Fault::InvalidArgument));
     };
@@ -349,8 +336,7 @@ pub(crate) fn read_held(
         ∷ is_some (resource_of kind.now resource.now) ∷ []))
         (ns.now, id.now, resource_of kind.now resource.now) }
 {
-    let ns = read_short_name(alloc, ns)?;
-    let id = read_name(alloc, id)?;
+    let (ns, id) = read_object(alloc, ns, id)?;
     let resource = read_resource(alloc, kind, resource)?;
     Ok((ns, id, resource))
 }
@@ -385,8 +371,7 @@ pub(crate) fn read_container(
           labels = labels_of labels.now;
         }) }
 {
-    let ns = read_short_name(alloc, ns)?;
-    let name = read_name(alloc, name)?;
+    let (ns, name) = read_object(alloc, ns, name)?;
     let snapshot = match (snapshotter, key) {
         (Some(snapshotter), Some(key)) => {
             let snapshotter = read_short_name(alloc, snapshotter)?;
@@ -417,8 +402,7 @@ pub(crate) fn read_ingest_commit(
         ∷ is_digest digest.now ∷ are_labels labels.now ∷ is_allowed_if is_name lease.now ∷ []))
         (ns.now, name.now, digest.now, labels_of labels.now, lease.now) }
 {
-    let ns = read_short_name(alloc, ns)?;
-    let name = read_name(alloc, name)?;
+    let (ns, name) = read_object(alloc, ns, name)?;
     let digest = read_digest(alloc, digest)?;
     let labels = read_labels(alloc, labels)?;
     let lease = read_name_if(alloc, lease)?;
