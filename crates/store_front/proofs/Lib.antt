@@ -1,0 +1,4 @@
+pub mod SessionParts
+pub mod Each
+pub mod Growth
+pub mod Stepping
