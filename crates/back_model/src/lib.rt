@@ -26,5 +26,3 @@ pub use mem_blobs::MemBlobs;
 pub use mem_ingests::MemIngests;
 pub use traits::{BlobBackend, IngestBackend, SnapBackend};
 
-#[cfg(test)]
-mod tests;

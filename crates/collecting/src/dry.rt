@@ -8,9 +8,9 @@ ghost use Rattle.collecting.specs.Stores.{records_in, lists_in, store_in};
 
 use crate::checks::check;
 use crate::planning::plan_store;
-use crate::reporting::dry_of;
 use crate::reports::Reports;
 use back_model::{BackLists, Backends, BlobBackend, IngestBackend, SnapBackend};
+use backend_sweep::Swept;
 use gc_report::Report;
 use meta_types::{Fault, Instant};
 use request_core::Records;
@@ -18,6 +18,7 @@ use std::alloc::Global;
 use std::sync::Wait;
 use std::thread::Threads;
 use steal_mark::Gate;
+use sweep_report::report;
 
 /// What a collection of these records and lists would report.
 pub fn dry_report<R: Threads + Wait + Sync, G: Gate>(
@@ -37,7 +38,7 @@ pub fn dry_report<R: Threads + Wait + Sync, G: Gate>(
     }) at.0 report) }
 {
     let plan = plan_store(rt, alloc, records, back, at, workers, gate)?;
-    Ok(dry_of(alloc, plan))
+    Ok(report(plan, Swept::empty(alloc), true))
 }
 
 /// What a collection of this store would report. Nothing is swept.

@@ -5,7 +5,6 @@ mod checks;
 mod dry;
 mod planning;
 mod removal;
-mod reporting;
 mod reports;
 mod spare;
 mod whole;

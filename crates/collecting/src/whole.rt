@@ -63,5 +63,5 @@ pub fn collect<
     let list = Spare::of(alloc, &plan)?;
     let swept = sweep_shards(rt, alloc, backends, &plan, workers, sweep_gate)?;
     sweep(&mut records.tables, &mut records.leases, &plan.masks);
-    Ok(reports_of(plan, swept, log, list))
+    Ok(reports_of(alloc, plan, swept, log, list))
 }

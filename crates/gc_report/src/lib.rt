@@ -7,10 +7,6 @@ mod objects;
 mod report;
 mod rows;
 mod same;
-#[cfg(test)]
-mod tests;
-#[cfg(test)]
-mod tests_copies;
 
 pub use copies::copy_names;
 pub use objects::Objects;

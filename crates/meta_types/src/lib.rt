@@ -15,16 +15,6 @@ mod resource;
 mod rows;
 mod same;
 mod short_name;
-#[cfg(test)]
-mod tests;
-#[cfg(test)]
-mod tests_copies;
-#[cfg(test)]
-mod tests_equality;
-#[cfg(test)]
-mod tests_labels;
-#[cfg(test)]
-mod tests_rows;
 mod text;
 mod words;
 

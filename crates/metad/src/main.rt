@@ -11,6 +11,8 @@ mod script;
 mod serving;
 #[cfg(test)]
 mod tests;
+#[cfg(test)]
+mod tests_flush;
 mod writing;
 
 use args::{ArgFault, parse_args};

@@ -11,11 +11,5 @@ mod snapshots;
 mod span;
 mod table;
 mod tables;
-#[cfg(test)]
-mod tests;
-#[cfg(test)]
-mod tests_counts;
-#[cfg(test)]
-mod tests_snapshots;
 
 pub use tables::{Counts, Tables};

@@ -10,6 +10,7 @@ mod images;
 mod ingest_growth;
 mod ingests;
 mod labels;
+pub mod laws;
 mod leases;
 mod lists;
 mod namespaces;
@@ -17,10 +18,6 @@ mod refusal;
 mod snap_growth;
 mod snapshots;
 mod state;
-#[cfg(test)]
-mod tests;
-#[cfg(test)]
-mod tests_parts;
 mod texts;
 mod unfailing;
 

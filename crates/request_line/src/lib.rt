@@ -14,8 +14,6 @@ mod namespace_ops;
 mod op;
 mod ops;
 mod snapshot_ops;
-#[cfg(test)]
-mod tests;
 
 pub use asked::Asked;
 pub use line::read_line;

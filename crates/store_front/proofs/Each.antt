@@ -10,7 +10,7 @@ use Rattle.store_front.specs.Finish.{AreEach}
 abbrev count : ℕ → List Seat → ℕ
 count k seats = count_by (λ (s : Seat). s.number == k) seats
 
-abbrev with : ℕ → List Seat → List Seat
+abbrev pub with : ℕ → List Seat → List Seat
 with k seats = filter (λ (s : Seat). s.number == k) seats
 
 some_with : (k : ℕ) (seats : List Seat) (i : ℕ) (d : Seat) → i < length seats → (get_or seats i d).number ≡ k → 0 < length (with k seats)
@@ -41,7 +41,7 @@ none_with opened k (x ∷ xs) all above =
 pub none_above : (opened k : ℕ) (seats : List Seat) → All (λ (s : Seat). s.number < opened) seats → opened ≤ k → count k seats ≡ 0
 none_above opened k seats all above = sym (length-filter (λ (s : Seat). s.number == k) seats) ∙ none_with opened k seats all above
 
-nat_lt_true : (k opened : ℕ) → k < opened → nat_lt k opened ≡ true
+pub nat_lt_true : (k opened : ℕ) → k < opened → nat_lt k opened ≡ true
 nat_lt_true k opened h = grind (arith, nat_tests)
 
 nat_lt_false : (k opened : ℕ) → opened ≤ k → nat_lt k opened ≡ false

@@ -1,5 +1,5 @@
 -- What a cut and a finish refuse, and what they give.
-use Rattle.std.specs.Prelude.{ℕ, ◌≡◌, ◌<◌, ◌+◌, ◌==◌, List, [], ◌∷◌, count_by, length, slice_index_or, nat_lt, if◌then◌else◌, ⊤}
+use Rattle.std.specs.Prelude.{ℕ, zero, suc, ◌≡◌, ◌<◌, ◌+◌, ◌==◌, List, [], ◌∷◌, count_by, length, slice_index_or, nat_lt, if◌then◌else◌, ⊤}
 use Rattle.meta_types.specs.Rows.{State}
 use Rattle.meta_types.specs.Steps.{Entry, IsLegal}
 use Rattle.meta_types.specs.declared.fault.Fault.{Fault}
@@ -62,3 +62,17 @@ fresh s = record { number = s.number; list = [] }
 abbrev pub told_to : List Seat → ℕ
 told_to [] = 0
 told_to (s ∷ seats) = length s.list + told_to seats
+
+-- ---- while lists are emptied
+
+-- so many are emptied (ours)
+abbrev pub cleared : ℕ → List Seat → List Seat
+cleared zero seats = seats
+cleared (suc i) [] = []
+cleared (suc i) (s ∷ seats) = fresh s ∷ cleared i seats
+
+-- how many answers so many were told (ours)
+abbrev pub told_first : ℕ → List Seat → ℕ
+told_first zero seats = 0
+told_first (suc i) [] = 0
+told_first (suc i) (s ∷ seats) = length s.list + told_first i seats

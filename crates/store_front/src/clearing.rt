@@ -25,7 +25,8 @@ pub(crate) fn clear_all<L: Ledger>(
     ensures sessions { sessions.new ≡ map fresh sessions.old }
     ensures total { book.new.total + told_to sessions.old ≡ book.old.total }
 {
-    for session in sessions {
+    for i in 0..sessions.len() {
+        let session = &mut sessions[i];
         clear(alloc, book, session);
     }
 }

@@ -1,5 +1,5 @@
 //! What a request and a collection share: room for an entry, and the entry in both lists.
-ghost use Rattle.std.specs.Prelude.{◌≡◌, ◌≢◌, ◌⊎◌, ◌<◌, Ok, Err, None, OnOk, vec_len};
+ghost use Rattle.std.specs.Prelude.{◌≡◌, ◌≢◌, ◌⊎◌, ◌<◌, Ok, Err, None, OnOk, IsOk, vec_len};
 ghost use Rattle.std.specs.Vec.{vec_capacity};
 ghost use Rattle.meta_types.specs.Faults.{Refuses};
 ghost use Rattle.meta_types.specs.declared.fault.Fault.TheVariants.{OutOfMemory};
@@ -79,7 +79,8 @@ pub(crate) fn keep_reply<L: Ledger>(
     requires log_room { vec_len log.old < vec_capacity log.old }
     requires list_room { vec_len list.old < vec_capacity list.old }
     requires parts { 0 < share.old.parts }
-    ensures kept { (result ≡ outcome) ⊎ ((result ≡ Err OutOfMemory) × (outcome ≢ Ok P.Done)) }
+    ensures kept { (result ≡ outcome) ⊎ ((result ≡ Err OutOfMemory) × IsOk outcome
+        × (outcome ≢ Ok P.Done)) }
     ensures log { log.new.items ≡ log_after log.old.items number events (kept_reply result) }
     ensures list { list.new.items ≡ list_after list.old.items events (kept_reply result) }
     ensures total { book.old.total ≡ vec_len log.old → book.new.total ≡ vec_len log.new }

@@ -13,6 +13,7 @@ mod entries;
 mod events;
 mod keeping;
 mod locked;
+mod never;
 mod numbers;
 mod parting;
 mod plan_copy;

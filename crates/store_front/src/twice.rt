@@ -1,5 +1,5 @@
 //! Events and answers for the log, and the same for the session's list.
-ghost use Rattle.std.specs.Prelude.{◌≡◌, Ok, None, IfOk, IsOk};
+ghost use Rattle.std.specs.Prelude.{◌≡◌, Ok, None, IfOk, IsOk, IsErr};
 ghost use Rattle.meta_types.specs.Faults.{Refuses};
 ghost use Rattle.meta_types.specs.Steps.{requested, collect, remove_collect, reported, refused};
 ghost use Rattle.meta_types.specs.declared.reply.Reply.TheVariants as P;
@@ -97,6 +97,7 @@ impl Answers {
         ensures fault { Refuses result None }
         ensures ok { IfOk result (λ kept. kept ≡ kept_reply outcome.now) }
         ensures done { outcome.now ≡ Ok P.Done → IsOk result }
+        ensures refused { IsErr outcome.now → IsOk result }
     {
         match outcome {
             Ok(reply) => Ok(Some(Answers {

@@ -1,13 +1,12 @@
 use Rattle.std.proofs.Common.{◌≡◌, List, sym, subst, refl, length}
-use Rattle.meta_types.specs.Rows.{State}
+use Rattle.meta_types.specs.Rows.{Records, State}
 use Rattle.meta_types.specs.Reports.{Report, Collects}
 use Rattle.meta_types.proofs.SoundAfter.{a_collected_store_is_sound}
-use Rattle.backend_sweep.specs.Planned.{IsPlanOf}
+use Rattle.sweep_report.proofs.Wholes.{a_swept_plan_is_a_collection}
 use Rattle.backend_sweep.specs.Swept.{AllSwept, held_in}
 use Rattle.collecting.specs.Stores.{records_in, lists_in, store_in}
-use Rattle.table_sweep.specs.Stays.{Collection}
 use Rattle.collecting.proofs.Bridges.{swept_fails}
-use Rattle.collecting.proofs.Wholes.{left, fits, stays, collects, plan_by, rows_left}
+use Rattle.collecting.proofs.Wholes.{fits, stays, plan_by, rows_swept}
 use Rattle.collecting.proofs.whole.collect.Goals as goal
 
 -- the plan is one of a sound store
@@ -45,13 +44,12 @@ returns-clause-ok g c =
     let at = c.args.at.0 in
     let p = plan_by state.records (length state.records.tables.namespaces) (lists_in c.in_ok-lists.lists) state.backends at plan
     (λ i. record { blobs = c.in_ok-lists.ensures.blobs i; snapshots = c.in_ok-lists.ensures.snapshots i; ingests = c.in_ok-lists.ensures.ingests i }) c.in_ok-plan.ensures.ok in
-    let new = held_in c.sweep_shards.new.backends.shards (g.B.BlobBackend.contents c.sweep_shards.new.backends.blobs) (g.I.IngestBackend.contents c.sweep_shards.new.backends.ingests) in
-    let swept = c.in_ok-swept.ensures.ok (left state at plan p).tables p.plan_is.backend in
-    let of : Collection = record { records = state.records; at = at; reached = p.reached } in
-    let rows = rows_left state at plan p c.sweep.new.tables c.sweep.new.leases (c.sweep.ensures.tables of refl p.plan_is.masks) (c.sweep.ensures.leases of refl p.plan_is.masks) in
-    subst (λ (r : Report). Collects state at r.failed r (record { records = record { tables = c.sweep.new.tables; leases = c.sweep.new.leases; next = state.records.next; profile = state.records.profile }; backends = new }))
+    let back = held_in c.sweep_shards.new.backends.shards (g.B.BlobBackend.contents c.sweep_shards.new.backends.blobs) (g.I.IngestBackend.contents c.sweep_shards.new.backends.ingests) in
+    let records : Records = record { tables = c.sweep.new.tables; leases = c.sweep.new.leases; next = state.records.next; profile = state.records.profile } in
+    let rows = rows_swept state.records plan c.sweep.new.tables c.sweep.new.leases c.sweep.ensures.tables c.sweep.ensures.leases in
+    subst (λ (r : Report). Collects state at r.failed r (record { records = records; backends = back }))
     (sym c.reports_of.ensures)
-    (collects state at plan p new c.in_ok-swept.swept.removed c.in_ok-swept.swept.failed swept (record { tables = c.sweep.new.tables; leases = c.sweep.new.leases; next = state.records.next; profile = state.records.profile }) rows)
+    (a_swept_plan_is_a_collection state at plan c.in_ok-swept.swept records back p rows c.in_ok-swept.ensures.ok)
 
 -- what a collection leaves is sound
 pub returns-clause-sound : goal.returns-clause-sound
