@@ -73,10 +73,17 @@ impl<L: Ledger> Desk<L> {
         answer_line(&mut self.locked, rt, alloc, &mut self.session, line, self.workers)
     }
 
-    // Whether the history is long enough to be begun anew.
+    // Whether the history is long enough to be begun anew. It takes no memory.
     fn is_long(&self) -> bool {
         let entries = self.session.list().len();
-        HISTORY_LIMIT <= entries && self.locked.rows() <= entries as u128
+        if entries < HISTORY_LIMIT {
+            return false;
+        }
+        let counts = self.locked.records().tables.counts();
+        let objects = counts.images.saturating_add(counts.containers);
+        let stored = counts.content.saturating_add(counts.ingests);
+        let rows = objects.saturating_add(stored).saturating_add(counts.snapshots);
+        rows <= entries as u128
     }
 
     /// Begins the history anew where it is long, so that memory grows with the store and not with
