@@ -1,0 +1,15 @@
+//! Rows in the order in which they came, each found by its name in a hash table, and seen in the order of their keys.
+#![tactic(auto)]
+
+mod in_order;
+mod listing;
+mod named;
+mod places;
+mod row;
+mod table;
+
+pub use in_order::InOrder;
+pub use listing::in_key_order;
+pub use named::Named;
+pub use row::{Change, Row};
+pub use table::Table;
