@@ -1,11 +1,12 @@
 -- Marks by the order of keys, as marks by the places of the rows.
-use Rattle.std.proofs.Common.{◌≡◌, ℕ, ◌<◌, ◌≤◌, ◌+◌, suc, Bool, true, false, List, [], ◌∷◌, length, get_or, map, refl, sym, ap, ◌∙◌, subst, arith}
+use Rattle.std.proofs.Common.{◌≡◌, ℕ, ◌<◌, ◌≤◌, ◌+◌, zero, suc, Bool, true, false, List, [], ◌∷◌, length, get_or, map, refl, sym, ap, ◌∙◌, subst, arith}
 use Rattle.std.specs.Prelude.{All, Contains, filter, slice_index_or, if◌then◌else◌}
 use Rattle.std.specs.Cmp.{on_equiv}
 use Rattle.std.specs.List.{IsDistinct, AllByRecursion}
 use Rattle.std.specs.List.Sorted.{IsPermutation}
 use Rattle.std.proofs.lemmas.Grind.{get_or_default_zero}
 use Rattle.std.proofs.lemmas.List.{ext_get_or, get_or-map}
+use Rattle.std.proofs.lemmas.List.Elements.{All-head, All-tail, All-nil}
 use Rattle.std.proofs.lemmas.List.Sorted.{IsPermutation-map, All-permutation, Contains-permutation, length_permutation}
 use Rattle.indexmap.proofs.MapLemmas.{distinct_permutation}
 use Rattle.meta_types.specs.Keys.{Key, is_key}
@@ -18,6 +19,17 @@ length_kept [] xs = omega arith
 length_kept (m ∷ marks) [] = omega arith
 length_kept (true ∷ marks) (x ∷ xs) = let rest = length_kept marks xs in omega arith
 length_kept (false ∷ marks) (x ∷ xs) = let rest = length_kept marks xs in omega arith
+
+all_cons : {X : Type 0} (P : X → Type 0) (x : X) (xs : List X) → P x → All P xs → All P (x ∷ xs)
+all_cons P x xs p h zero d lt = p
+all_cons P x xs p h (suc k) d lt = h k d (omega arith)
+
+-- what holds of all holds of those that stay
+pub all_kept : {X : Type 0} (P : X → Type 0) (marks : List Bool) (xs : List X) → All P xs → All P (kept marks xs)
+all_kept P [] xs all = All-nil P
+all_kept P (m ∷ marks) [] all = All-nil P
+all_kept P (true ∷ marks) (x ∷ xs) all = all_cons P x (kept marks xs) (All-head P x xs all) (all_kept P marks xs (All-tail P x xs all))
+all_kept P (false ∷ marks) (x ∷ xs) all = all_kept P marks xs (All-tail P x xs all)
 
 none_kept : {X : Type 0} (marks : List Bool) → kept {Row = X} marks [] ≡ []
 none_kept [] = refl

@@ -1,9 +1,10 @@
 //! Rows, and what may be done to one in its place.
 ghost use Rattle.std.specs.Prelude.{◌≡◌, None, IfOk};
+ghost use Rattle.meta_types.specs.Text.{Text};
 ghost use Rattle.meta_types.specs.Faults.{Refuses};
 
 use crate::named::Named;
-use meta_types::Fault;
+use meta_types::{Fault, ShortName};
 use std::alloc::Global;
 
 /// A row that is found by a name of its own.
@@ -33,4 +34,19 @@ pub trait Change<K: Named, R: Row<K>, A>: Drop {
     /// The row is found by the name that it had.
     ghost keeps_name: { (c : Self) (old : R) (answer : A) (new : R) → changes c old answer new
         → R.name_of new ≡ R.name_of old };
+}
+
+/// A row of a namespace, found there by a name of its own.
+pub trait NamespaceRow<K: Named>: Row<K> {
+    /// Its namespace.
+    ghost ns_of: { Self → Text };
+
+    /// Its namespace.
+    fn ns(&self) -> &ShortName
+        ensures { result.now ≡ ns_of self.now };
+
+    /// The same row, whose namespace shares this text.
+    fn share_ns(&mut self, ns: ShortName)
+        requires { ns ≡ ns_of self.old }
+        ensures { self.new ≡ self.old };
 }
