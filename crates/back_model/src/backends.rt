@@ -22,7 +22,7 @@ use std::alloc::Global;
 /// One shard of snapshots a snapshotter, the blobs, and the objects of ingests.
 #[derive(Drop)]
 pub struct Backends<S: SnapBackend, B: BlobBackend, I: IngestBackend> {
-    shards: Shards<S>,
+    pub(crate) shards: Shards<S>,
     blobs: B,
     ingests: I,
 }

@@ -13,6 +13,7 @@ mod mem_blobs;
 mod mem_ingests;
 mod shards;
 mod traits;
+mod unfailing;
 
 pub use backends::Backends;
 pub use faults::{MakeFault, RemoveFault};
@@ -25,5 +26,3 @@ pub use mem_blobs::MemBlobs;
 pub use mem_ingests::MemIngests;
 pub use traits::{BlobBackend, IngestBackend, SnapBackend};
 
-#[cfg(test)]
-mod tests;

@@ -3,3 +3,4 @@ pub mod Targets
 pub mod Built
 pub mod Marked
 pub mod Stored
+pub mod Laws

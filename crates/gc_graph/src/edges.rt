@@ -140,6 +140,7 @@ pub(crate) fn push_flat_content(
         ≡ map (λ v. v.items) edges.old.items
         ++ map (λ row. targets_in book.now (content Flat row.now)) rows.now) }
 {
+    // The book is named by the clauses alone.
     let _book = book;
     for _row in rows {
         edges.push(Vec::new(alloc))?;

@@ -5,14 +5,13 @@ mod book;
 mod edges;
 mod ends;
 mod ignored;
+pub mod laws;
 mod node;
 mod nodes;
 mod parallel;
 mod refs;
 mod roots;
 mod rows;
-#[cfg(test)]
-mod tests;
 mod whole;
 
 pub use book::NodeBook;

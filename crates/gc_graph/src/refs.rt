@@ -46,6 +46,7 @@ fn push_content(
             push_number(book, probe, numbers)
         }
         Err(Fault::InvalidArgument) => {
+            // The book has no node of a text that isn't allowed.
             book.tell();
             Ok(())
         }
@@ -76,12 +77,14 @@ fn push_snapshot(
                 push_number(book, probe, numbers)
             }
             Err(Fault::InvalidArgument) => {
+                // The book has no node of a text that isn't allowed.
                 book.tell();
                 Ok(())
             }
             Err(fault) => Err(fault),
         },
         Err(Fault::InvalidArgument) => {
+            // The book has no node of a text that isn't allowed.
             book.tell();
             Ok(())
         }

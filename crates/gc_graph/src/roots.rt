@@ -196,6 +196,7 @@ fn push_lease_root(
     ensures ok { OnOk result (roots.new.items
         ≡ roots.old.items ++ root_targets profile at.0 book.now (lease row.now)) }
 {
+    // The profile is named by the clauses alone.
     let _profile = profile;
     if lease_stays(row, at) {
         push_resources(book, row.ns(), lease_mode(row), row.resources(), roots)

@@ -6,8 +6,6 @@ mod digits;
 mod ends;
 mod instants;
 mod keys;
-#[cfg(test)]
-mod tests;
 
 pub use ends::Expiry;
 pub use instants::read_instant;

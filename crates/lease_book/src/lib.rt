@@ -5,8 +5,6 @@ mod held;
 mod lease;
 mod leases;
 mod rows;
-#[cfg(test)]
-mod tests;
 
 pub use lease::Lease;
 pub use leases::Leases;

@@ -13,8 +13,6 @@ mod plain;
 mod replay_fault;
 mod state;
 mod steps;
-#[cfg(test)]
-mod tests;
 
 pub use event::MarkEvent;
 pub use graph::Graph;

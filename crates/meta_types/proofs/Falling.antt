@@ -1,4 +1,4 @@
--- Where numbers fall along parents, the ancestors of a snapshot are all there: the parent of an ancestor is one.
+-- Where numbers fall along parents, the ancestors of a snapshot are all there: the parent of an ancestor is one, and a child is deeper than its parent.
 use Rattle.std.proofs.Common.{◌≡◌, ℕ, zero, suc, ◌<◌, ◌≤◌, true, List, [], ◌∷◌, length, refl, sym, ap, ◌∙◌, arith, subst, inl, inr}
 use Rattle.std.specs.Prelude.{AllPairs, Contains, filter, find, nat_lt, Option, Some, None, IsTrue, option_and_then, bytes_eq, ◌&&◌}
 use Rattle.std.specs.Option.{option_map_or}
@@ -9,7 +9,7 @@ use Rattle.std.proofs.lemmas.Cmp.{nat_list_cmp_total}
 use Rattle.std.proofs.lemmas.Bool.{or_cases, and_parts, ltb-true, lt-ltb, false_from_ne_true}
 use Rattle.meta_types.specs.Text.{Text, text_cmp}
 use Rattle.meta_types.specs.Rows.{BackSnap}
-use Rattle.meta_types.specs.Backends.{is_named, ancestors, ancestors_of}
+use Rattle.meta_types.specs.Backends.{is_named, ancestors, ancestors_of, depth_of}
 use Rattle.meta_types.specs.Changes.{stands_before}
 use Rattle.meta_types.proofs.Members.{here, later, first_or_later, none_in_nothing}
 use Rattle.meta_types.proofs.Filtered.{all_stay}
@@ -111,9 +111,41 @@ module _ (shards : List BackSnap) where
           ])))
     ]
 
+    -- there are at most as many smaller ones as snapshots
+    short : (n : ℕ) (xs : List BackSnap) → length (filter (λ (snap : BackSnap). nat_lt snap.number n) xs) ≤ length xs
+    short n xs = (let h = no_more (λ (snap : BackSnap). nat_lt snap.number n) (λ (snap : BackSnap). true) (λ snap h. refl) xs in let e = ap (λ (l : List BackSnap). length l) (all_stay xs) in omega (arith, h, e))
+
     -- so among all ancestors
     pub all_ancestors : (snap x y : BackSnap) → Contains shards snap → Contains (ancestors_of shards snap) x → object_above shards x ≡ Some y → Contains (ancestors_of shards snap) y
-    all_ancestors snap x y c ca e = ancestors_closed (length shards) snap x y c (short shards) ca e
+    all_ancestors snap x y c ca e = ancestors_closed (length shards) snap x y c (short snap.number shards) ca e
+
+    -- one more is looked for in vain where there are no more
+    enough : (most : ℕ) (snap : BackSnap) → Contains shards snap → smaller snap.number ≤ most → ancestors (suc most) shards snap ≡ ancestors most shards snap
+    enough zero snap c few = elim (none_or_some (object_above shards snap)) [
+      | inl none ↦ ap (list_above zero) none
+      | inr some ↦ (
+          let less = fewer_below some.0 snap.number (above_there snap some.0 some.1) (falls snap some.0 c some.1) in
+          absurd (omega (arith, less, few)))
+    ]
+    enough (suc most) snap c few = elim (none_or_some (object_above shards snap)) [
+      | inl none ↦ ap (list_above (suc most)) none ∙ sym (ap (list_above most) none)
+      | inr some ↦ (
+          let there = above_there snap some.0 some.1 in
+          let less = fewer_below some.0 snap.number there (falls snap some.0 c some.1) in
+          ap (list_above (suc most)) some.1 ∙ ap (λ (l : List BackSnap). some.0 ∷ l) (enough most some.0 there (omega (arith, less, few))) ∙ sym (ap (list_above most) some.1))
+    ]
+
+    -- a child is deeper than its parent
+    pub deeper : (snap above : BackSnap) → Contains shards snap → object_above shards snap ≡ Some above → depth_of shards above < depth_of shards snap
+    deeper snap above c e = go (length shards) refl
       where
-        short : (xs : List BackSnap) → length (filter (λ (s : BackSnap). nat_lt s.number snap.number) xs) ≤ length xs
-        short xs = (let h = no_more (λ (s : BackSnap). nat_lt s.number snap.number) (λ (s : BackSnap). true) (λ s h. refl) xs in let e = ap (λ (l : List BackSnap). length l) (all_stay xs) in omega (arith, h, e))
+        go : (most : ℕ) → length shards ≡ most → depth_of shards above < depth_of shards snap
+        go zero is = absurd (omega (arith, c.1, is))
+        go (suc most) is =
+            let less = fewer_below above snap.number (above_there snap above e) (falls snap above c e) in
+            let all_short = short snap.number shards in
+            let this : ancestors_of shards snap ≡ above ∷ ancestors most shards above = ap (λ (k : ℕ). ancestors k shards snap) is ∙ ap (list_above most) e in
+            let that : ancestors_of shards above ≡ ancestors most shards above = ap (λ (k : ℕ). ancestors k shards above) is ∙ enough most above (above_there snap above e) (omega (arith, less, all_short, is)) in
+            let a = ap (λ (l : List BackSnap). length l) this in
+            let b = ap (λ (l : List BackSnap). length l) that in
+            omega (arith, a, b)

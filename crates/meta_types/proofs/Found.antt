@@ -91,10 +91,10 @@ all_left Q p xs each = All-weaker (Contains (filter p xs)) Q (λ x c. let both =
 
 module _ {X : Type 0} (R : X → X → Type 0) where
   -- the first is before all later ones, and these are in order
-  pairs_head : (x : X) (xs : List X) → AllPairs R (x ∷ xs) → All (R x) xs
+  pub pairs_head : (x : X) (xs : List X) → AllPairs R (x ∷ xs) → All (R x) xs
   pairs_head x xs h k d within = h zero (suc k) d (omega arith) (omega arith)
 
-  pairs_tail : (x : X) (xs : List X) → AllPairs R (x ∷ xs) → AllPairs R xs
+  pub pairs_tail : (x : X) (xs : List X) → AllPairs R (x ∷ xs) → AllPairs R xs
   pairs_tail x xs h i j d lt within = h (suc i) (suc j) d (omega arith) (omega arith)
 
   -- two of a list in order, neither before the other, are one

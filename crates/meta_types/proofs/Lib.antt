@@ -1,3 +1,5 @@
+pub mod Decided
+pub mod RowTests
 pub mod Members
 pub mod Places
 pub mod Ordered
@@ -25,3 +27,8 @@ pub mod ResourceReads
 pub mod Works
 pub mod WorkedScripts
 pub mod WorkedLaterScripts
+pub mod WorkedFailureScripts
+pub mod Sorted
+pub mod GoingOrder
+pub mod ObjectsPromised
+pub mod ChildrenFirst

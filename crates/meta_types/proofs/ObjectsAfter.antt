@@ -20,10 +20,10 @@ use Rattle.meta_types.proofs.TablesAfter.{same_parent, parent_left}
 use Rattle.meta_types.proofs.Falling.{one_object, object_above, ancestor_there, parent_is_ancestor, all_ancestors}
 
 -- a snapshot has its name
-has_name : (snapshotter : Text) (number : ℕ) (snap : BackSnap) → snap.snapshotter ≡ snapshotter → snap.number ≡ number → is_named (snapshotter, number) snap ≡ true
+pub has_name : (snapshotter : Text) (number : ℕ) (snap : BackSnap) → snap.snapshotter ≡ snapshotter → snap.number ≡ number → is_named (snapshotter, number) snap ≡ true
 has_name snapshotter number snap s n = and_from (bytes_eq snap.snapshotter snapshotter) (snap.number == number) ((bytes_eq-Decides snap.snapshotter snapshotter).1 s) ((Decides-eqb snap.number number).1 n)
 
-name_is : (snapshotter : Text) (number : ℕ) (snap : BackSnap) → is_named (snapshotter, number) snap ≡ true → (snap.snapshotter ≡ snapshotter) × (snap.number ≡ number)
+pub name_is : (snapshotter : Text) (number : ℕ) (snap : BackSnap) → is_named (snapshotter, number) snap ≡ true → (snap.snapshotter ≡ snapshotter) × (snap.number ≡ number)
 name_is snapshotter number snap h =
     let parts = and_parts (bytes_eq snap.snapshotter snapshotter) (snap.number == number) h in
     ((bytes_eq-Decides snap.snapshotter snapshotter).0 parts.0, (Decides-eqb snap.number number).0 parts.1)
@@ -72,7 +72,7 @@ module _ (state : State) (at : ℤ) (failed : BackNames) (reached : Thing → Bo
   -- ---- the parent of what stays
 
   -- the parent's number is smaller
-  falls : (snap above : BackSnap) → Contains shards snap → object_above shards snap ≡ Some above → above.number < snap.number
+  pub falls : (snap above : BackSnap) → Contains shards snap → object_above shards snap ≡ Some above → above.number < snap.number
   falls snap above c = go snap.parent (All-contains (λ (one : BackSnap). IfSome one.parent (λ number. IsTrue (list_any (is_named (one.snapshotter, number)) shards) × (number < one.number))) shards snap s.backed.back_parents c)
     where
       go : (o : Option ℕ) → IfSome o (λ number. IsTrue (list_any (is_named (snap.snapshotter, number)) shards) × (number < snap.number))
@@ -130,7 +130,7 @@ module _ (state : State) (at : ℤ) (failed : BackNames) (reached : Thing → Bo
         (any_from (is_named (object_name above)) (ancestors_of shards one.0) above ancestor (has_name above.snapshotter above.number above refl refl)))
 
     -- so the parent of what stays does, for whichever reason it stays
-    above_stays : stays snap ≡ true → stays above ≡ true
+    pub above_stays : stays snap ≡ true → stays above ≡ true
     above_stays h = elim (one_of_three (owns_snapshot tables snap) (is_failed snap) (is_below_one shards failed.snapshots snap) h) [
       | inl own ↦ first_of (owns_snapshot tables above) (is_failed above) (is_below_one shards failed.snapshots above) (above_owned own)
       | inr (inl fails) ↦ third_of (owns_snapshot tables above) (is_failed above) (is_below_one shards failed.snapshots above) (above_failed fails)

@@ -22,44 +22,44 @@ use Rattle.meta_types.proofs.Kept.{not_named, gone_and_named}
 
 -- ---- names are keys
 
-abbrev content_name : ContentRow → Text × Text
+abbrev pub content_name : ContentRow → Text × Text
 content_name row = (row.ns, row.digest)
 
-abbrev ingest_name : IngestRow → Text × Text
+abbrev pub ingest_name : IngestRow → Text × Text
 ingest_name row = (row.ns, row.name)
 
-abbrev snapshot_name : SnapRow → Text × Text × Text
+abbrev pub snapshot_name : SnapRow → Text × Text × Text
 snapshot_name row = (row.key.ns, row.key.snapshotter, row.key.name)
 
-content_names : (a b : ContentRow) → content_name a ≡ content_name b → content_key a ≡ content_key b
+pub content_names : (a b : ContentRow) → content_name a ≡ content_name b → content_key a ≡ content_key b
 content_names a b e = ap (λ (n : Text × Text). n.0 ∷ n.1 ∷ []) e
 
-ingest_names : (a b : IngestRow) → ingest_name a ≡ ingest_name b → ingest_key a ≡ ingest_key b
+pub ingest_names : (a b : IngestRow) → ingest_name a ≡ ingest_name b → ingest_key a ≡ ingest_key b
 ingest_names a b e = ap (λ (n : Text × Text). n.0 ∷ n.1 ∷ []) e
 
-snapshot_names : (a b : SnapRow) → snapshot_name a ≡ snapshot_name b → snap_key a ≡ snap_key b
+pub snapshot_names : (a b : SnapRow) → snapshot_name a ≡ snapshot_name b → snap_key a ≡ snap_key b
 snapshot_names a b e = ap (λ (n : Text × Text × Text). n.0 ∷ n.1 ∷ n.2 ∷ []) e
 
 -- ---- the test tells
 
 module _ (records : Records) (at : ℤ) (reached : Thing → Bool) (tells : TellsReached records at reached) where
   -- a row that a path leads to stays
-  reached_content : (mode : Mode) (row : ContentRow) → Contains records.tables.content row → IsReached records at (content mode row) → content_stays reached row ≡ true
+  pub reached_content : (mode : Mode) (row : ContentRow) → Contains records.tables.content row → IsReached records at (content mode row) → content_stays reached row ≡ true
   reached_content Full row c r = or_left (reached (content Full row)) (reached (content Flat row)) ((tells.each (content Full row) (full_in records row c)).1 r)
   reached_content Flat row c r = or_right (reached (content Full row)) (reached (content Flat row)) ((tells.each (content Flat row) (flat_in records row c)).1 r)
 
-  reached_snapshot : (mode : Mode) (row : SnapRow) → Contains records.tables.snapshots row → IsReached records at (snapshot mode row) → snapshot_stays reached row ≡ true
+  pub reached_snapshot : (mode : Mode) (row : SnapRow) → Contains records.tables.snapshots row → IsReached records at (snapshot mode row) → snapshot_stays reached row ≡ true
   reached_snapshot Full row c r = or_left (reached (snapshot Full row)) (reached (snapshot Flat row)) ((tells.each (snapshot Full row) (full_snap_in records row c)).1 r)
   reached_snapshot Flat row c r = or_right (reached (snapshot Full row)) (reached (snapshot Flat row)) ((tells.each (snapshot Flat row) (flat_snap_in records row c)).1 r)
 
   -- a row that no path leads to doesn't
-  not_told : (thing : Thing) → Contains (things records) thing → (IsReached records at thing → ⊥) → reached thing ≡ false
+  pub not_told : (thing : Thing) → Contains (things records) thing → (IsReached records at thing → ⊥) → reached thing ≡ false
   not_told thing c none = false_from_ne_true (reached thing) (λ yes. none ((tells.each thing c).0 yes))
 
-  unreached_content : (row : ContentRow) → Contains records.tables.content row → ((mode : Mode) → IsReached records at (content mode row) → ⊥) → content_stays reached row ≡ false
+  pub unreached_content : (row : ContentRow) → Contains records.tables.content row → ((mode : Mode) → IsReached records at (content mode row) → ⊥) → content_stays reached row ≡ false
   unreached_content row c none = rw (not_told (content Full row) (full_in records row c) (none Full), not_told (content Flat row) (flat_in records row c) (none Flat)) refl
 
-  unreached_snapshot : (row : SnapRow) → Contains records.tables.snapshots row → ((mode : Mode) → IsReached records at (snapshot mode row) → ⊥) → snapshot_stays reached row ≡ false
+  pub unreached_snapshot : (row : SnapRow) → Contains records.tables.snapshots row → ((mode : Mode) → IsReached records at (snapshot mode row) → ⊥) → snapshot_stays reached row ≡ false
   unreached_snapshot row c none = rw (not_told (snapshot Full row) (full_snap_in records row c) (none Full), not_told (snapshot Flat row) (flat_snap_in records row c) (none Flat)) refl
 
 -- ---- the two promises, of the store and the report that the definition computes

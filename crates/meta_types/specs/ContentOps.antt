@@ -7,8 +7,8 @@ use Rattle.meta_types.specs.Keys.{row_at, has_row, add_row, remove_row, change_r
 use Rattle.meta_types.specs.Labels.{labels_of, are_labels, put_label}
 use Rattle.meta_types.specs.Rows.{State, content_key, ingest_key}
 use Rattle.meta_types.specs.Limits.{is_out_of_numbers}
-use Rattle.meta_types.specs.Changes.{with_content, with_ingests, with_blob, with_ingest_object, holding, is_allowed_if}
-use Rattle.meta_types.specs.Outcomes.{Outcome, reads, changes, relabels, row_reply, names_in, lacks}
+use Rattle.meta_types.specs.Changes.{with_content, with_ingests, with_blob, with_ingest_object, holding, is_allowed_if, all_of}
+use Rattle.meta_types.specs.Outcomes.{Outcome, Findings, in_store, done, labelled, row_reply, names_in, lacks}
 use Rattle.meta_types.specs.declared.instant.Instant.{Instant}
 use Rattle.meta_types.specs.declared.resource.Resource.TheVariants.{Content, Ingest}
 use Rattle.meta_types.specs.declared.reply.Row.TheVariants as W
@@ -20,34 +20,52 @@ use Rattle.meta_types.specs.declared.reply.Reply.TheVariants as R
 abbrev pub adds_content : State → Text → Text → List (Text × Text) → Option Text → Outcome
 adds_content state ns digest labels lease =
     let rows = state.records.tables.content in
-    changes (is_short_name ns ∷ is_digest digest ∷ are_labels labels ∷ is_allowed_if is_name lease ∷ []) (lacks state ns lease) (has_row content_key (ns ∷ digest ∷ []) rows) false
-    (holding ns lease (Content digest) (with_blob digest (with_content state (add_row content_key (record { ns = ns; digest = digest; labels = labels_of labels }) rows))))
+    record (done state) {
+      invalid = not (all_of (is_short_name ns ∷ is_digest digest ∷ are_labels labels ∷ is_allowed_if is_name lease ∷ []));
+      missing = lacks state ns lease;
+      there = has_row content_key (ns ∷ digest ∷ []) rows;
+      after = holding ns lease (Content digest) (with_blob digest (with_content state (add_row content_key (record { ns = ns; digest = digest; labels = labels_of labels }) rows)));
+    }
 
 -- removes content from a namespace; its blob goes at a later collection (containerd content store, Delete)
 abbrev pub removes_content : State → Text → Text → Outcome
 removes_content state ns digest =
     let rows = state.records.tables.content in
-    changes (is_short_name ns ∷ is_digest digest ∷ []) (not (has_row content_key (ns ∷ digest ∷ []) rows)) false false
-    (with_content state (remove_row content_key (ns ∷ digest ∷ []) rows))
+    record (done state) {
+      invalid = not (all_of (is_short_name ns ∷ is_digest digest ∷ []));
+      missing = not (has_row content_key (ns ∷ digest ∷ []) rows);
+      after = with_content state (remove_row content_key (ns ∷ digest ∷ []) rows);
+    }
 
 -- shows content (containerd content store, Info)
 abbrev pub gets_content : State → Text → Text → Outcome
 gets_content state ns digest =
     let found = row_at content_key (ns ∷ digest ∷ []) state.records.tables.content in
-    reads state (is_short_name ns ∷ is_digest digest ∷ []) (is_none found) (row_reply W.Content found)
+    record (done state) {
+      invalid = not (all_of (is_short_name ns ∷ is_digest digest ∷ []));
+      missing = is_none found;
+      reply = row_reply W.Content found;
+    }
 
 -- puts one label on content (containerd content store, Update)
 abbrev pub labels_content : State → Text → Text → Text → Text → Outcome
 labels_content state ns digest key value =
     let rows = state.records.tables.content in
     let found = row_at content_key (ns ∷ digest ∷ []) rows in
-    relabels (is_short_name ns ∷ is_digest digest ∷ []) (λ row. row.labels) key value found
-    (with_content state (change_row content_key (ns ∷ digest ∷ []) (λ row. record row { labels = put_label key value row.labels }) rows))
+    record (done state) {
+      invalid = not (all_of (is_short_name ns ∷ is_digest digest ∷ [])) || not (all_of (labelled (λ row. row.labels) key value found));
+      missing = is_none found;
+      after = with_content state (change_row content_key (ns ∷ digest ∷ []) (λ row. record row { labels = put_label key value row.labels }) rows);
+    }
 
 -- the digests of a namespace's content (containerd content store, Walk)
 abbrev pub lists_content : State → Text → Outcome
 lists_content state ns =
-    reads state (is_short_name ns ∷ []) (lacks state ns None) (R.Names (names_in (λ row. row.ns) (λ row. row.digest) ns state.records.tables.content))
+    record (done state) {
+      invalid = not (all_of (is_short_name ns ∷ []));
+      missing = lacks state ns None;
+      reply = R.Names (names_in (λ row. row.ns) (λ row. row.digest) ns state.records.tables.content);
+    }
 
 -- ---- ingests
 
@@ -63,35 +81,63 @@ own_end lease at = if is_some lease then None else end_of at
 abbrev pub begins_ingest : State → Text → Text → Text → Option Text → Option Text → Outcome
 begins_ingest state ns name at expected lease =
     let rows = state.records.tables.ingests in
-    changes (is_short_name ns ∷ is_name name ∷ is_some (instant_of at) ∷ is_allowed_if is_digest expected ∷ is_allowed_if is_name lease ∷ [])
-    (lacks state ns lease) (has_row ingest_key (ns ∷ name ∷ []) rows) (is_out_of_numbers state)
-    (holding ns lease (Ingest name) (with_ingest_object (with_ingests state (add_row ingest_key (record { ns = ns; name = name; expected = expected; expires = own_end lease at; number = state.records.next }) rows))))
+    record (done state) {
+      invalid = not (all_of (is_short_name ns ∷ is_name name ∷ is_some (instant_of at) ∷ is_allowed_if is_digest expected ∷ is_allowed_if is_name lease ∷ []));
+      missing = lacks state ns lease;
+      there = has_row ingest_key (ns ∷ name ∷ []) rows;
+      forbidden = is_out_of_numbers state;
+      after = holding ns lease (Ingest name) (with_ingest_object (with_ingests state (add_row ingest_key (record { ns = ns; name = name; expected = expected; expires = own_end lease at; number = state.records.next }) rows)));
+    }
+
+-- what a commit of an ingest finds: the ingest, content of the digest in its namespace, and which digest it was begun for (containerd content-flow.md)
+abbrev pub ingest_commit_findings : State → Text → Text → Text → Option Text → Findings
+ingest_commit_findings state ns name digest lease =
+    let found = row_at ingest_key (ns ∷ name ∷ []) state.records.tables.ingests in
+    in_store state ns lease (record {
+      missing = is_none found;
+      there = has_row content_key (ns ∷ digest ∷ []) state.records.tables.content;
+      forbidden = option_map_or (λ row. option_map_or (λ other. not (bytes_eq other digest)) row.expected false) found false;
+    })
 
 -- commits an ingest as content, which isn't there yet and is the one expected; its backend object goes at a later collection (containerd content-flow.md)
 abbrev pub commits_ingest : State → Text → Text → Text → List (Text × Text) → Option Text → Outcome
 commits_ingest state ns name digest labels lease =
     let rows = state.records.tables.ingests in
-    let found = row_at ingest_key (ns ∷ name ∷ []) rows in
     let content = state.records.tables.content in
-    changes (is_short_name ns ∷ is_name name ∷ is_digest digest ∷ are_labels labels ∷ is_allowed_if is_name lease ∷ [])
-    (lacks state ns lease || is_none found) (has_row content_key (ns ∷ digest ∷ []) content)
-    (option_map_or (λ row. option_map_or (λ other. not (bytes_eq other digest)) row.expected false) found false)
-    (holding ns lease (Content digest) (with_blob digest (with_content (with_ingests state (remove_row ingest_key (ns ∷ name ∷ []) rows)) (add_row content_key (record { ns = ns; digest = digest; labels = labels_of labels }) content))))
+    let found = ingest_commit_findings state ns name digest lease in
+    record (done state) {
+      invalid = not (all_of (is_short_name ns ∷ is_name name ∷ is_digest digest ∷ are_labels labels ∷ is_allowed_if is_name lease ∷ []));
+      missing = found.missing;
+      there = found.there;
+      forbidden = found.forbidden;
+      after = holding ns lease (Content digest) (with_blob digest (with_content (with_ingests state (remove_row ingest_key (ns ∷ name ∷ []) rows)) (add_row content_key (record { ns = ns; digest = digest; labels = labels_of labels }) content)));
+    }
 
 -- aborts an ingest; its backend object goes at a later collection (containerd content-flow.md)
 abbrev pub aborts_ingest : State → Text → Text → Outcome
 aborts_ingest state ns name =
     let rows = state.records.tables.ingests in
-    changes (is_short_name ns ∷ is_name name ∷ []) (not (has_row ingest_key (ns ∷ name ∷ []) rows)) false false
-    (with_ingests state (remove_row ingest_key (ns ∷ name ∷ []) rows))
+    record (done state) {
+      invalid = not (all_of (is_short_name ns ∷ is_name name ∷ []));
+      missing = not (has_row ingest_key (ns ∷ name ∷ []) rows);
+      after = with_ingests state (remove_row ingest_key (ns ∷ name ∷ []) rows);
+    }
 
 -- shows an ingest (containerd content store, Status)
 abbrev pub gets_ingest : State → Text → Text → Outcome
 gets_ingest state ns name =
     let found = row_at ingest_key (ns ∷ name ∷ []) state.records.tables.ingests in
-    reads state (is_short_name ns ∷ is_name name ∷ []) (is_none found) (row_reply W.Ingest found)
+    record (done state) {
+      invalid = not (all_of (is_short_name ns ∷ is_name name ∷ []));
+      missing = is_none found;
+      reply = row_reply W.Ingest found;
+    }
 
 -- the names of a namespace's ingests (containerd content store, ListStatuses)
 abbrev pub lists_ingests : State → Text → Outcome
 lists_ingests state ns =
-    reads state (is_short_name ns ∷ []) (lacks state ns None) (R.Names (names_in (λ row. row.ns) (λ row. row.name) ns state.records.tables.ingests))
+    record (done state) {
+      invalid = not (all_of (is_short_name ns ∷ []));
+      missing = lacks state ns None;
+      reply = R.Names (names_in (λ row. row.ns) (λ row. row.name) ns state.records.tables.ingests);
+    }

@@ -1,11 +1,11 @@
 -- What requests on images and on containers do. The state is that before the request.
-use Rattle.std.specs.Prelude.{false, not, List, [], ◌∷◌, Option, None, if◌then◌else◌, is_some, is_none, option_map, option_and_then}
+use Rattle.std.specs.Prelude.{not, ◌||◌, List, [], ◌∷◌, Option, None, if◌then◌else◌, is_some, is_none, option_map, option_and_then}
 use Rattle.meta_types.specs.Text.{Text, is_short_name, is_name, is_digest}
 use Rattle.meta_types.specs.Keys.{row_at, has_row, add_row, remove_row, change_row}
 use Rattle.meta_types.specs.Labels.{labels_of, are_labels, put_label}
 use Rattle.meta_types.specs.Rows.{State, image_key, container_key}
-use Rattle.meta_types.specs.Changes.{with_images, with_containers, is_allowed_if}
-use Rattle.meta_types.specs.Outcomes.{Outcome, reads, changes, relabels, row_reply, names_in, lacks}
+use Rattle.meta_types.specs.Changes.{with_images, with_containers, is_allowed_if, all_of}
+use Rattle.meta_types.specs.Outcomes.{Outcome, done, labelled, row_reply, names_in, lacks}
 use Rattle.meta_types.specs.declared.reply.Row.TheVariants as W
 use Rattle.meta_types.specs.declared.reply.Reply.TheVariants as R
 
@@ -15,41 +15,62 @@ use Rattle.meta_types.specs.declared.reply.Reply.TheVariants as R
 abbrev pub adds_image : State → Text → Text → Text → List (Text × Text) → Outcome
 adds_image state ns name target labels =
     let rows = state.records.tables.images in
-    changes (is_short_name ns ∷ is_name name ∷ is_digest target ∷ are_labels labels ∷ []) (lacks state ns None) (has_row image_key (ns ∷ name ∷ []) rows) false
-    (with_images state (add_row image_key (record { ns = ns; name = name; target = target; labels = labels_of labels }) rows))
+    record (done state) {
+      invalid = not (all_of (is_short_name ns ∷ is_name name ∷ is_digest target ∷ are_labels labels ∷ []));
+      missing = lacks state ns None;
+      there = has_row image_key (ns ∷ name ∷ []) rows;
+      after = with_images state (add_row image_key (record { ns = ns; name = name; target = target; labels = labels_of labels }) rows);
+    }
 
 -- sets an image's target, and keeps its labels (containerd image store, Update)
 abbrev pub targets_image : State → Text → Text → Text → Outcome
 targets_image state ns name target =
     let rows = state.records.tables.images in
-    changes (is_short_name ns ∷ is_name name ∷ is_digest target ∷ []) (not (has_row image_key (ns ∷ name ∷ []) rows)) false false
-    (with_images state (change_row image_key (ns ∷ name ∷ []) (λ row. record row { target = target }) rows))
+    record (done state) {
+      invalid = not (all_of (is_short_name ns ∷ is_name name ∷ is_digest target ∷ []));
+      missing = not (has_row image_key (ns ∷ name ∷ []) rows);
+      after = with_images state (change_row image_key (ns ∷ name ∷ []) (λ row. record row { target = target }) rows);
+    }
 
 -- removes an image's row (containerd image store, Delete)
 abbrev pub removes_image : State → Text → Text → Outcome
 removes_image state ns name =
     let rows = state.records.tables.images in
-    changes (is_short_name ns ∷ is_name name ∷ []) (not (has_row image_key (ns ∷ name ∷ []) rows)) false false
-    (with_images state (remove_row image_key (ns ∷ name ∷ []) rows))
+    record (done state) {
+      invalid = not (all_of (is_short_name ns ∷ is_name name ∷ []));
+      missing = not (has_row image_key (ns ∷ name ∷ []) rows);
+      after = with_images state (remove_row image_key (ns ∷ name ∷ []) rows);
+    }
 
 -- shows an image (containerd image store, Get)
 abbrev pub gets_image : State → Text → Text → Outcome
 gets_image state ns name =
     let found = row_at image_key (ns ∷ name ∷ []) state.records.tables.images in
-    reads state (is_short_name ns ∷ is_name name ∷ []) (is_none found) (row_reply W.Image found)
+    record (done state) {
+      invalid = not (all_of (is_short_name ns ∷ is_name name ∷ []));
+      missing = is_none found;
+      reply = row_reply W.Image found;
+    }
 
 -- the names of a namespace's images (containerd image store, List)
 abbrev pub lists_images : State → Text → Outcome
 lists_images state ns =
-    reads state (is_short_name ns ∷ []) (lacks state ns None) (R.Names (names_in (λ row. row.ns) (λ row. row.name) ns state.records.tables.images))
+    record (done state) {
+      invalid = not (all_of (is_short_name ns ∷ []));
+      missing = lacks state ns None;
+      reply = R.Names (names_in (λ row. row.ns) (λ row. row.name) ns state.records.tables.images);
+    }
 
 -- puts one label on an image (containerd image store, Update)
 abbrev pub labels_image : State → Text → Text → Text → Text → Outcome
 labels_image state ns name key value =
     let rows = state.records.tables.images in
     let found = row_at image_key (ns ∷ name ∷ []) rows in
-    relabels (is_short_name ns ∷ is_name name ∷ []) (λ row. row.labels) key value found
-    (with_images state (change_row image_key (ns ∷ name ∷ []) (λ row. record row { labels = put_label key value row.labels }) rows))
+    record (done state) {
+      invalid = not (all_of (is_short_name ns ∷ is_name name ∷ [])) || not (all_of (labelled (λ row. row.labels) key value found));
+      missing = is_none found;
+      after = with_images state (change_row image_key (ns ∷ name ∷ []) (λ row. record row { labels = put_label key value row.labels }) rows);
+    }
 
 -- ---- containers
 
@@ -58,32 +79,49 @@ abbrev pub adds_container : State → Text → Text → Option Text → Option T
 adds_container state ns name snapshotter key labels =
     let rows = state.records.tables.containers in
     let snapshot : Option (Text × Text) = option_and_then (λ s. option_map (λ k. (s, k)) key) snapshotter in
-    changes (is_short_name ns ∷ is_name name ∷ is_allowed_if is_short_name snapshotter ∷ is_allowed_if is_name key ∷ (if is_some key then is_some snapshotter else is_none snapshotter) ∷ are_labels labels ∷ [])
-    (lacks state ns None) (has_row container_key (ns ∷ name ∷ []) rows) false
-    (with_containers state (add_row container_key (record { ns = ns; name = name; snapshot = snapshot; labels = labels_of labels }) rows))
+    record (done state) {
+      invalid = not (all_of (is_short_name ns ∷ is_name name ∷ is_allowed_if is_short_name snapshotter ∷ is_allowed_if is_name key ∷ (if is_some key then is_some snapshotter else is_none snapshotter) ∷ are_labels labels ∷ []));
+      missing = lacks state ns None;
+      there = has_row container_key (ns ∷ name ∷ []) rows;
+      after = with_containers state (add_row container_key (record { ns = ns; name = name; snapshot = snapshot; labels = labels_of labels }) rows);
+    }
 
 -- removes a container's row (containerd container store, Delete)
 abbrev pub removes_container : State → Text → Text → Outcome
 removes_container state ns name =
     let rows = state.records.tables.containers in
-    changes (is_short_name ns ∷ is_name name ∷ []) (not (has_row container_key (ns ∷ name ∷ []) rows)) false false
-    (with_containers state (remove_row container_key (ns ∷ name ∷ []) rows))
+    record (done state) {
+      invalid = not (all_of (is_short_name ns ∷ is_name name ∷ []));
+      missing = not (has_row container_key (ns ∷ name ∷ []) rows);
+      after = with_containers state (remove_row container_key (ns ∷ name ∷ []) rows);
+    }
 
 -- shows a container (containerd container store, Get)
 abbrev pub gets_container : State → Text → Text → Outcome
 gets_container state ns name =
     let found = row_at container_key (ns ∷ name ∷ []) state.records.tables.containers in
-    reads state (is_short_name ns ∷ is_name name ∷ []) (is_none found) (row_reply W.Container found)
+    record (done state) {
+      invalid = not (all_of (is_short_name ns ∷ is_name name ∷ []));
+      missing = is_none found;
+      reply = row_reply W.Container found;
+    }
 
 -- the names of a namespace's containers (containerd container store, List)
 abbrev pub lists_containers : State → Text → Outcome
 lists_containers state ns =
-    reads state (is_short_name ns ∷ []) (lacks state ns None) (R.Names (names_in (λ row. row.ns) (λ row. row.name) ns state.records.tables.containers))
+    record (done state) {
+      invalid = not (all_of (is_short_name ns ∷ []));
+      missing = lacks state ns None;
+      reply = R.Names (names_in (λ row. row.ns) (λ row. row.name) ns state.records.tables.containers);
+    }
 
 -- puts one label on a container (containerd container store, Update)
 abbrev pub labels_container : State → Text → Text → Text → Text → Outcome
 labels_container state ns name key value =
     let rows = state.records.tables.containers in
     let found = row_at container_key (ns ∷ name ∷ []) rows in
-    relabels (is_short_name ns ∷ is_name name ∷ []) (λ row. row.labels) key value found
-    (with_containers state (change_row container_key (ns ∷ name ∷ []) (λ row. record row { labels = put_label key value row.labels }) rows))
+    record (done state) {
+      invalid = not (all_of (is_short_name ns ∷ is_name name ∷ [])) || not (all_of (labelled (λ row. row.labels) key value found));
+      missing = is_none found;
+      after = with_containers state (change_row container_key (ns ∷ name ∷ []) (λ row. record row { labels = put_label key value row.labels }) rows);
+    }

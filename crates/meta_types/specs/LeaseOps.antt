@@ -1,13 +1,13 @@
 -- What requests on leases do. The state is that before the request.
-use Rattle.std.specs.Prelude.{false, not, List, [], ◌∷◌, None, is_some, is_none}
+use Rattle.std.specs.Prelude.{false, not, ◌||◌, List, [], ◌∷◌, None, is_some, is_none}
 use Rattle.std.specs.Option.{option_map_or}
 use Rattle.meta_types.specs.Text.{Text, is_short_name, is_name}
 use Rattle.meta_types.specs.Keys.{row_at, has_row, add_row, remove_row, change_row}
 use Rattle.meta_types.specs.Labels.{labels_of, are_labels, put_label}
 use Rattle.meta_types.specs.Resources.{resource_of}
 use Rattle.meta_types.specs.Rows.{State, lease_key}
-use Rattle.meta_types.specs.Changes.{with_leases, holds_in, hold_in, drop_in}
-use Rattle.meta_types.specs.Outcomes.{Outcome, reads, changes, relabels, row_reply, names_in, lacks}
+use Rattle.meta_types.specs.Changes.{with_leases, holds_in, hold_in, drop_in, all_of}
+use Rattle.meta_types.specs.Outcomes.{Outcome, done, labelled, row_reply, names_in, lacks}
 use Rattle.meta_types.specs.declared.reply.Row.TheVariants as W
 use Rattle.meta_types.specs.declared.reply.Reply.TheVariants as R
 
@@ -15,52 +15,79 @@ use Rattle.meta_types.specs.declared.reply.Reply.TheVariants as R
 abbrev pub adds_lease : State → Text → Text → List (Text × Text) → Outcome
 adds_lease state ns id labels =
     let rows = state.records.leases in
-    changes (is_short_name ns ∷ is_name id ∷ are_labels labels ∷ []) (lacks state ns None) (has_row lease_key (ns ∷ id ∷ []) rows) false
-    (with_leases state (add_row lease_key (record { ns = ns; id = id; labels = labels_of labels; resources = [] }) rows))
+    record (done state) {
+      invalid = not (all_of (is_short_name ns ∷ is_name id ∷ are_labels labels ∷ []));
+      missing = lacks state ns None;
+      there = has_row lease_key (ns ∷ id ∷ []) rows;
+      after = with_leases state (add_row lease_key (record { ns = ns; id = id; labels = labels_of labels; resources = [] }) rows);
+    }
 
 -- removes a lease with what it holds (containerd leases service, Delete)
 abbrev pub removes_lease : State → Text → Text → Outcome
 removes_lease state ns id =
     let rows = state.records.leases in
-    changes (is_short_name ns ∷ is_name id ∷ []) (not (has_row lease_key (ns ∷ id ∷ []) rows)) false false
-    (with_leases state (remove_row lease_key (ns ∷ id ∷ []) rows))
+    record (done state) {
+      invalid = not (all_of (is_short_name ns ∷ is_name id ∷ []));
+      missing = not (has_row lease_key (ns ∷ id ∷ []) rows);
+      after = with_leases state (remove_row lease_key (ns ∷ id ∷ []) rows);
+    }
 
 -- shows a lease, expired or not (containerd leases service; expired: ours)
 abbrev pub gets_lease : State → Text → Text → Outcome
 gets_lease state ns id =
     let found = row_at lease_key (ns ∷ id ∷ []) state.records.leases in
-    reads state (is_short_name ns ∷ is_name id ∷ []) (is_none found) (row_reply (λ row. W.Lease row.id row.labels) found)
+    record (done state) {
+      invalid = not (all_of (is_short_name ns ∷ is_name id ∷ []));
+      missing = is_none found;
+      reply = row_reply (λ row. W.Lease row.id row.labels) found;
+    }
 
 -- puts one label on a lease (ours)
 abbrev pub labels_lease : State → Text → Text → Text → Text → Outcome
 labels_lease state ns id key value =
     let rows = state.records.leases in
     let found = row_at lease_key (ns ∷ id ∷ []) rows in
-    relabels (is_short_name ns ∷ is_name id ∷ []) (λ row. row.labels) key value found
-    (with_leases state (change_row lease_key (ns ∷ id ∷ []) (λ row. record row { labels = put_label key value row.labels }) rows))
+    record (done state) {
+      invalid = not (all_of (is_short_name ns ∷ is_name id ∷ [])) || not (all_of (labelled (λ row. row.labels) key value found));
+      missing = is_none found;
+      after = with_leases state (change_row lease_key (ns ∷ id ∷ []) (λ row. record row { labels = put_label key value row.labels }) rows);
+    }
 
 -- the ids of a namespace's leases (containerd leases service, List)
 abbrev pub lists_leases : State → Text → Outcome
 lists_leases state ns =
-    reads state (is_short_name ns ∷ []) (lacks state ns None) (R.Names (names_in (λ row. row.ns) (λ row. row.id) ns state.records.leases))
+    record (done state) {
+      invalid = not (all_of (is_short_name ns ∷ []));
+      missing = lacks state ns None;
+      reply = R.Names (names_in (λ row. row.ns) (λ row. row.id) ns state.records.leases);
+    }
 
 -- gives a lease a resource, which needn't be there; held already, nothing changes (containerd leases service, AddResource)
 abbrev pub holds_resource : State → Text → Text → Text → Text → Outcome
 holds_resource state ns id kind text =
     let rows = state.records.leases in
-    changes (is_short_name ns ∷ is_name id ∷ is_some (resource_of kind text) ∷ []) (not (has_row lease_key (ns ∷ id ∷ []) rows)) false false
-    (with_leases state (option_map_or (λ resource. hold_in (ns ∷ id ∷ []) resource rows) (resource_of kind text) rows))
+    record (done state) {
+      invalid = not (all_of (is_short_name ns ∷ is_name id ∷ is_some (resource_of kind text) ∷ []));
+      missing = not (has_row lease_key (ns ∷ id ∷ []) rows);
+      after = with_leases state (option_map_or (λ resource. hold_in (ns ∷ id ∷ []) resource rows) (resource_of kind text) rows);
+    }
 
 -- takes a resource from a lease that holds it (containerd leases service, DeleteResource)
 abbrev pub drops_resource : State → Text → Text → Text → Text → Outcome
 drops_resource state ns id kind text =
     let rows = state.records.leases in
-    changes (is_short_name ns ∷ is_name id ∷ is_some (resource_of kind text) ∷ [])
-    (not (option_map_or (λ resource. holds_in (ns ∷ id ∷ []) resource rows) (resource_of kind text) false)) false false
-    (with_leases state (option_map_or (λ resource. drop_in (ns ∷ id ∷ []) resource rows) (resource_of kind text) rows))
+    record (done state) {
+      invalid = not (all_of (is_short_name ns ∷ is_name id ∷ is_some (resource_of kind text) ∷ []));
+      missing = not (option_map_or (λ resource. holds_in (ns ∷ id ∷ []) resource rows) (resource_of kind text) false);
+      after = with_leases state (option_map_or (λ resource. drop_in (ns ∷ id ∷ []) resource rows) (resource_of kind text) rows);
+    }
 
 -- what a lease holds, by types and ids (containerd leases service, ListResources)
 abbrev pub lists_resources : State → Text → Text → Outcome
 lists_resources state ns id =
     let found = row_at lease_key (ns ∷ id ∷ []) state.records.leases in
-    reads state (is_short_name ns ∷ is_name id ∷ []) (is_none found) (option_map_or (λ row. R.Resources row.resources) found R.Done)
+    record (done state) {
+      invalid = not (all_of (is_short_name ns ∷ is_name id ∷ []));
+      missing = is_none found;
+      reply = option_map_or (λ row. R.Resources row.resources) found R.Done;
+    }

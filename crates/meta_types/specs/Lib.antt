@@ -21,10 +21,12 @@ pub mod Requests
 pub mod Steps
 pub mod Sound
 pub mod Promises
+pub mod PromisedObjects
 pub mod Again
 pub mod Scripts
 pub mod WorkedTimes
 pub mod Worked
 pub mod WorkedObjects
 pub mod WorkedLater
+pub mod WorkedFailures
 pub mod Walks

@@ -3,25 +3,32 @@ use Rattle.std.specs.Prelude.{ℕ, Bool, true, false, not, ◌||◌, ◌&&◌, �
 use Rattle.meta_types.specs.Text.{Text, is_short_name}
 use Rattle.meta_types.specs.Keys.{add_row, remove_row}
 use Rattle.meta_types.specs.Rows.{Records, State, namespace_key}
-use Rattle.meta_types.specs.Changes.{has_namespace, is_in_use, has_lease_in, with_namespaces}
-use Rattle.meta_types.specs.Outcomes.{Outcome, reads, changes, lacks}
+use Rattle.meta_types.specs.Changes.{has_namespace, is_in_use, has_lease_in, with_namespaces, all_of}
+use Rattle.meta_types.specs.Outcomes.{Outcome, done, lacks}
 use Rattle.meta_types.specs.declared.reply.Reply.TheVariants as R
 
 -- adds a namespace (containerd namespaces service, Create)
 abbrev pub adds_namespace : State → Text → Outcome
 adds_namespace state ns =
-    changes (is_short_name ns ∷ []) false (has_namespace state.records.tables ns) false
-    (with_namespaces state (add_row namespace_key ns state.records.tables.namespaces))
+    record (done state) {
+      invalid = not (all_of (is_short_name ns ∷ []));
+      there = has_namespace state.records.tables ns;
+      after = with_namespaces state (add_row namespace_key ns state.records.tables.namespaces);
+    }
 
 -- removes a namespace that holds no object and no lease (containerd namespaces service, Delete)
 abbrev pub removes_namespace : State → Text → Outcome
 removes_namespace state ns =
-    changes (is_short_name ns ∷ []) (lacks state ns None) false (is_in_use state.records.tables ns || has_lease_in state.records.leases ns)
-    (with_namespaces state (remove_row namespace_key (ns ∷ []) state.records.tables.namespaces))
+    record (done state) {
+      invalid = not (all_of (is_short_name ns ∷ []));
+      missing = lacks state ns None;
+      forbidden = is_in_use state.records.tables ns || has_lease_in state.records.leases ns;
+      after = with_namespaces state (remove_row namespace_key (ns ∷ []) state.records.tables.namespaces);
+    }
 
 -- the namespaces, by their bytes (containerd namespaces service, List)
 abbrev pub lists_namespaces : State → Outcome
-lists_namespaces state = reads state [] false (R.Names state.records.tables.namespaces)
+lists_namespaces state = record (done state) { reply = R.Names state.records.tables.namespaces }
 
 -- no row of any kind is stored, and no backend number was used (ours)
 abbrev pub is_untouched : Records → Bool
@@ -35,5 +42,8 @@ is_untouched records = is_nothing records.tables.namespaces && is_nothing record
 -- chooses the profile, 1 or 2, while nothing is stored (ours)
 abbrev pub chooses_profile : State → ℕ → Outcome
 chooses_profile state v =
-    changes ((v == 1 || v == 2) ∷ []) false false (not (is_untouched state.records))
-    (record state { records = record state.records { profile = v } })
+    record (done state) {
+      invalid = not (all_of ((v == 1 || v == 2) ∷ []));
+      forbidden = not (is_untouched state.records);
+      after = record state { records = record state.records { profile = v } };
+    }

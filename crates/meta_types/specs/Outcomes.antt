@@ -1,11 +1,11 @@
 -- What a request may come to: which faults apply, and what comes where none does.
-use Rattle.std.specs.Prelude.{Bool, not, ◌||◌, false, true, List, [], ◌∷◌, map, Option, filter, bytes_eq, is_none}
+use Rattle.std.specs.Prelude.{Bool, not, ◌||◌, false, true, List, [], ◌∷◌, map, Option, filter, bytes_eq}
 use Rattle.std.specs.Option.{option_map_or}
 use Rattle.meta_types.specs.Text.{Text}
 use Rattle.meta_types.specs.Faults.{least_of}
 use Rattle.meta_types.specs.Labels.{LabelList, is_label, has_room}
 use Rattle.meta_types.specs.Rows.{State}
-use Rattle.meta_types.specs.Changes.{has_namespace, has_lease, all_of}
+use Rattle.meta_types.specs.Changes.{has_namespace, has_lease}
 use Rattle.meta_types.specs.declared.fault.Fault.{Fault}
 use Rattle.meta_types.specs.declared.reply.Row.{Row}
 use Rattle.meta_types.specs.declared.reply.Reply.{Reply}
@@ -24,13 +24,9 @@ pub record Outcome : Type 0 where
 abbrev pub least_fault : Outcome → Option Fault
 least_fault o = least_of o.invalid o.missing o.there o.forbidden
 
--- a request that reads: whether its texts are allowed, whether something is missing, the reply (ours)
-abbrev pub reads : State → List Bool → Bool → Reply → Outcome
-reads state allowed missing reply = record { invalid = not (all_of allowed); missing = missing; there = false; forbidden = false; reply = reply; after = state }
-
--- a request that changes the store and answers that it is done (ours)
-abbrev pub changes : List Bool → Bool → Bool → Bool → State → Outcome
-changes allowed missing there forbidden after = record { invalid = not (all_of allowed); missing = missing; there = there; forbidden = forbidden; reply = R.Done; after = after }
+-- a request that no fault refuses, that answers that it is done and changes nothing; each op says what is otherwise (ours)
+abbrev pub done : State → Outcome
+done state = record { invalid = false; missing = false; there = false; forbidden = false; reply = R.Done; after = state }
 
 -- the row that was asked for (ours)
 abbrev pub row_reply : {A : Type 0} → (A → Row) → Option A → Reply
@@ -48,7 +44,18 @@ lacks state ns lease = not (has_namespace state.records.tables ns) || option_map
 abbrev pub labelled : {A : Type 0} → (A → LabelList) → Text → Text → Option A → List Bool
 labelled labels_in key value found = is_label key value ∷ option_map_or (λ a. has_room key value (labels_in a)) found true ∷ []
 
--- a request that puts one label on a row (containerd, updates of labels)
-abbrev pub relabels : {A : Type 0} → List Bool → (A → LabelList) → Text → Text → Option A → State → Outcome
-relabels allowed labels_in key value found after =
-    record { invalid = not (all_of allowed) || not (all_of (labelled labels_in key value found)); missing = is_none found; there = false; forbidden = false; reply = R.Done; after = after }
+-- ---- what several calls find
+
+-- what a call finds whose texts are allowed: something named isn't there, is there already, or is forbidden (containerd's error classes)
+pub record Findings : Type 0 where
+  pub missing : Bool
+  pub there : Bool
+  pub forbidden : Bool
+
+-- the least of the faults that it finds is answered (ours)
+abbrev pub found_fault : Findings → Option Fault
+found_fault found = least_of false found.missing found.there found.forbidden
+
+-- the namespace or the lease that the request names may be missing too (containerd namespaces.md, leases service)
+abbrev pub in_store : State → Text → Option Text → Findings → Findings
+in_store state ns lease found = record found { missing = lacks state ns lease || found.missing }

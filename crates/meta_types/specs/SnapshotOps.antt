@@ -7,8 +7,8 @@ use Rattle.meta_types.specs.Keys.{row_at, has_row, add_row, remove_row, change_r
 use Rattle.meta_types.specs.Labels.{LabelList, labels_of, are_labels, put_label}
 use Rattle.meta_types.specs.Rows.{State, snap_key}
 use Rattle.meta_types.specs.Limits.{is_out_of_numbers}
-use Rattle.meta_types.specs.Changes.{with_snapshots, with_snapshot_object, holding, is_allowed_if}
-use Rattle.meta_types.specs.Outcomes.{Outcome, reads, changes, relabels, row_reply, lacks}
+use Rattle.meta_types.specs.Changes.{with_snapshots, with_snapshot_object, holding, is_allowed_if, all_of}
+use Rattle.meta_types.specs.Outcomes.{Outcome, Findings, in_store, done, labelled, row_reply, lacks}
 use Rattle.meta_types.specs.declared.rows.SnapRow.{SnapRow}
 use Rattle.meta_types.specs.declared.rows.SnapKind.{SnapKind}
 use Rattle.meta_types.specs.declared.rows.SnapKind.TheVariants.{Active, View, Committed}
@@ -32,17 +32,36 @@ is_active View = false
 abbrev pub parent_row : List SnapRow → Text → Text → Option Text → Option SnapRow
 parent_row rows ns snapshotter parent = option_and_then (λ name. row_at snap_key (ns ∷ snapshotter ∷ name ∷ []) rows) parent
 
+-- what a new snapshot finds among the rows: its parent, another of its key, and whether one may stand over the parent (containerd snapshots service, Prepare and View)
+abbrev pub new_snap_findings : Text → Text → Text → Option Text → List SnapRow → Findings
+new_snap_findings ns snapshotter key parent rows =
+    let above = parent_row rows ns snapshotter parent in
+    record {
+      missing = is_some parent && is_none above;
+      there = has_row snap_key (ns ∷ snapshotter ∷ key ∷ []) rows;
+      forbidden = option_map_or (λ row. not (is_committed row.kind)) above false;
+    }
+
+-- what a request for a new snapshot finds, which wants a backend number too (containerd snapshots service, Prepare and View)
+abbrev pub prepare_findings : State → Text → Text → Text → Option Text → Option Text → Findings
+prepare_findings state ns snapshotter key parent lease =
+    let found = in_store state ns lease (new_snap_findings ns snapshotter key parent state.records.tables.snapshots) in
+    record found { forbidden = found.forbidden || is_out_of_numbers state }
+
 -- makes a snapshot over a committed parent or none, under the next backend number (containerd snapshots service, Prepare and View)
 abbrev pub prepares : State → SnapKind → Text → Text → Text → Option Text → List (Text × Text) → Option Text → Outcome
 prepares state kind ns snapshotter key parent labels lease =
     let rows = state.records.tables.snapshots in
     let above = parent_row rows ns snapshotter parent in
     let new : SnapRow = record { key = record { ns = ns; snapshotter = snapshotter; name = key }; kind = kind; parent = parent; number = state.records.next; labels = labels_of labels } in
-    changes (is_short_name ns ∷ is_short_name snapshotter ∷ is_name key ∷ is_allowed_if is_name parent ∷ are_labels labels ∷ is_allowed_if is_name lease ∷ [])
-    (lacks state ns lease || is_some parent && is_none above)
-    (has_row snap_key (ns ∷ snapshotter ∷ key ∷ []) rows)
-    (option_map_or (λ row. not (is_committed row.kind)) above false || is_out_of_numbers state)
-    (holding ns lease (Snapshot snapshotter key) (with_snapshot_object snapshotter (option_map (λ row. row.number) above) (with_snapshots state (add_row snap_key new rows))))
+    let found = prepare_findings state ns snapshotter key parent lease in
+    record (done state) {
+      invalid = not (all_of (is_short_name ns ∷ is_short_name snapshotter ∷ is_name key ∷ is_allowed_if is_name parent ∷ are_labels labels ∷ is_allowed_if is_name lease ∷ []));
+      missing = found.missing;
+      there = found.there;
+      forbidden = found.forbidden;
+      after = holding ns lease (Snapshot snapshotter key) (with_snapshot_object snapshotter (option_map (λ row. row.number) above) (with_snapshots state (add_row snap_key new rows)));
+    }
 
 -- the rows with a key's row committed under a name, with its parent and number and with these labels (containerd snapshots service, Commit; the labels: ours)
 abbrev pub committed : Text → Text → Text → Text → LabelList → List SnapRow → List SnapRow
@@ -50,15 +69,28 @@ committed ns snapshotter key name labels rows =
     option_map_or (λ row. add_row snap_key (record row { key = record { ns = ns; snapshotter = snapshotter; name = name }; kind = Committed; labels = labels })
     (remove_row snap_key (ns ∷ snapshotter ∷ key ∷ []) rows)) (row_at snap_key (ns ∷ snapshotter ∷ key ∷ []) rows) rows
 
+-- what a commit finds among the rows: the key's row, another of the name, and whether the row is active (containerd snapshots service, Commit)
+abbrev pub commit_findings : Text → Text → Text → Text → List SnapRow → Findings
+commit_findings ns snapshotter key name rows =
+    let found = row_at snap_key (ns ∷ snapshotter ∷ key ∷ []) rows in
+    record {
+      missing = is_none found;
+      there = has_row snap_key (ns ∷ snapshotter ∷ name ∷ []) rows;
+      forbidden = option_map_or (λ row. not (is_active row.kind)) found false;
+    }
+
 -- commits an active snapshot under a name that no snapshot has, itself included (containerd snapshots service, Commit)
 abbrev pub commits_snapshot : State → Text → Text → Text → Text → List (Text × Text) → Option Text → Outcome
 commits_snapshot state ns snapshotter key name labels lease =
     let rows = state.records.tables.snapshots in
-    let found = row_at snap_key (ns ∷ snapshotter ∷ key ∷ []) rows in
-    changes (is_short_name ns ∷ is_short_name snapshotter ∷ is_name key ∷ is_name name ∷ are_labels labels ∷ is_allowed_if is_name lease ∷ [])
-    (lacks state ns lease || is_none found) (has_row snap_key (ns ∷ snapshotter ∷ name ∷ []) rows)
-    (option_map_or (λ row. not (is_active row.kind)) found false)
-    (holding ns lease (Snapshot snapshotter name) (with_snapshots state (committed ns snapshotter key name (labels_of labels) rows)))
+    let found = in_store state ns lease (commit_findings ns snapshotter key name rows) in
+    record (done state) {
+      invalid = not (all_of (is_short_name ns ∷ is_short_name snapshotter ∷ is_name key ∷ is_name name ∷ are_labels labels ∷ is_allowed_if is_name lease ∷ []));
+      missing = found.missing;
+      there = found.there;
+      forbidden = found.forbidden;
+      after = holding ns lease (Snapshot snapshotter name) (with_snapshots state (committed ns snapshotter key name (labels_of labels) rows));
+    }
 
 -- the snapshot's parent has this name, in this namespace and snapshotter (containerd snapshots service)
 abbrev pub is_child_of : Text → Text → Text → SnapRow → Bool
@@ -68,23 +100,33 @@ is_child_of ns snapshotter key row = bytes_eq ns row.key.ns && bytes_eq snapshot
 abbrev pub removes_snapshot : State → Text → Text → Text → Outcome
 removes_snapshot state ns snapshotter key =
     let rows = state.records.tables.snapshots in
-    changes (is_short_name ns ∷ is_short_name snapshotter ∷ is_name key ∷ []) (not (has_row snap_key (ns ∷ snapshotter ∷ key ∷ []) rows)) false
-    (list_any (is_child_of ns snapshotter key) rows)
-    (with_snapshots state (remove_row snap_key (ns ∷ snapshotter ∷ key ∷ []) rows))
+    record (done state) {
+      invalid = not (all_of (is_short_name ns ∷ is_short_name snapshotter ∷ is_name key ∷ []));
+      missing = not (has_row snap_key (ns ∷ snapshotter ∷ key ∷ []) rows);
+      forbidden = list_any (is_child_of ns snapshotter key) rows;
+      after = with_snapshots state (remove_row snap_key (ns ∷ snapshotter ∷ key ∷ []) rows);
+    }
 
 -- shows a snapshot (containerd snapshots service, Stat)
 abbrev pub gets_snapshot : State → Text → Text → Text → Outcome
 gets_snapshot state ns snapshotter key =
     let found = row_at snap_key (ns ∷ snapshotter ∷ key ∷ []) state.records.tables.snapshots in
-    reads state (is_short_name ns ∷ is_short_name snapshotter ∷ is_name key ∷ []) (is_none found) (row_reply W.Snap found)
+    record (done state) {
+      invalid = not (all_of (is_short_name ns ∷ is_short_name snapshotter ∷ is_name key ∷ []));
+      missing = is_none found;
+      reply = row_reply W.Snap found;
+    }
 
 -- puts one label on a snapshot (containerd snapshots service, Update)
 abbrev pub labels_snapshot : State → Text → Text → Text → Text → Text → Outcome
 labels_snapshot state ns snapshotter name key value =
     let rows = state.records.tables.snapshots in
     let found = row_at snap_key (ns ∷ snapshotter ∷ name ∷ []) rows in
-    relabels (is_short_name ns ∷ is_short_name snapshotter ∷ is_name name ∷ []) (λ row. row.labels) key value found
-    (with_snapshots state (change_row snap_key (ns ∷ snapshotter ∷ name ∷ []) (λ row. record row { labels = put_label key value row.labels }) rows))
+    record (done state) {
+      invalid = not (all_of (is_short_name ns ∷ is_short_name snapshotter ∷ is_name name ∷ [])) || not (all_of (labelled (λ row. row.labels) key value found));
+      missing = is_none found;
+      after = with_snapshots state (change_row snap_key (ns ∷ snapshotter ∷ name ∷ []) (λ row. record row { labels = put_label key value row.labels }) rows);
+    }
 
 -- the names of a snapshotter's snapshots in a namespace (containerd snapshots service, List)
 abbrev pub snapshots_in : Text → Text → List SnapRow → List Text
@@ -93,4 +135,8 @@ snapshots_in ns snapshotter rows = map (λ row. row.key.name) (filter (λ row. b
 -- lists them; a snapshotter that nobody used has none (containerd snapshots service, List)
 abbrev pub lists_snapshots : State → Text → Text → Outcome
 lists_snapshots state ns snapshotter =
-    reads state (is_short_name ns ∷ is_short_name snapshotter ∷ []) (lacks state ns None) (R.Names (snapshots_in ns snapshotter state.records.tables.snapshots))
+    record (done state) {
+      invalid = not (all_of (is_short_name ns ∷ is_short_name snapshotter ∷ []));
+      missing = lacks state ns None;
+      reply = R.Names (snapshots_in ns snapshotter state.records.tables.snapshots);
+    }

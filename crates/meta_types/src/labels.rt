@@ -1,5 +1,8 @@
 //! Labels of an object.
-ghost use Rattle.std.specs.Prelude.{◌≡◌, ◌≤◌, ◌<◌, ◌==◌, ◌||◌, ◌∷◌, [], Some, None, bytes_eq, nat_lt, vec_len, position, length, is_ok, slice_set, slice_index_or, option_map, string_bytes, IfOk, IfErr, OnOk, OnErr, IsTrue};
+ghost use Rattle.std.specs.Prelude.{◌≡◌, ◌≤◌, ◌<◌, ◌==◌, ◌||◌, ◌&&◌, ◌∷◌, [], Some, None, bytes_eq, nat_lt, vec_len, position, length, is_ok, slice_set, slice_index_or, option_map, string_bytes, IfOk, IfErr, OnOk, OnErr, IsTrue};
+ghost use Rattle.std.specs.Cmp.{partial_equiv_from_equiv};
+ghost use Rattle.std.specs.Cmp.Lexicographic.{pointwise};
+ghost use Rattle.std.proofs.lemmas.Cmp.{nat_list_eq_equiv, on_equiv, and_equiv, lists_equiv};
 ghost use Rattle.std.specs.List.{position_or_len, insert, remove};
 ghost use Rattle.std.specs.Slice.Iter.{iter_rest};
 ghost use Rattle.meta_types.specs.Text.{texts_of, text_cmp};
@@ -36,6 +39,16 @@ impl Model for Labels {
     ghost view = { λ l. texts_of l.entries.items };
 
     ghost invariant = { λ l. AreStored (texts_of l.entries.items) };
+}
+
+impl PartialEq for Labels {
+    ghost eq = { λ a b. pointwise (λ x y. bytes_eq x.0 y.0 && bytes_eq x.1 y.1) a b };
+
+    ghost laws = { partial_equiv_from_equiv (lists_equiv (and_equiv (on_equiv (λ x. x.0) nat_list_eq_equiv) (on_equiv (λ x. x.1) nat_list_eq_equiv))) };
+
+    fn eq(&self, other: &Labels) -> bool {
+        self.entries == other.entries
+    }
 }
 
 impl Labels {

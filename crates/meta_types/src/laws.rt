@@ -1,11 +1,13 @@
 //! Laws of the definitions, each as the contract of a function that does nothing. They say what
 //! every collection promises, and compute worked examples; nothing else forces them.
 ghost use Rattle.meta_types.specs.Promises.{SomeTestTells, ACollectionHasOneOutcome, ADryRunHasOneReport, NothingReachedIsRemoved, WhatIsNotReachedIsRemoved};
+ghost use Rattle.meta_types.specs.PromisedObjects.{OwnedObjectsStay, UnownedObjectsGo, RemovedSnapshotsAreChildfirst, PlannedSnapshotsAreChildfirst};
 ghost use Rattle.meta_types.specs.Again.{ASecondCollectionChangesNothing, ACollectedStoreIsSound};
 ghost use Rattle.meta_types.specs.WorkedTimes.{TimesAreRead, OthersAreNoTimes};
 ghost use Rattle.meta_types.specs.Worked.{AnImageKeepsItsContent, ACycleGoes, ACycleUnderAnImageStays, BothModesAreScanned, AFlatLeaseFollowsNoLabels, ALeaseHoldsAtItsExpiry, AnExpiredLeaseGoes};
 ghost use Rattle.meta_types.specs.WorkedObjects.{AFlatLeaseKeepsParents, ChildrenGoBeforeParents, AnIngestHoldsForADay, AnIngestGoesAfterADay, OnlyReferenceKeysReference, ContainersAndRootLabelsHold};
 ghost use Rattle.meta_types.specs.WorkedLater.{AnEmptyStoreIsCollected, AnImageHoldsAtItsExpiry, AnExpiredImageGoes, ALeaseGoesWithACollection};
+ghost use Rattle.meta_types.specs.WorkedFailures.{TheFirstRemovalFails, TheSecondRemovalFails, TheThirdRemovalFails, TheLastRemovalFails, ALaterCollectionRemovesTheRest};
 
 /// A collection is always defined, and what it reports and leaves is one; so of a dry run.
 pub fn collections_have_one_outcome()
@@ -23,6 +25,19 @@ pub fn nothing_reached_is_removed()
 /// What none of these leads to is removed.
 pub fn what_is_not_reached_is_removed()
     ensures { WhatIsNotReachedIsRemoved }
+{}
+
+/// Backend snapshots and the objects of ingests stay while a row that remains owns them, and go
+/// where none does, failures and what is above them apart.
+pub fn objects_stay_with_their_owners()
+    ensures owned_objects_stay { OwnedObjectsStay }
+    ensures unowned_objects_go { UnownedObjectsGo }
+{}
+
+/// A report names no parent before its child, and with a parent all its children.
+pub fn reports_name_children_first()
+    ensures removed_snapshots_are_childfirst { RemovedSnapshotsAreChildfirst }
+    ensures planned_snapshots_are_childfirst { PlannedSnapshotsAreChildfirst }
 {}
 
 /// A second collection at the same moment removes nothing more, and keeps what the first kept.
@@ -80,4 +95,13 @@ pub fn images_expire_in_profile_two()
 /// A removal with a collection is one event.
 pub fn a_lease_goes_with_a_collection()
     ensures { ALeaseGoesWithACollection }
+{}
+
+/// A chain of snapshots that nothing holds, over a device that passes so many calls and fails one.
+pub fn a_failed_removal_keeps_what_is_above()
+    ensures the_first_removal_fails { TheFirstRemovalFails }
+    ensures the_second_removal_fails { TheSecondRemovalFails }
+    ensures the_third_removal_fails { TheThirdRemovalFails }
+    ensures the_last_removal_fails { TheLastRemovalFails }
+    ensures a_later_collection_removes_the_rest { ALaterCollectionRemovesTheRest }
 {}

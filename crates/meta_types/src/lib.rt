@@ -13,15 +13,8 @@ mod reply;
 mod request;
 mod resource;
 mod rows;
+mod same;
 mod short_name;
-#[cfg(test)]
-mod tests;
-#[cfg(test)]
-mod tests_copies;
-#[cfg(test)]
-mod tests_labels;
-#[cfg(test)]
-mod tests_rows;
 mod text;
 mod words;
 

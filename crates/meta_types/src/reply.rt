@@ -1,5 +1,8 @@
 //! What requests answer.
-ghost use Rattle.std.specs.Prelude.{◌≡◌, ◌++◌, ◌∷◌, [], map, None, OnOk, OnErr, IfOk};
+ghost use Rattle.std.specs.Prelude.{◌≡◌, ◌++◌, ◌∷◌, [], map, None, OnOk, OnErr, IfOk, bytes_eq};
+ghost use Rattle.std.specs.Cmp.{partial_equiv_from_equiv};
+ghost use Rattle.std.specs.Cmp.Lexicographic.{pointwise};
+ghost use Rattle.std.proofs.lemmas.Cmp.{nat_list_eq_equiv, lists_equiv};
 ghost use Rattle.std.specs.Arc.{arc_str_bytes};
 ghost use Rattle.meta_types.specs.Faults.{Refuses};
 
@@ -27,6 +30,16 @@ impl Model for Listing {
     ghost Value = { List (List ℕ) };
 
     ghost view = { λ l. map arc_str_bytes l.names.items };
+}
+
+impl PartialEq for Listing {
+    ghost eq = { λ a b. pointwise (λ x y. bytes_eq x y) a b };
+
+    ghost laws = { partial_equiv_from_equiv (lists_equiv nat_list_eq_equiv) };
+
+    fn eq(&self, other: &Listing) -> bool {
+        self.names == other.names
+    }
 }
 
 impl Listing {
@@ -148,7 +161,7 @@ fn copies_of(alloc: Global, resources: &[Resource]) -> Result<Vec<Resource>, Fau
 }
 
 /// A row that was asked for; of a lease its id and its labels.
-#[derive(Drop)]
+#[derive(PartialEq, Drop)]
 pub enum Row {
     Image(ImageRow),
     Container(ContainerRow),

@@ -2,7 +2,7 @@
 use crate::words::{Pairs, Words};
 
 /// What a client asks for, but a collection.
-#[derive(Drop)]
+#[derive(PartialEq, Drop)]
 pub enum Request {
     NsAdd {
         ns: Words,
@@ -201,7 +201,7 @@ pub enum Request {
 }
 
 /// A removal that is done with a collection, as one event.
-#[derive(Drop)]
+#[derive(PartialEq, Drop)]
 pub enum Removal {
     Image { ns: Words, name: Words },
     Lease { ns: Words, id: Words },

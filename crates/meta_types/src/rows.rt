@@ -11,7 +11,7 @@ use crate::short_name::ShortName;
 use std::alloc::Global;
 
 /// An image: a name for the content that it runs from (containerd image store).
-#[derive(Drop)]
+#[derive(PartialEq, Drop)]
 pub struct ImageRow {
     pub ns: ShortName,
     pub name: Name,
@@ -39,7 +39,7 @@ impl ImageRow {
 }
 
 /// A container, with the snapshot that it runs on, if any (containerd container store).
-#[derive(Drop)]
+#[derive(PartialEq, Drop)]
 pub struct ContainerRow {
     pub ns: ShortName,
     pub name: Name,
@@ -70,7 +70,7 @@ impl ContainerRow {
 }
 
 /// A blob as one namespace sees it: the blob itself is kept once (containerd content-flow.md).
-#[derive(Drop)]
+#[derive(PartialEq, Drop)]
 pub struct ContentRow {
     pub ns: ShortName,
     pub digest: Digest,
@@ -92,7 +92,7 @@ impl ContentRow {
 
 /// Content that is being written (containerd content-flow.md, ingests). `expires` is its own end,
 /// which one that was begun under a lease doesn't have; `number` names it in the backend.
-#[derive(Drop)]
+#[derive(PartialEq, Drop)]
 pub struct IngestRow {
     pub ns: ShortName,
     pub name: Name,
@@ -124,7 +124,7 @@ impl IngestRow {
 }
 
 /// Which snapshot: its namespace, its snapshotter and its name there.
-#[derive(Drop)]
+#[derive(PartialEq, Drop)]
 pub struct SnapKey {
     pub ns: ShortName,
     pub snapshotter: ShortName,
@@ -158,7 +158,7 @@ pub enum SnapKind {
 
 /// A snapshot. `parent` is a name of the same namespace and snapshotter; `number` names it in the
 /// backend.
-#[derive(Drop)]
+#[derive(PartialEq, Drop)]
 pub struct SnapRow {
     pub key: SnapKey,
     pub kind: SnapKind,

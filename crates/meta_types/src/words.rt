@@ -1,5 +1,8 @@
 //! Texts of a request, as they came.
-ghost use Rattle.std.specs.Prelude.{◌≡◌, None, IfOk, string_bytes};
+ghost use Rattle.std.specs.Prelude.{◌≡◌, ◌&&◌, None, IfOk, string_bytes, bytes_eq};
+ghost use Rattle.std.specs.Cmp.Lexicographic.{pointwise};
+ghost use Rattle.std.specs.Cmp.{partial_equiv_from_equiv};
+ghost use Rattle.std.proofs.lemmas.Cmp.{nat_list_eq_equiv, on_equiv, and_equiv, lists_equiv};
 ghost use Rattle.meta_types.specs.Text.{texts_of};
 ghost use Rattle.meta_types.specs.Faults.{Refuses};
 
@@ -19,6 +22,16 @@ impl Model for Words {
     ghost Value = { List ℕ };
 
     ghost view = { λ w. string_bytes w.text };
+}
+
+impl PartialEq for Words {
+    ghost eq = { λ a b. bytes_eq a b };
+
+    ghost laws = { partial_equiv_from_equiv nat_list_eq_equiv };
+
+    fn eq(&self, other: &Words) -> bool {
+        self.text() == other.text()
+    }
 }
 
 impl Words {
@@ -60,6 +73,16 @@ impl Model for Pairs {
     ghost use Rattle.meta_types.specs.Text.{texts_of};
 
     ghost view = { λ l. texts_of l.entries.items };
+}
+
+impl PartialEq for Pairs {
+    ghost eq = { λ a b. pointwise (λ x y. bytes_eq x.0 y.0 && bytes_eq x.1 y.1) a b };
+
+    ghost laws = { partial_equiv_from_equiv (lists_equiv (and_equiv (on_equiv (λ x. x.0) nat_list_eq_equiv) (on_equiv (λ x. x.1) nat_list_eq_equiv))) };
+
+    fn eq(&self, other: &Pairs) -> bool {
+        self.entries == other.entries
+    }
 }
 
 impl Pairs {

@@ -14,6 +14,8 @@ mod serving;
 mod store;
 #[cfg(test)]
 mod tests;
+#[cfg(test)]
+mod tests_flush;
 mod writing;
 
 use args::{ArgFault, parse_args};

@@ -11,9 +11,5 @@ mod snapshots;
 mod span;
 mod table;
 mod tables;
-#[cfg(test)]
-mod tests;
-#[cfg(test)]
-mod tests_snapshots;
 
 pub use tables::{Counts, Tables};

@@ -125,6 +125,13 @@ impl Tables {
         }
     }
 
+    /// How many namespaces there are. It takes no memory.
+    pub fn count_ns(&self) -> u64
+        ensures { result ≡ length self.now.namespaces }
+    {
+        self.namespaces.len() as u64
+    }
+
     /// Whether the namespace is there. Each caller learns here what the tables keep of themselves.
     pub fn has_ns(&self, ns: &ShortName) -> bool
         ensures there { result ≡ has_namespace self.now ns.now }

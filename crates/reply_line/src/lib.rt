@@ -5,8 +5,6 @@ mod answer;
 mod parts;
 mod reply;
 mod rows;
-#[cfg(test)]
-mod tests;
 
 pub use answer::Answer;
 pub use reply::reply_text;

@@ -20,3 +20,4 @@ pub mod PreparesSound
 pub mod RequestsSound
 pub mod Prepared
 pub mod NextNumber
+pub mod HistoriesSound

@@ -1,12 +1,12 @@
 -- A refusal of a layer below is the request's own.
 use Rattle.std.proofs.Common.{◌≡◌, Bool, true, false, not, List, Option, refl}
-use Rattle.std.specs.Prelude.{Result, Err, is_none}
+use Rattle.std.specs.Prelude.{Result, Err, is_none, ◌||◌}
 use Rattle.meta_types.specs.Text.{Text}
 use Rattle.meta_types.specs.Labels.{LabelList}
 use Rattle.meta_types.specs.Rows.{State}
 use Rattle.meta_types.specs.Changes.{all_of}
 use Rattle.meta_types.specs.Faults.{Refuses, OnlyRefuses, least_of, unless}
-use Rattle.meta_types.specs.Outcomes.{Outcome, least_fault, labelled, relabels}
+use Rattle.meta_types.specs.Outcomes.{Outcome, least_fault, labelled, done}
 use Rattle.meta_types.specs.declared.reply.Reply.{Reply}
 use Rattle.meta_types.specs.declared.fault.Fault.{Fault}
 use Rattle.meta_types.specs.declared.fault.Fault.TheVariants.{InvalidArgument, NotFound, AlreadyExists, FailedPrecondition, OutOfMemory}
@@ -54,6 +54,6 @@ only_refused_as old o r new f is h same = rw is (only_exactly old new f o.invali
 
 -- a request that puts a label is refused as the layer below refused it
 pub label_refused : {A : Type 0} (labels_in : A → LabelList) (old : Store) (allowed : List Bool) (key value : Text) (found : Option A) (after : State) (r : Result Reply Refusal) (new : Store) (f : Fault) → r ≡ Err (By f) → all_of allowed ≡ true
-    → Refuses (err_of (Unit {0}) f) (least_of (not (all_of (labelled labels_in key value found))) (is_none found) false false) → new ≡ old → FollowsExactly old (relabels allowed labels_in key value found after) r new
+    → Refuses (err_of (Unit {0}) f) (least_of (not (all_of (labelled labels_in key value found))) (is_none found) false false) → new ≡ old → FollowsExactly old (record (done after) { invalid = not (all_of allowed) || not (all_of (labelled labels_in key value found)); missing = is_none found }) r new
 label_refused labels_in old allowed key value found after r new f is a h same =
     rw (is, a) (refused_exactly old new f (not (all_of (labelled labels_in key value found))) (is_none found) false false h same)

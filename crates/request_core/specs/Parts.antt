@@ -6,9 +6,9 @@ use Rattle.meta_types.specs.Keys.{has_row, row_at}
 use Rattle.meta_types.specs.Rows.{LeaseRow, Records, State, lease_key, snap_key, ingest_key, content_key}
 use Rattle.meta_types.specs.Changes.{dropped_by}
 use Rattle.meta_types.specs.Faults.{least_of}
-use Rattle.meta_types.specs.Outcomes.{lacks}
-use Rattle.meta_types.specs.SnapshotOps.{is_active, is_committed, parent_row}
-use Rattle.meta_types.specs.Limits.{is_out_of_numbers}
+use Rattle.meta_types.specs.Outcomes.{found_fault, in_store}
+use Rattle.meta_types.specs.SnapshotOps.{commit_findings, prepare_findings}
+use Rattle.meta_types.specs.ContentOps.{ingest_commit_findings}
 use Rattle.meta_types.specs.declared.rows.SnapRow.{SnapRow}
 use Rattle.request_core.specs.declared.refusal.Refusal.{Refusal}
 use Rattle.meta_types.specs.declared.resource.Resource.{Resource}
@@ -41,18 +41,11 @@ MakesOrFails (Err (Mismatch place)) before after = ⊥
 
 -- what refuses a commit of a snapshot whose texts are allowed (containerd snapshots service, Commit)
 abbrev pub commit_fault : State → Text → Text → Text → Text → Option Text → Option Fault
-commit_fault state ns snapshotter key name lease =
-    let rows = state.records.tables.snapshots in
-    let found = row_at snap_key (ns ∷ snapshotter ∷ key ∷ []) rows in
-    least_of false (lacks state ns lease || is_none found) (has_row snap_key (ns ∷ snapshotter ∷ name ∷ []) rows) (option_map_or (λ row. not (is_active row.kind)) found false)
+commit_fault state ns snapshotter key name lease = found_fault (in_store state ns lease (commit_findings ns snapshotter key name state.records.tables.snapshots))
 
 -- what refuses a new snapshot whose texts are allowed (containerd snapshots service, Prepare and View)
 abbrev pub prepare_fault : State → SnapRow → Option Text → Option Fault
-prepare_fault state new lease =
-    let rows = state.records.tables.snapshots in
-    let above = parent_row rows new.key.ns new.key.snapshotter new.parent in
-    least_of false (lacks state new.key.ns lease || is_some new.parent && is_none above) (has_row snap_key (snap_key new) rows)
-    (option_map_or (λ row. not (is_committed row.kind)) above false || is_out_of_numbers state)
+prepare_fault state new lease = found_fault (prepare_findings state new.key.ns new.key.snapshotter new.key.name new.parent lease)
 
 -- no row of any kind is stored (ours)
 abbrev pub has_no_row : Records → Bool
@@ -66,10 +59,7 @@ some_third (Err refusal) = Err refusal
 
 -- what refuses a commit of an ingest whose texts are allowed (containerd content-flow.md)
 abbrev pub ingest_commit_fault : State → Text → Text → Text → Option Text → Option Fault
-ingest_commit_fault state ns name digest lease =
-    let found = row_at ingest_key (ns ∷ name ∷ []) state.records.tables.ingests in
-    least_of false (lacks state ns lease || is_none found) (has_row content_key (ns ∷ digest ∷ []) state.records.tables.content)
-    (option_map_or (λ row. option_map_or (λ other. not (bytes_eq other digest)) row.expected false) found false)
+ingest_commit_fault state ns name digest lease = found_fault (ingest_commit_findings state ns name digest lease)
 
 -- what was read, as one that there is (ours)
 abbrev pub some_of : {A : Type 0} → Result A Refusal → Result (Option A) Refusal

@@ -24,7 +24,7 @@ use meta_types::{Digest, Fault, Kind, MAX_NUMBER, Name, Pairs, Reply, Row, Short
 use std::alloc::Global;
 
 impl<S: SnapBackend, B: BlobBackend, I: IngestBackend> State<S, B, I> {
-    // The next number, which no ingest of the backend has.
+    // The next number. It tells a proof that no ingest of the backend has it.
     fn free_number(&self) -> u64
         requires { IsSound self.now.state }
         ensures next { result ≡ self.now.state.records.next }

@@ -10,6 +10,7 @@ mod images;
 mod ingest_growth;
 mod ingests;
 mod labels;
+pub mod laws;
 mod leases;
 mod lists;
 mod namespaces;
@@ -17,9 +18,8 @@ mod refusal;
 mod snap_growth;
 mod snapshots;
 mod state;
-#[cfg(test)]
-mod tests;
 mod texts;
+mod unfailing;
 
 pub use back_model::{Backends, BlobBackend, IngestBackend, SnapBackend};
 pub use lease_book::Leases;

@@ -57,7 +57,8 @@ impl<S: SnapBackend, B: BlobBackend, I: IngestBackend> State<S, B, I> {
         Ok(())
     }
 
-    // The number of a new snapshot's parent, which the backend holds. It doesn't hold the next.
+    // The number of a new snapshot's parent. It tells a proof that the backend holds the parent, and
+    // not the next number.
     fn number_above(&self, row: &SnapRow) -> Option<u64>
         requires { IsSound self.now.state }
         ensures above { result ≡ option_map (λ above. above.number)

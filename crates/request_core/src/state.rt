@@ -67,8 +67,8 @@ impl Records {
 /// A store: its records, and the objects that its rows own.
 #[derive(Drop)]
 pub struct State<S: SnapBackend, B: BlobBackend, I: IngestBackend> {
-    pub(crate) records: Records,
-    pub(crate) backends: Backends<S, B, I>,
+    pub records: Records,
+    pub backends: Backends<S, B, I>,
 }
 
 impl<S: SnapBackend, B: BlobBackend, I: IngestBackend> Model for State<S, B, I> {

@@ -10,7 +10,8 @@ use Rattle.request_line.specs.Refusals.{IsUnread}
 use Rattle.request_line.specs.declared.asked.Asked.{Asked}
 use Rattle.request_line.specs.declared.op.Op.{Op}
 use Rattle.request_line.specs.Table.{members_of}
-use Rattle.request_line.specs.Lines.{op_in, are_of, asked_of, asked_with, asked_by, asked_from, asked_in}
+use Rattle.request_line.specs.EachOp.{asked_of}
+use Rattle.request_line.specs.Lines.{op_in, are_of, asked_with, asked_by, asked_from, asked_in}
 
 -- a value that names an op and has its members asks for it
 pub asked_by-op : (ms : Members) (op : Op) → op_in ms ≡ Some op → are_of (members_of op) ms ≡ true → asked_by ms ≡ Some (asked_of op ms)

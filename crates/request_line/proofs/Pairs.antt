@@ -5,7 +5,7 @@ use Rattle.serde_json.specs.Find.{as_str}
 use Rattle.serde_json.specs.View.{view, members_view}
 use Rattle.serde_json.proofs.Views.{Entry}
 use Rattle.meta_types.specs.Text.{texts_of}
-use Rattle.request_line.specs.Lines.{pairs_from}
+use Rattle.request_line.specs.Members.{pairs_from}
 
 -- one more member
 pub pairs_from-push : (es : List Entry) (e : Entry) → pairs_from (members_view (es ++ e ∷ [])) ≡ pairs_from (members_view es) ++ (string_bytes e.0, unwrap_or (as_str (view e.1)) []) ∷ []

@@ -1,5 +1,5 @@
 -- On members that were taken out of an object.
-use Rattle.std.proofs.Common.{◌≡◌, refl, sym, ap, ◌∙◌, List, [], ◌∷◌, Bool, true, false, Option, Some, option_map, Ordering, Less, Equal, Greater, bytes_eq, true≢false, string_bytes, nat_cmp, is_eq, cond, string_cmp}
+use Rattle.std.proofs.Common.{◌≡◌, refl, sym, ap, ◌∙◌, List, [], ◌∷◌, false, Option, Some, option_map, Ordering, Less, Equal, Greater, bytes_eq, true≢false, string_bytes, nat_cmp, is_eq, cond}
 use Rattle.std.specs.Ordering.{match_ordering}
 use Rattle.std.specs.Cmp.Lexicographic.{slice_cmp}
 use Rattle.std.specs.BTreeMap.{is_at}

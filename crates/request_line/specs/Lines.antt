@@ -1,18 +1,17 @@
 -- What a line asks for.
-use Rattle.std.specs.Prelude.{ℕ, List, [], ◌∷◌, Bool, true, false, ◌&&◌, ◌||◌, if◌then◌else◌, Option, Some, None, is_some, unwrap_or, option_and_then, codes}
+use Rattle.std.specs.Prelude.{ℕ, List, Bool, true, false, ◌&&◌, ◌||◌, if◌then◌else◌, Option, Some, None, is_some, option_and_then, codes}
 use Rattle.std.specs.List.{list_any, list_all}
 use Rattle.std.specs.Option.{option_map_or}
 use Rattle.std.specs.Str.{bytes_eq, is_utf8}
 use Rattle.serde_json.specs.Data as json
-use Rattle.serde_json.specs.Find.{get_member, as_str, as_object}
+use Rattle.serde_json.specs.Find.{get_member, as_str, as_object, as_number, as_u64}
 use Rattle.serde_json.specs.Read.{read}
 use Rattle.meta_types.specs.Text.{Text}
-use Rattle.meta_types.specs.declared.request.Request.TheVariants as R
 use Rattle.request_line.specs.Table.{Members, members_of, op_named}
+use Rattle.request_line.specs.Members.{text_if_any}
+use Rattle.request_line.specs.EachOp.{asked_of}
 use Rattle.request_line.specs.declared.asked.Asked.{Asked}
-use Rattle.request_line.specs.declared.asked.Asked.TheVariants as A
 use Rattle.request_line.specs.declared.op.Op.{Op}
-use Rattle.request_line.specs.declared.op.Op.TheVariants.{NsAdd, NsList, ImageAdd, ImageRemove, ContentAdd, GcRun}
 
 -- ---- which objects are requests
 
@@ -29,9 +28,13 @@ are_texts (json.member k d ms) = is_text d && are_texts ms
 abbrev pub are_labels : json.Data → Bool
 are_labels d = option_map_or are_texts (as_object d) false
 
--- all members are texts, but `labels` (ours)
+-- a whole number from 0 to 2^64 - 1, written without a sign, a point or an exponent (ours)
+abbrev pub is_whole : json.Data → Bool
+is_whole d = is_some (option_and_then as_u64 (as_number d))
+
+-- all members are texts, but `labels` and `v` (ours)
 abbrev pub has_kind : Text → json.Data → Bool
-has_kind key d = if bytes_eq key (codes "labels") then are_labels d else is_text d
+has_kind key d = if bytes_eq key (codes "labels") then are_labels d else if bytes_eq key (codes "v") then is_whole d else is_text d
 
 -- the key is one of these (ours)
 abbrev pub is_among : Text → List Text → Bool
@@ -55,32 +58,6 @@ abbrev pub are_of : Members → json.Members → Bool
 are_of row ms = are_listed row ms && has_required row ms
 
 -- ---- what they ask for
-
--- the text of a member; of a repeated member JSON keeps the last (ours)
-abbrev pub text_at : Text → json.Members → Text
-text_at key ms = unwrap_or (option_and_then as_str (get_member key ms)) []
-
--- the text of a member that may be left out (ours)
-abbrev pub text_if_any : Text → json.Members → Option Text
-text_if_any key ms = option_and_then as_str (get_member key ms)
-
--- the keys and values of an object of texts, by the bytes of the keys (ours)
-abbrev pub pairs_from : json.Members → List (Text × Text)
-pairs_from json.no_members = []
-pairs_from (json.member k d ms) = (k, unwrap_or (as_str d) []) ∷ pairs_from ms
-
--- the labels, which may be left out (ours)
-abbrev pub labels_at : json.Members → List (Text × Text)
-labels_at ms = option_map_or pairs_from (option_and_then as_object (get_member (codes "labels") ms)) []
-
--- what each op asks for with these members (ours)
-abbrev pub asked_of : Op → json.Members → Asked
-asked_of NsAdd ms = A.Request (R.NsAdd (text_at (codes "ns") ms))
-asked_of NsList ms = A.Request R.NsList
-asked_of ImageAdd ms = A.Request (R.ImageAdd (text_at (codes "ns") ms) (text_at (codes "name") ms) (text_at (codes "target") ms) (labels_at ms))
-asked_of ImageRemove ms = A.Request (R.ImageRemove (text_at (codes "ns") ms) (text_at (codes "name") ms))
-asked_of ContentAdd ms = A.Request (R.ContentAdd (text_at (codes "ns") ms) (text_at (codes "digest") ms) (labels_at ms) None)
-asked_of GcRun ms = A.Collect (text_at (codes "at") ms) false
 
 -- what an op asks for, where the object has its members (ours)
 abbrev pub asked_with : json.Members → Op → Option Asked

@@ -31,6 +31,8 @@ fn has_kind(key: &str, value: &Value) -> bool
 {
     if key == "labels" {
         value.as_object().is_some_and(are_texts)
+    } else if key == "v" {
+        value.is_u64()
     } else {
         value.is_string()
     }

@@ -2,14 +2,16 @@
 ghost use Rattle.std.specs.Prelude.{◌≡◌, [], None, IfOk, unwrap_or, string_bytes, option_map};
 ghost use Rattle.std.specs.Option.{option_map_or};
 ghost use Rattle.serde_json.specs.View.{view, members_view};
-ghost use Rattle.serde_json.specs.Find.{as_str, as_object, get_member};
+ghost use Rattle.serde_json.specs.Find.{as_str, as_object, as_number, as_u64, get_member};
 ghost use Rattle.meta_types.specs.Faults.{Refuses};
-ghost use Rattle.request_line.specs.Lines.{text_at, labels_at, pairs_from};
+ghost use Rattle.request_line.specs.Members.{text_at, text_if_any, whole_at, labels_at, pairs_from};
 ghost use Rattle.request_line.specs.Taking.{without};
 
 use meta_types::{Fault, Pairs, Words};
 use serde_json::{Map, Value};
 use std::alloc::Global;
+
+pub(crate) type Members = Map<String, Value>;
 
 // The value of a member.
 pub(crate) fn member<'v>(members: &'v Map<String, Value>, name: &str) -> Option<&'v Value>
@@ -48,6 +50,38 @@ pub(crate) fn text(alloc: Global, members: &mut Map<String, Value>, name: &str) 
     match members.remove(name) {
         Some(value) => Words::new(text_of(alloc, value)),
         None => Words::new(String::new(alloc)),
+    }
+}
+
+// A value's text, where it is one.
+fn text_in(value: Value) -> Option<Words>
+    ensures { result ≡ as_str (view value) }
+{
+    match value {
+        Value::String(text) => Some(Words::new(text)),
+        _ => None,
+    }
+}
+
+// Takes out the text of a member that may be left out.
+pub(crate) fn text_if_any(members: &mut Members, name: &str) -> Option<Words>
+    ensures text { result ≡ text_if_any name.now (members_view members.old.entries) }
+    ensures left { members_view members.new.entries ≡ without name.now
+        (members_view members.old.entries) }
+{
+    match members.remove(name) {
+        Some(value) => text_in(value),
+        None => None,
+    }
+}
+
+// The whole number of a member.
+pub(crate) fn whole(members: &Members, name: &str) -> u64
+    ensures { result ≡ whole_at name.now (members_view members.now.entries) }
+{
+    match member(members, name) {
+        Some(value) => value.as_u64().unwrap_or(0),
+        None => 0,
     }
 }
 

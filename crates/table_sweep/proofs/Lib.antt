@@ -14,3 +14,4 @@ pub mod Goes
 pub mod Planned
 pub mod Fitting
 pub mod NumbersLeft
+pub mod ByPaths

@@ -19,4 +19,5 @@ pub record IsSame (plan copy : Plan) : Type 0 where
   pub kept : copy.kept ≡ plan.kept
   pub ignored : copy.ignored.items ≡ plan.ignored.items
   pub ignored_images : copy.ignored_images.items ≡ plan.ignored_images.items
+  pub profile : copy.profile ≡ plan.profile
   pub scanned : copy.scanned ≡ plan.scanned

@@ -6,3 +6,4 @@ pub mod Places
 pub mod Backed
 pub mod Plans
 pub mod Copies
+pub mod Laws

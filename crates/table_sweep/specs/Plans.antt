@@ -1,7 +1,7 @@
 -- What a plan says of a store.
 use Rattle.std.specs.Prelude.{◌≡◌, ℕ, Bool, ℤ}
 use Rattle.meta_types.specs.Rows.{Records, BackLists}
-use Rattle.meta_types.specs.Paths.{Thing}
+use Rattle.meta_types.specs.Paths.{Thing, TellsReached}
 use Rattle.meta_types.specs.Backends.{no_objects, removed_objects}
 use Rattle.meta_types.specs.Collected.{collected_records}
 use Rattle.meta_types.specs.Reports.{removed_of, kept_of, ignored_of, ignored_images_of, scanned_of}
@@ -16,4 +16,11 @@ pub record IsPlan (records : Records) (namespaces : ℕ) (back : BackLists) (at 
   pub kept : plan.kept ≡ record (kept_of (collected_records at reached records)) { namespaces = namespaces }
   pub ignored : plan.ignored.items ≡ ignored_of records
   pub ignored_images : plan.ignored_images.items ≡ ignored_images_of records
+  pub profile : plan.profile ≡ records.profile
   pub scanned : plan.scanned ≡ scanned_of reached records
+
+-- the plan is that of a collection without a failure: some test tells where paths end, and the plan is by it (ours)
+pub record IsPlanOf (records : Records) (namespaces : ℕ) (back : BackLists) (at : ℤ) (plan : Plan) : Type 0 where
+  pub reached : Thing → Bool
+  pub tells : TellsReached records at reached
+  pub plan_is : IsPlan records namespaces back at reached plan

@@ -6,6 +6,7 @@ use Rattle.meta_types.specs.Paths.{Thing, image_stays, lease_stays}
 use Rattle.meta_types.specs.Collected.{content_stays, snapshot_stays, ingest_stays}
 use Rattle.meta_types.specs.Reports.{Kept, Removed}
 use Rattle.object_tables.specs.Calls.{kept}
+use Rattle.lease_book.specs.Calls.{kept as kept_leases}
 use Rattle.table_sweep.specs.declared.masks.Masks.{Masks}
 use Rattle.table_sweep.specs.Masks.{gone}
 
@@ -34,6 +35,19 @@ pub record FitRows (tables : Tables) (held : List LeaseRow) (masks : Masks) : Ty
 -- a snapshot that stays keeps its parent, and no backend number is used twice among what stays (ours)
 pub record StayNumbered (tables : Tables) (masks : Masks) : Type 0 where
   pub numbered : AreNumbered (kept masks.snapshots.items tables.snapshots) (kept masks.ingests.items tables.ingests)
+
+-- the rows that the masks keep; namespaces and containers all stay (ours)
+abbrev pub left_tables : Masks → Tables → Tables
+left_tables masks tables = record tables {
+  images = kept masks.images.items tables.images;
+  content = kept masks.content.items tables.content;
+  ingests = kept masks.ingests.items tables.ingests;
+  snapshots = kept masks.snapshots.items tables.snapshots;
+}
+
+-- the leases that their mask keeps (ours)
+abbrev pub left_leases : Masks → List LeaseRow → List LeaseRow
+left_leases masks leases = kept_leases masks.leases.items leases
 
 -- the names of the rows that the masks leave out (ours)
 abbrev pub gone_names : Records → Masks → Removed

@@ -4,6 +4,7 @@
 mod copies;
 mod counts;
 mod depths;
+pub mod laws;
 mod masks;
 mod names;
 mod objects;
@@ -11,8 +12,6 @@ mod owners;
 mod pass;
 mod places;
 mod planning;
-#[cfg(test)]
-mod tests;
 
 pub use depths::BackSnap;
 pub use masks::{Masks, masks_of};

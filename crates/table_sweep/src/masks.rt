@@ -113,6 +113,7 @@ pub fn masks_of(
     ensures ok { IfOk result (λ masks. AreMasks (records_of rows.now) at.0
         (reached_by rows.now.profile book.now marks.now at.0) masks) }
 {
+    // The book is named by the clauses alone.
     let _book = book;
     let ingests = rows.ingests.len() as u32;
     let content = rows.content.len() as u32;

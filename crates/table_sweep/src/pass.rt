@@ -1,7 +1,7 @@
 //! The sweep of the tables.
 ghost use Rattle.std.specs.Prelude.{◌≡◌};
 ghost use Rattle.meta_types.specs.Collected.{collected_records};
-ghost use Rattle.table_sweep.specs.Stays.{AreMasks, FitRows, StayNumbered, Collection};
+ghost use Rattle.table_sweep.specs.Stays.{AreMasks, FitRows, StayNumbered, Collection, left_tables, left_leases};
 
 use crate::masks::Masks;
 use lease_book::Leases;
@@ -13,6 +13,8 @@ use object_tables::Tables;
 pub fn sweep(tables: &mut Tables, leases: &mut Leases, masks: &Masks)
     requires rows { FitRows tables.old leases.old masks.now }
     requires numbered { StayNumbered tables.old masks.now }
+    ensures left { tables.new ≡ left_tables masks.now tables.old }
+    ensures leases_left { leases.new ≡ left_leases masks.now leases.old }
     ensures tables { (of : Collection) → tables.old ≡ of.records.tables
         → AreMasks of.records of.at of.reached masks.now
         → tables.new ≡ (collected_records of.at of.reached of.records).tables }

@@ -27,6 +27,7 @@ pub struct Plan {
     pub kept: Kept,
     pub ignored: Vec<(ShortName, Name)>,
     pub ignored_images: Vec<(ShortName, Name)>,
+    pub profile: u8,
     pub scanned: u64,
 }
 
@@ -80,6 +81,7 @@ pub fn plan_of(
         kept,
         ignored,
         ignored_images,
+        profile: rows.profile,
         scanned,
     })
 }

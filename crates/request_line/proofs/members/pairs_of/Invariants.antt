@@ -1,7 +1,7 @@
 use Rattle.std.proofs.Common.{◌≡◌}
 use Rattle.serde_json.specs.View.{members_view}
 use Rattle.meta_types.specs.Text.{texts_of}
-use Rattle.request_line.specs.Lines.{pairs_from}
+use Rattle.request_line.specs.Members.{pairs_from}
 use Rattle.request_line.proofs.members.pairs_of.Given as goal
 
 abbrev pub invariant-loop-key : goal.invariant-loop-key

@@ -1,4 +1,4 @@
-use Rattle.std.proofs.Common.{◌≡◌, ◌∙◌, ap, sym, Some, None, unwrap_or, option_and_then, [], refl}
+use Rattle.std.proofs.Common.{◌≡◌, ◌∙◌, ap, sym, Some, None, unwrap_or, option_and_then, []}
 use Rattle.serde_json.specs.View.{view, members_view}
 use Rattle.serde_json.specs.Find.{get_member, as_str}
 use Rattle.request_line.proofs.Taking.{member_found, members_view-remove_entry}

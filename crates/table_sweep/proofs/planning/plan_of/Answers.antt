@@ -1,11 +1,9 @@
-use Rattle.std.proofs.Common.{◌≡◌, ◌∙◌, sym, ap, arith, length}
+use Rattle.std.proofs.Common.{◌∙◌, refl, ap, arith}
 use Rattle.std.proofs.lemmas.List.{length-map}
 use Rattle.meta_types.specs.Rows.{Records}
-use Rattle.meta_types.specs.Paths.{Thing}
 use Rattle.meta_types.specs.Backends.{no_objects, removed_objects}
 use Rattle.gc_graph.specs.Stored.{records_of}
 use Rattle.gc_graph.specs.Marked.{reached_by}
-use Rattle.gc_graph.specs.Targets.{node_things}
 use Rattle.table_sweep.specs.Backed.{lists_of}
 use Rattle.table_sweep.proofs.Counted.{scanned_is, thing_count}
 use Rattle.table_sweep.proofs.Planned.{fit, removed_is, kept_counts_are, left_is}
@@ -37,6 +35,7 @@ returns-clause-ok c =
       kept = c.kept_of-kept.ensures ∙ kept_counts_are records at reached masks are c.args.namespaces;
       ignored = c.requires.ignored;
       ignored_images = c.requires.images;
+      profile = refl;
       scanned = c.count_marked-scanned.ensures ∙ scanned_is records c.args.book.now c.requires.numbered c.requires.once c.args.marks.now at c.count_nodes.result
           (omega (arith, c.count_nodes.ensures, thing_count records, i_long, c_long, s_long));
     }

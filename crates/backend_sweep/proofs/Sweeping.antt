@@ -1,0 +1,473 @@
+-- Sweeping a shard: one number more.
+use Rattle.std.proofs.Common.{◌≡◌, ◌≢◌, ℕ, ◌+◌, List, [], ◌∷◌, ◌++◌, length, Bool, true, false, refl, sym, ◌∙◌, ap, subst, inl, inr, arith, append_assoc, length-append, ◌-◌, ◌||◌}
+use Rattle.std.specs.Prelude.{◌==◌, ◌⊎◌, cond, Option, Some, None, IsSome, option_and_then}
+use Rattle.std.specs.Ordering.{nat_cmp, eq_by_cmp}
+use Rattle.std.specs.Cmp.{nat_cmp_total, unsigned_tied}
+use Rattle.std.proofs.lemmas.Bool.{eqb-true, eq-eqb, ne_eqb}
+use Rattle.std.proofs.lemmas.List.Elements.{filter-append}
+use Rattle.std.specs.Prelude.{filter}
+use Rattle.std.proofs.Common.{append-nil}
+use Rattle.std.specs.FinMap as map
+use Rattle.backend_sweep.specs.Shards.{IsHeld, IsChild, has}
+use Rattle.back_model.specs.Snaps.{Snaps, parent_of}
+use Rattle.backend_sweep.specs.declared.shard_swept.Removal.{Removal}
+use Rattle.backend_sweep.specs.declared.shard_swept.Removal.TheVariants as R
+use Rattle.backend_sweep.specs.Sweep.{Swept, Childfirst, Climbs, IsAncestor, Sweeps, Tries, put_of, with_number, with_parent, or_in, Leaves, InOrder}
+
+-- tests
+or_cases : (a b : Bool) → (a || b) ≡ true → (a ≡ true) ⊎ (b ≡ true)
+or_cases true b h = inl refl
+or_cases false b h = inr h
+
+or_left : (a b : Bool) → a ≡ true → (a || b) ≡ true
+or_left a b h = ap (λ x. x || b) h
+
+or_right : (a b : Bool) → b ≡ true → (a || b) ≡ true
+or_right true b h = refl
+or_right false b h = h
+
+or_none : (a b : Bool) → (a || b) ≡ false → (a ≡ false) × (b ≡ false)
+or_none true b h = cc
+or_none false b h = (refl, h)
+
+both_none : (a b : Bool) → a ≡ false → b ≡ false → (a || b) ≡ false
+both_none a b h k = ap (λ x. x || b) h ∙ k
+
+not_both : (b : Bool) → b ≡ true → b ≡ false → ⊥
+not_both b h k = let e : true ≡ false = sym h ∙ k in cc
+
+truth : (b : Bool) → (b ≡ true) ⊎ (b ≡ false)
+truth true = inl refl
+truth false = inr refl
+
+-- membership
+pub has_push : (xs : List ℕ) (n q : ℕ) → has (xs ++ n ∷ []) q ≡ (has xs q || (n == q))
+has_push [] n q = elim (n == q) as (λ (b : Bool). (b || false) ≡ (false || b)) [ true ↦ refl | false ↦ refl ]
+has_push (x ∷ xs) n q =
+    ap (λ b. (x == q) || b) (has_push xs n q) ∙ elim (x == q) as (λ (b : Bool). (b || (has xs q || (n == q))) ≡ ((b || has xs q) || (n == q))) [ true ↦ refl | false ↦ refl ]
+
+push_cases : (xs : List ℕ) (n q : ℕ) → has (xs ++ n ∷ []) q ≡ true → (has xs q ≡ true) ⊎ (n ≡ q)
+push_cases xs n q h =
+    elim (or_cases (has xs q) (n == q) (sym (has_push xs n q) ∙ h)) [ inl a ↦ inl a | inr b ↦ inr (eqb-true n q b) ]
+
+push_old : (xs : List ℕ) (n q : ℕ) → has xs q ≡ true → has (xs ++ n ∷ []) q ≡ true
+push_old xs n q h = has_push xs n q ∙ or_left (has xs q) (n == q) h
+
+push_new : (xs : List ℕ) (n q : ℕ) → n ≡ q → has (xs ++ n ∷ []) q ≡ true
+push_new xs n q h = has_push xs n q ∙ or_right (has xs q) (n == q) (eq-eqb n q h)
+
+push_none : (xs : List ℕ) (n q : ℕ) → has xs q ≡ false → n ≢ q → has (xs ++ n ∷ []) q ≡ false
+push_none xs n q h other = has_push xs n q ∙ both_none (has xs q) (n == q) h (ne_eqb n q other)
+
+-- where a member stands
+pub splits : (xs : List ℕ) (q : ℕ) → has xs q ≡ true → (front : List ℕ) × (back : List ℕ) × (xs ≡ front ++ q ∷ back)
+splits [] q h = let e : false ≡ true = h in cc
+splits (x ∷ xs) q h =
+    elim (or_cases (x == q) (has xs q) h) [
+      | inl a ↦ ([], xs, ap (λ (y : ℕ). y ∷ xs) (eqb-true x q a))
+      | inr b ↦ (let s = splits xs q b in (x ∷ s.0, s.1, ap (λ (l : List ℕ). x ∷ l) s.2))
+    ]
+
+front_member : (xs ys : List ℕ) (q : ℕ) → has xs q ≡ true → has (xs ++ ys) q ≡ true
+front_member [] ys q h = let e : false ≡ true = h in cc
+front_member (x ∷ xs) ys q h =
+    elim (or_cases (x == q) (has xs q) h) [ inl a ↦ or_left (x == q) (has (xs ++ ys) q) a | inr b ↦ or_right (x == q) (has (xs ++ ys) q) (front_member xs ys q b) ]
+
+has_at : (xs ys : List ℕ) (q : ℕ) → has (xs ++ q ∷ ys) q ≡ true
+has_at [] ys q = or_left (q == q) (has ys q) (eq-eqb q q refl)
+has_at (x ∷ xs) ys q = or_right (x == q) (has (xs ++ q ∷ ys) q) (has_at xs ys q)
+
+swap3 : (a b c : Bool) → ((a || b) || c) ≡ ((a || c) || b)
+swap3 true b c = refl
+swap3 false true true = refl
+swap3 false true false = refl
+swap3 false false true = refl
+swap3 false false false = refl
+
+swap_first : (a b c d : Bool) → ((a || (b || c)) || d) ≡ (a || ((b || d) || c))
+swap_first true b c d = refl
+swap_first false b c d = swap3 b c d
+
+swap_last : (a b c d : Bool) → ((a || (b || c)) || d) ≡ (a || (b || (c || d)))
+swap_last true b c d = refl
+swap_last false true c d = refl
+swap_last false false c d = refl
+
+climb_on : (m : Snaps) (f : ℕ) (ps : List ℕ) (a b : ℕ) → Climbs m f (ps ++ a ∷ []) → IsChild m b a → Climbs m f ((ps ++ a ∷ []) ++ b ∷ [])
+climb_on m f [] a b h child = (h.0, (child, tt))
+climb_on m f (p ∷ ps) a b h child = (h.0, climb_on m p ps a b h.1 child)
+
+cmp_is : (q n : ℕ) → eq_by_cmp nat_cmp q n ≡ (n == q)
+cmp_is q n =
+    unsigned_tied q n
+    ∙ elim (truth (q == n)) [ inl h ↦ h ∙ sym (eq-eqb n q (sym (eqb-true q n h))) | inr h ↦ h ∙ sym (ne_eqb n q (λ e. not_both (q == n) (eq-eqb q n (sym e)) h)) ]
+
+two_tests : (a e b : Bool) (o : Option (Option ℕ)) → e ≡ b → cond e None (cond a None o) ≡ cond (a || b) None o
+two_tests true true b o h = refl
+two_tests true false b o h = refl
+two_tests false e b o h = ap (λ (x : Bool). cond x None o) h
+
+or_nothing : (b : Bool) → (b || false) ≡ b
+or_nothing true = refl
+or_nothing false = refl
+
+filter_alike : (p q : ℕ → Bool) (xs : List ℕ) → ((x : ℕ) → has xs x ≡ true → p x ≡ q x) → filter p xs ≡ filter q xs
+filter_alike p q [] alike = refl
+filter_alike p q (x ∷ xs) alike =
+    let e = alike x (or_left (x == x) (has xs x) (eq-eqb x x refl)) in
+    let rest = filter_alike p q xs (λ y h. alike y (or_right (x == y) (has xs y) h)) in
+    λ i. cond (e i) (x ∷ rest i) (rest i)
+
+order_grows : (done xs : List ℕ) (n : ℕ) → InOrder done xs → has done n ≡ false → InOrder (done ++ n ∷ []) (xs ++ n ∷ [])
+order_grows done xs n order fresh =
+    let p : ℕ → Bool = λ q. has (xs ++ n ∷ []) q in
+    let alike = filter_alike p (λ q. has xs q) done (λ q h. has_push xs n q ∙ ap (λ (b : Bool). has xs q || b) (ne_eqb n q (λ e. not_both (has done q) h (ap (has done) (sym e) ∙ fresh))) ∙ or_nothing (has xs q)) in
+    let last : filter p (n ∷ []) ≡ n ∷ [] = ap (λ (b : Bool). cond b (n ∷ []) []) (push_new xs n n refl) in
+    sym (filter-append p done (n ∷ []) ∙ (λ i. alike i ++ last i) ∙ ap (λ (l : List ℕ). l ++ n ∷ []) (sym order))
+
+order_stays : (done xs : List ℕ) (n : ℕ) → InOrder done xs → has xs n ≡ false → InOrder (done ++ n ∷ []) xs
+order_stays done xs n order none =
+    let last : filter (λ q. has xs q) (n ∷ []) ≡ [] = ap (λ (b : Bool). cond b (n ∷ []) []) none in
+    sym (filter-append (λ q. has xs q) done (n ∷ []) ∙ (λ i. sym order i ++ last i) ∙ append-nil xs)
+
+-- one removal, by what it tells of the children that are left
+abbrev Tried : Removal → ℕ → List ℕ → List ℕ → Snaps → Snaps → ℕ → ℕ → Type 0
+Tried R.Removed n failed kept m now before after =
+    (now ≡ map.remove m n) × (after ≡ before) × ((c : ℕ) → IsChild m n c → (has failed c || has kept c) ≡ false)
+Tried R.Failed n failed kept m now before after =
+    (now ≡ m) × (after ≡ before + 1) × ((c : ℕ) → IsChild m n c → (has failed c || has kept c) ≡ false)
+Tried R.Kept n failed kept m now before after =
+    (now ≡ m) × (after ≡ before) × ((c : ℕ) × ((has failed c || has kept c) ≡ true) × IsChild m n c)
+
+-- a number that is new goes last
+abbrev puts : Swept → ℕ → List ℕ → Removal → Swept
+puts s n parents R.Removed = record s { removed = s.removed ++ n ∷ []; room = s.room - 1 }
+puts s n parents R.Failed = record s { failed = s.failed ++ n ∷ []; parents = parents; room = s.room - 1 }
+puts s n parents R.Kept = record s { kept = s.kept ++ n ∷ []; parents = parents; room = s.room - 1 }
+
+last_of : (xs : List ℕ) (n : ℕ) → has xs n ≡ false → with_number xs n ≡ xs ++ n ∷ []
+last_of xs n h = rw h refl
+
+put_is : (s : Swept) (n : ℕ) (above : Option ℕ) (what : Removal) → has s.failed n ≡ false → has s.kept n ≡ false → put_of s n above what ≡ puts s n (with_parent s.parents above) what
+put_is s n above R.Removed f k = refl
+put_is s n above R.Failed f k = λ i. record s { failed = last_of s.failed n f i; parents = with_parent s.parents above; room = s.room - 1 }
+put_is s n above R.Kept f k = λ i. record s { kept = last_of s.kept n k i; parents = with_parent s.parents above; room = s.room - 1 }
+
+-- the parents of what failed or was kept
+pub record Blocks (m : Snaps) (r : Swept) : Type 0 where
+  pub child : (p : ℕ) → has r.parents p ≡ true → (c : ℕ) × ((has r.failed c || has r.kept c) ≡ true) × IsChild m p c
+  pub all : (p c : ℕ) → (has r.failed c || has r.kept c) ≡ true → IsChild m p c → has r.parents p ≡ true
+
+pub none_blocked : (m : Snaps) (r : Swept) → r.failed ≡ [] → r.kept ≡ [] → r.parents ≡ [] → Blocks m r
+none_blocked m r f k p = record {
+  child = λ q h. (let e : false ≡ true = ap (λ (l : List ℕ). has l q) (sym p) ∙ h in cc);
+  all = λ q c h is. (let e : false ≡ true = (λ i. has (sym f i) c || has (sym k i) c) ∙ h in cc);
+}
+
+-- what is among the numbers with one more
+with_old : (xs : List ℕ) (n q : ℕ) → has xs q ≡ true → has (with_number xs n) q ≡ true
+with_old xs n q h = elim (truth (has xs n)) [ inl t ↦ rw t h | inr f ↦ ap (λ (l : List ℕ). has l q) (last_of xs n f) ∙ push_old xs n q h ]
+
+with_new : (xs : List ℕ) (n : ℕ) → has (with_number xs n) n ≡ true
+with_new xs n = elim (truth (has xs n)) [ inl t ↦ rw t t | inr f ↦ ap (λ (l : List ℕ). has l n) (last_of xs n f) ∙ push_new xs n n refl ]
+
+with_cases : (xs : List ℕ) (n q : ℕ) → has (with_number xs n) q ≡ true → (has xs q ≡ true) ⊎ (n ≡ q)
+with_cases xs n q h = elim (truth (has xs n)) [ inl t ↦ inl (rw t at h) | inr f ↦ push_cases xs n q (ap (λ (l : List ℕ). has l q) (sym (last_of xs n f)) ∙ h) ]
+
+parent_old : (xs : List ℕ) (above : Option ℕ) (q : ℕ) → has xs q ≡ true → has (with_parent xs above) q ≡ true
+parent_old xs None q h = h
+parent_old xs (Some p) q h = with_old xs p q h
+
+parent_new : (xs : List ℕ) (above : Option ℕ) (q : ℕ) → above ≡ Some q → has (with_parent xs above) q ≡ true
+parent_new xs None q e = absurd cc
+parent_new xs (Some p) q e = subst (λ (o : Option ℕ). has (with_parent xs o) q ≡ true) (sym e) (with_new xs q)
+
+parent_cases : (xs : List ℕ) (above : Option ℕ) (q : ℕ) → has (with_parent xs above) q ≡ true → (has xs q ≡ true) ⊎ (above ≡ Some q)
+parent_cases xs None q h = inl h
+parent_cases xs (Some p) q h = elim (with_cases xs p q h) [ inl a ↦ inl a | inr e ↦ inr (ap (λ (k : ℕ). Some k) e) ]
+
+-- a child, by its parent
+child_of : (m : Snaps) (p n : ℕ) → parent_of m n ≡ Some p → IsChild m p n
+child_of m p n h = go (map.get m n) h
+  where
+    go : (o : Option (Option ℕ)) → option_and_then (λ (parent : Option ℕ). parent) o ≡ Some p → o ≡ Some (Some p)
+    go None e = absurd cc
+    go (Some above) e = ap (λ (x : Option ℕ). Some x) e
+
+parent_is : (m : Snaps) (p n : ℕ) → IsChild m p n → parent_of m n ≡ Some p
+parent_is m p n h = ap (λ (o : Option (Option ℕ)). option_and_then (λ (parent : Option ℕ). parent) o) h
+
+-- the list, split at the number that comes next
+pub record At (list done rest : List ℕ) (n : ℕ) (m0 m : Snaps) (f0 f : ℕ) (r : Swept) : Type 0 where
+  pub split : list ≡ done ++ n ∷ rest
+  pub first : Childfirst list m0
+  pub so_far : Sweeps done m0 m f0 f r
+
+module _ (list done rest : List ℕ) (n : ℕ) (m0 m : Snaps) (f0 f : ℕ) (r : Swept) (a : At list done rest n m0 m f0 f r) where
+  abbrev s : Sweeps done m0 m f0 f r
+  s = a.so_far
+
+  pub fresh : has done n ≡ false
+  fresh = a.first.once done rest n a.split
+
+  not_in : (has r.removed n ≡ false) × (has r.failed n ≡ false) × (has r.kept n ≡ false)
+  not_in =
+      let one = or_none (has r.removed n) (has r.failed n || has r.kept n) (sym (s.sorted n) ∙ fresh) in
+      let two = or_none (has r.failed n) (has r.kept n) one.1 in
+      (one.0, two.0, two.1)
+
+  now_is : (q : ℕ) → has r.removed q ≡ false → map.get m q ≡ map.get m0 q
+  now_is q h = s.contents q ∙ ap (λ (b : Bool). cond b None (map.get m0 q)) h
+
+  gone : (q p : ℕ) → IsChild m p q → has r.removed q ≡ true → ⊥
+  gone q p child h =
+      let none : map.get m q ≡ None = s.contents q ∙ ap (λ (b : Bool). cond b None (map.get m0 q)) h in
+      let e : None ≡ Some (Some p) = sym none ∙ child in
+      cc
+
+  before : (q p : ℕ) → IsChild m p q → IsChild m0 p q
+  before q p child =
+      elim (truth (has r.removed q)) [ inl h ↦ absurd (gone q p child h) | inr h ↦ sym (now_is q h) ∙ child ]
+
+  left : (q : ℕ) → (has r.failed q || has r.kept q) ≡ true → has r.removed q ≡ false
+  left q h =
+      elim (truth (has r.removed q)) [
+        | inl k ↦ (let x = s.apart q k in absurd (not_both (has r.failed q || has r.kept q) h (both_none (has r.failed q) (has r.kept q) x.0 x.1)))
+        | inr k ↦ k
+      ]
+
+  still : (q p : ℕ) → (has r.failed q || has r.kept q) ≡ true → IsChild m0 p q → IsChild m p q
+  still q p h child = now_is q (left q h) ∙ child
+
+  -- the next number is no child of what was passed, nor of itself
+  earlier : (p : ℕ) → has done p ≡ true → IsChild m0 p n → ⊥
+  earlier p h child =
+      let sp = splits done p h in
+      let at : list ≡ sp.0 ++ p ∷ (sp.1 ++ n ∷ rest) = a.split ∙ ap (λ (l : List ℕ). l ++ n ∷ rest) sp.2 ∙ append_assoc sp.0 (p ∷ sp.1) (n ∷ rest) in
+      let there : has sp.0 n ≡ true = a.first.children sp.0 (sp.1 ++ n ∷ rest) p n at child in
+      let inside : has done n ≡ true = ap (λ (l : List ℕ). has l n) sp.2 ∙ front_member sp.0 (p ∷ sp.1) n there in
+      not_both (has done n) inside fresh
+
+  itself : IsChild m0 n n → ⊥
+  itself child = not_both (has done n) (a.first.children done rest n n a.split child) fresh
+
+  -- what the next removal asks
+  pub is_held : IsHeld m n
+  is_held =
+      let inside : has list n ≡ true = ap (λ (l : List ℕ). has l n) a.split ∙ has_at done rest n in
+      subst (λ (o : Option (Option ℕ)). IsSome o) (sym (now_is n not_in.0)) (a.first.held n inside)
+
+  pub children_left : (c : ℕ) → IsChild m n c → (has r.failed c || has r.kept c) ≡ true
+  children_left c child =
+      let then : has done c ≡ true = a.first.children done rest n c a.split (before c n child) in
+      let some : or_in r c ≡ true = sym (s.sorted c) ∙ then in
+      elim (or_cases (has r.removed c) (has r.failed c || has r.kept c) some) [ inl h ↦ absurd (gone c n child h) | inr h ↦ h ]
+
+  -- what a removal tells of the children, said of the beginning
+  no_child : ((c : ℕ) → IsChild m n c → (has r.failed c || has r.kept c) ≡ false) → (q : ℕ) → (has r.failed q || has r.kept q) ≡ true → IsChild m0 n q → ⊥
+  no_child none q h child = not_both (has r.failed q || has r.kept q) h (none q (still q n h child))
+
+  gets_now : (q : ℕ) → cond (eq_by_cmp nat_cmp q n) None (map.get m q) ≡ cond (has (r.removed ++ n ∷ []) q) None (map.get m0 q)
+  gets_now q =
+      ap (λ (o : Option (Option ℕ)). cond (eq_by_cmp nat_cmp q n) None o) (s.contents q)
+      ∙ two_tests (has r.removed q) (eq_by_cmp nat_cmp q n) (n == q) (map.get m0 q) (cmp_is q n)
+      ∙ ap (λ (b : Bool). cond b None (map.get m0 q)) (sym (has_push r.removed n q))
+
+  more_failed : f + 1 ≡ f0 + length (r.failed ++ n ∷ [])
+  more_failed = let c : f ≡ f0 + length r.failed = s.count in omega (arith, length-append r.failed (n ∷ []))
+
+  -- no child of what was passed is put among the failed or kept by the next number
+  passed : (q p : ℕ) → n ≡ q → IsChild m0 p q → has (done ++ n ∷ []) p ≡ true → ⊥
+  passed q p e child inside =
+      let mine : IsChild m0 p n = subst (λ (x : ℕ). IsChild m0 p x) (sym e) child in
+      elim (push_cases done n p inside) [ inl old ↦ earlier p old mine | inr same ↦ itself (subst (λ (x : ℕ). IsChild m0 x n) (sym same) mine) ]
+
+  above : (c : ℕ) → (has r.failed c || has r.kept c) ≡ true → IsChild m0 n c → (g : ℕ) × (has r.failed g ≡ true) × IsAncestor m0 n g
+  above c some child =
+      elim (or_cases (has r.failed c) (has r.kept c) some) [
+        | inl h ↦ (c, h, ([], (child, tt)))
+        | inr h ↦ (let w = s.why c h in (w.0, w.1, (w.2.0 ++ c ∷ [], climb_on m0 w.0 w.2.0 c n w.2.1 child)))
+      ]
+
+  -- removed
+  removed_more : (ps : List ℕ) (now : Snaps) → now ≡ map.remove m n → ((c : ℕ) → IsChild m n c → (has r.failed c || has r.kept c) ≡ false) → Sweeps (done ++ n ∷ []) m0 now f0 f (puts r n ps R.Removed)
+  removed_more ps now is none = record {
+    contents = λ q. ap (λ (x : Snaps). map.get x q) is ∙ map.get-remove nat_cmp_total m n q ∙ gets_now q;
+    sorted = λ q. has_push done n q ∙ ap (λ (b : Bool). b || (n == q)) (s.sorted q) ∙ swap3 (has r.removed q) (has r.failed q || has r.kept q) (n == q) ∙ ap (λ (b : Bool). b || (has r.failed q || has r.kept q)) (sym (has_push r.removed n q));
+    apart = λ q h. elim (push_cases r.removed n q h) [ inl old ↦ s.apart q old | inr e ↦ (ap (has r.failed) (sym e) ∙ not_in.1, ap (has r.kept) (sym e) ∙ not_in.2) ];
+    tried = s.tried;
+    why = s.why;
+    all = λ q p h child inside. elim (push_cases done n p inside) [ inl old ↦ s.all q p h child old | inr e ↦ absurd (no_child none q h (subst (λ (x : ℕ). IsChild m0 x q) (sym e) child)) ];
+    count = s.count;
+    removed_in_order = order_grows done r.removed n s.removed_in_order fresh;
+    failed_in_order = order_stays done r.failed n s.failed_in_order not_in.1;
+    kept_in_order = order_stays done r.kept n s.kept_in_order not_in.2;
+  }
+
+  failed_all : ((c : ℕ) → IsChild m n c → (has r.failed c || has r.kept c) ≡ false) → (q p : ℕ) → (has (r.failed ++ n ∷ []) q || has r.kept q) ≡ true → IsChild m0 p q → has (done ++ n ∷ []) p ≡ true → has r.kept p ≡ true
+  failed_all none q p h child inside =
+      let old : (has r.failed q || has r.kept q) ≡ true → has r.kept p ≡ true =
+      λ k. elim (push_cases done n p inside) [ inl at ↦ s.all q p k child at | inr e ↦ absurd (no_child none q k (subst (λ (x : ℕ). IsChild m0 x q) (sym e) child)) ] in
+      elim (or_cases (has (r.failed ++ n ∷ []) q) (has r.kept q) h) [
+        | inl a ↦ elim (push_cases r.failed n q a) [ inl b ↦ old (or_left (has r.failed q) (has r.kept q) b) | inr e ↦ absurd (passed q p e child inside) ]
+        | inr b ↦ old (or_right (has r.failed q) (has r.kept q) b)
+      ]
+
+  -- failed
+  failed_more : (ps : List ℕ) → ((c : ℕ) → IsChild m n c → (has r.failed c || has r.kept c) ≡ false) → Sweeps (done ++ n ∷ []) m0 m f0 (f + 1) (puts r n ps R.Failed)
+  failed_more ps none = record {
+    contents = s.contents;
+    sorted = λ q. has_push done n q ∙ ap (λ (b : Bool). b || (n == q)) (s.sorted q) ∙ swap_first (has r.removed q) (has r.failed q) (has r.kept q) (n == q) ∙ ap (λ (b : Bool). has r.removed q || (b || has r.kept q)) (sym (has_push r.failed n q));
+    apart = λ q h. let x = s.apart q h in (push_none r.failed n q x.0 (λ e. not_both (has r.removed q) h (ap (has r.removed) (sym e) ∙ not_in.0)), x.1);
+    tried = λ q h. elim (push_cases r.failed n q h) [ inl old ↦ s.tried q old | inr e ↦ ap (has r.kept) (sym e) ∙ not_in.2 ];
+    why = λ q h. let w = s.why q h in (w.0, push_old r.failed n w.0 w.1, w.2);
+    all = λ q p h child inside. failed_all none q p h child inside;
+    count = more_failed;
+    removed_in_order = order_stays done r.removed n s.removed_in_order not_in.0;
+    failed_in_order = order_grows done r.failed n s.failed_in_order fresh;
+    kept_in_order = order_stays done r.kept n s.kept_in_order not_in.2;
+  }
+
+  kept_all : (q p : ℕ) → (has r.failed q || has (r.kept ++ n ∷ []) q) ≡ true → IsChild m0 p q → has (done ++ n ∷ []) p ≡ true → has (r.kept ++ n ∷ []) p ≡ true
+  kept_all q p h child inside =
+      let old : (has r.failed q || has r.kept q) ≡ true → has (r.kept ++ n ∷ []) p ≡ true =
+      λ k. elim (push_cases done n p inside) [ inl at ↦ push_old r.kept n p (s.all q p k child at) | inr e ↦ push_new r.kept n p e ] in
+      elim (or_cases (has r.failed q) (has (r.kept ++ n ∷ []) q) h) [
+        | inl a ↦ old (or_left (has r.failed q) (has r.kept q) a)
+        | inr a ↦ elim (push_cases r.kept n q a) [ inl b ↦ old (or_right (has r.failed q) (has r.kept q) b) | inr e ↦ absurd (passed q p e child inside) ]
+      ]
+
+  -- kept
+  kept_more : (ps : List ℕ) (c : ℕ) → (has r.failed c || has r.kept c) ≡ true → IsChild m n c → Sweeps (done ++ n ∷ []) m0 m f0 f (puts r n ps R.Kept)
+  kept_more ps c some child = record {
+    contents = s.contents;
+    sorted = λ q. has_push done n q ∙ ap (λ (b : Bool). b || (n == q)) (s.sorted q) ∙ swap_last (has r.removed q) (has r.failed q) (has r.kept q) (n == q) ∙ ap (λ (b : Bool). has r.removed q || (has r.failed q || b)) (sym (has_push r.kept n q));
+    apart = λ q h. let x = s.apart q h in (x.0, push_none r.kept n q x.1 (λ e. not_both (has r.removed q) h (ap (has r.removed) (sym e) ∙ not_in.0)));
+    tried = λ q h. push_none r.kept n q (s.tried q h) (λ e. not_both (has r.failed q) h (ap (has r.failed) (sym e) ∙ not_in.1));
+    why = λ q h. elim (push_cases r.kept n q h) [ inl old ↦ s.why q old | inr e ↦ subst (λ (x : ℕ). (g : ℕ) × (has r.failed g ≡ true) × IsAncestor m0 x g) e (above c some (before c n child)) ];
+    all = λ q p h below inside. kept_all q p h below inside;
+    count = s.count;
+    removed_in_order = order_stays done r.removed n s.removed_in_order not_in.0;
+    failed_in_order = order_stays done r.failed n s.failed_in_order not_in.1;
+    kept_in_order = order_grows done r.kept n s.kept_in_order fresh;
+  }
+
+  one_tried : (ps : List ℕ) (what : Removal) (now : Snaps) (after : ℕ) → Tried what n r.failed r.kept m now f after → Sweeps (done ++ n ∷ []) m0 now f0 after (puts r n ps what)
+  one_tried ps R.Removed now after t = subst (λ (k : ℕ). Sweeps (done ++ n ∷ []) m0 now f0 k (puts r n ps R.Removed)) (sym t.1) (removed_more ps now t.0 t.2)
+  one_tried ps R.Failed now after t =
+      subst (λ (x : Snaps). Sweeps (done ++ n ∷ []) m0 x f0 after (puts r n ps R.Failed)) (sym t.0) (subst (λ (k : ℕ). Sweeps (done ++ n ∷ []) m0 m f0 k (puts r n ps R.Failed)) (sym t.1) (failed_more ps t.2))
+  one_tried ps R.Kept now after t =
+      subst (λ (x : Snaps). Sweeps (done ++ n ∷ []) m0 x f0 after (puts r n ps R.Kept)) (sym t.0) (subst (λ (k : ℕ). Sweeps (done ++ n ∷ []) m0 m f0 k (puts r n ps R.Kept)) (sym t.1) (kept_more ps t.2.0 t.2.1 t.2.2))
+
+  module _ (b : Blocks m0 r) where
+    -- where no child is left, none stays
+    pub no_child_left : has r.parents n ≡ false → (c : ℕ) → IsChild m n c → ⊥
+    no_child_left h c child = not_both (has r.parents n) (b.all n c (children_left c child) (before c n child)) h
+
+    -- what a removal that isn't above another tells
+    tried_is : (above : Bool) (what : Removal) (now : Snaps) (after : ℕ) → above ≡ has r.parents n → Tries what above n m now f after → Tried what n r.failed r.kept m now f after
+    tried_is over R.Removed now after e t = (t.1, t.2, λ c child. absurd (no_child_left (sym e ∙ t.0) c child))
+    tried_is over R.Failed now after e t = (t.1, t.2, λ c child. absurd (no_child_left (sym e ∙ t.0) c child))
+    tried_is over R.Kept now after e t = (let k = b.child n (sym e ∙ t.0) in (t.1, t.2, (k.0, k.1, still k.0 n k.1 k.2)))
+
+    -- the next number, whatever became of it
+    pub one_more : (parent : Option ℕ) (above : Bool) (what : Removal) (now : Snaps) (after : ℕ) → above ≡ has r.parents n → Tries what above n m now f after → Sweeps (done ++ n ∷ []) m0 now f0 after (put_of r n parent what)
+    one_more parent above what now after e t =
+        subst (λ (x : Swept). Sweeps (done ++ n ∷ []) m0 now f0 after x) (sym (put_is r n parent what not_in.1 not_in.2))
+        (one_tried (with_parent r.parents parent) what now after (tried_is above what now after e t))
+
+    mine : (parent : Option ℕ) (p : ℕ) → parent ≡ parent_of m n → parent ≡ Some p → IsChild m0 p n
+    mine parent p is e = before n p (child_of m p n (sym is ∙ e))
+
+    theirs : (parent : Option ℕ) (p q : ℕ) → parent ≡ parent_of m n → n ≡ q → IsChild m0 p q → parent ≡ Some p
+    theirs parent p q is e child = is ∙ parent_is m p n (now_is n not_in.0 ∙ subst (λ (x : ℕ). IsChild m0 p x) (sym e) child)
+
+    blocks_puts : (parent : Option ℕ) (what : Removal) → parent ≡ parent_of m n → Blocks m0 (puts r n (with_parent r.parents parent) what)
+    blocks_puts parent R.Removed is = record { child = b.child; all = b.all }
+    blocks_puts parent R.Failed is = record {
+      child = λ p h. elim (parent_cases r.parents parent p h) [
+        | inl old ↦ (let k = b.child p old in (
+          k.0,
+          elim (or_cases (has r.failed k.0) (has r.kept k.0) k.1) [
+            | inl x ↦ or_left (has (r.failed ++ n ∷ []) k.0) (has r.kept k.0) (push_old r.failed n k.0 x)
+            | inr x ↦ or_right (has (r.failed ++ n ∷ []) k.0) (has r.kept k.0) x
+          ],
+          k.2,
+        ))
+        | inr e ↦ (n, or_left (has (r.failed ++ n ∷ []) n) (has r.kept n) (push_new r.failed n n refl), mine parent p is e)
+      ];
+      all = λ p c h child. elim (or_cases (has (r.failed ++ n ∷ []) c) (has r.kept c) h) [
+        | inl x ↦ elim (push_cases r.failed n c x) [
+          | inl old ↦ parent_old r.parents parent p (b.all p c (or_left (has r.failed c) (has r.kept c) old) child)
+          | inr e ↦ parent_new r.parents parent p (theirs parent p c is e child)
+        ]
+        | inr x ↦ parent_old r.parents parent p (b.all p c (or_right (has r.failed c) (has r.kept c) x) child)
+      ];
+    }
+    blocks_puts parent R.Kept is = record {
+      child = λ p h. elim (parent_cases r.parents parent p h) [
+        | inl old ↦ (let k = b.child p old in (
+          k.0,
+          elim (or_cases (has r.failed k.0) (has r.kept k.0) k.1) [
+            | inl x ↦ or_left (has r.failed k.0) (has (r.kept ++ n ∷ []) k.0) x
+            | inr x ↦ or_right (has r.failed k.0) (has (r.kept ++ n ∷ []) k.0) (push_old r.kept n k.0 x)
+          ],
+          k.2,
+        ))
+        | inr e ↦ (n, or_right (has r.failed n) (has (r.kept ++ n ∷ []) n) (push_new r.kept n n refl), mine parent p is e)
+      ];
+      all = λ p c h child. elim (or_cases (has r.failed c) (has (r.kept ++ n ∷ []) c) h) [
+        | inl x ↦ parent_old r.parents parent p (b.all p c (or_left (has r.failed c) (has r.kept c) x) child)
+        | inr x ↦ elim (push_cases r.kept n c x) [
+          | inl old ↦ parent_old r.parents parent p (b.all p c (or_right (has r.failed c) (has r.kept c) old) child)
+          | inr e ↦ parent_new r.parents parent p (theirs parent p c is e child)
+        ]
+      ];
+    }
+
+    -- and its parent
+    pub blocks_more : (parent : Option ℕ) (what : Removal) → parent ≡ parent_of m n → Blocks m0 (put_of r n parent what)
+    blocks_more parent what is = subst (Blocks m0) (sym (put_is r n parent what not_in.1 not_in.2)) (blocks_puts parent what is)
+
+module _ (list : List ℕ) (m now : Snaps) (before after : ℕ) (r : Swept) (first : Childfirst list m) (s : Sweeps list m now before after r) where
+  -- a child of what is listed is listed
+  listed_child : (p c : ℕ) → has list p ≡ true → IsChild m p c → has list c ≡ true
+  listed_child p c h child =
+      let sp = splits list p h in
+      let there = first.children sp.0 sp.1 p c sp.2 child in
+      ap (λ (l : List ℕ). has l c) sp.2 ∙ front_member sp.0 (p ∷ sp.1) c there
+
+  down : (q : ℕ) (ps : List ℕ) (n : ℕ) → Climbs m q (ps ++ n ∷ []) → has list n ≡ true → has list q ≡ true
+  down q [] n c h = listed_child n q h c.0
+  down q (p ∷ ps) n c h = listed_child p q (down p ps n c.1 h) c.0
+
+  reach : (q : ℕ) (ps : List ℕ) (n : ℕ) → (has r.failed q || has r.kept q) ≡ true → Climbs m q (ps ++ n ∷ []) → has list n ≡ true → has r.kept n ≡ true
+  reach q [] n some c h = s.all q n some c.0 h
+  reach q (p ∷ ps) n some c h =
+      let here = s.all q p some c.0 (down p ps n c.1 h) in
+      reach p ps n (or_right (has r.failed p) (has r.kept p) here) c.1 h
+
+  in_list : (n : ℕ) → or_in r n ≡ true → has list n ≡ true
+  in_list n h = s.sorted n ∙ h
+
+  not_removed : (n : ℕ) → (has r.failed n || has r.kept n) ≡ true → has r.removed n ≡ false
+  not_removed n h =
+      elim (truth (has r.removed n)) [
+        | inl k ↦ (let x = s.apart n k in absurd (not_both (has r.failed n || has r.kept n) h (both_none (has r.failed n) (has r.kept n) x.0 x.1)))
+        | inr k ↦ k
+      ]
+
+  as_before : (n : ℕ) → has r.removed n ≡ false → map.get now n ≡ map.get m n
+  as_before n h = s.contents n ∙ ap (λ (b : Bool). cond b None (map.get m n)) h
+
+  pub leaves : Leaves list m now r.failed
+  leaves = record {
+    stays = λ n here why. as_before n (not_removed n (elim why [ inl h ↦ or_left (has r.failed n) (has r.kept n) h | inr w ↦ or_right (has r.failed n) (has r.kept n) (reach w.0 w.2.0 n (or_left (has r.failed w.0) (has r.kept w.0) w.1) w.2.1 here) ]));
+    goes = λ n here no. elim (or_cases (has r.removed n) (has r.failed n || has r.kept n) (sym (s.sorted n) ∙ here)) [
+      | inl h ↦ s.contents n ∙ ap (λ (b : Bool). cond b None (map.get m n)) h
+      | inr h ↦ absurd (no (elim (or_cases (has r.failed n) (has r.kept n) h) [ inl a ↦ inl a | inr b ↦ inr (s.why n b) ]))
+    ];
+    others = λ n out. as_before n (or_none (has r.removed n) (has r.failed n || has r.kept n) (sym (s.sorted n) ∙ out)).0;
+    failed_listed = λ f h. in_list f (or_right (has r.removed f) (has r.failed f || has r.kept f) (or_left (has r.failed f) (has r.kept f) h));
+    apart = λ f g hf hg above. not_both (has r.kept f) (reach g above.0 f (or_left (has r.failed g) (has r.kept g) hg) above.1 (in_list f (or_right (has r.removed f) (has r.failed f || has r.kept f) (or_left (has r.failed f) (has r.kept f) hf)))) (s.tried f hf);
+  }

@@ -1,0 +1,7 @@
+pub mod Shards
+pub mod Sweep
+pub mod Singles
+pub mod Lanes
+pub mod Backed
+pub mod Planned
+pub mod Swept

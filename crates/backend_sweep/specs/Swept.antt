@@ -1,0 +1,51 @@
+-- What a sweep of all backends did, and what it left.
+use Rattle.std.specs.Prelude.{◌≡◌, ◌+◌, ◌≤◌, ℕ, Bool, true, false, List, length, filter, slice_get}
+use Rattle.std.specs.Option.{option_map_or}
+use Rattle.std.specs.Vec.{vec_capacity}
+use Rattle.meta_types.specs.Text.{Text}
+use Rattle.meta_types.specs.Rows.{Tables, BackLists}
+use Rattle.meta_types.specs.Backends.{BackNames, IsFailure, no_objects, removed_objects, collected_backends}
+use Rattle.back_model.specs.Shown.{Shard, all_snaps}
+use Rattle.backend_sweep.specs.declared.room.Room.{Room}
+
+-- what the backends hold (ours)
+abbrev pub held_in : List Shard → List Text → List ℕ → BackLists
+held_in shards blobs ingests = record { blobs = blobs; snapshots = all_snaps shards; ingests = ingests }
+
+-- what was removed, and what the device failed; and names that there is room for (ours)
+pub record AllSwept : Type 0 where
+  pub removed : BackNames
+  pub failed : BackNames
+  pub room : BackNames
+
+-- each list has room for the names (ours)
+abbrev pub HasRoom : {X : Type 0} → Room X → Type 0
+HasRoom r = (length r.removed.items + length r.names.items ≤ vec_capacity r.removed) × (length r.failed.items + length r.names.items ≤ vec_capacity r.failed)
+
+-- of these some were removed and some failed, in their order, and none did both (ours)
+pub record AreDealt {X : Type 0} (names removed failed : List X) : Type 0 where
+  pub goes : X → Bool
+  pub fails : X → Bool
+  pub apart : (x : X) → goes x ≡ true → fails x ≡ false
+  pub removed_is : removed ≡ filter goes names
+  pub failed_is : failed ≡ filter fails names
+
+-- this name stands at that place (ours)
+abbrev pub is_at : {X : Type 0} → (X → X → Bool) → List X → ℕ → X → Bool
+is_at same list place name = option_map_or (λ other. same other name) (slice_get list place) false
+
+-- of all these names (ours)
+pub record AreOf (names : BackNames) (swept : AllSwept) : Type 0 where
+  pub blobs : AreDealt names.blobs swept.removed.blobs swept.failed.blobs
+  pub ingests : AreDealt names.ingests swept.removed.ingests swept.failed.ingests
+  pub snapshots : AreDealt names.snapshots swept.removed.snapshots swept.failed.snapshots
+
+-- what these tables don't own is gone, but for failed removals and what is above those (ours)
+pub record IsSwept (tables : Tables) (old new : BackLists) (removed failed : BackNames) : Type 0 where
+  pub may_fail : IsFailure tables old failed
+  pub removed_is : removed ≡ removed_objects tables failed old
+  pub left_is : new ≡ collected_backends tables failed old
+
+-- how many objects are named (ours)
+abbrev pub count_names : BackNames → ℕ
+count_names names = length names.blobs + length names.ingests + length names.snapshots

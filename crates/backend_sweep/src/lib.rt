@@ -1,0 +1,19 @@
+//! Removal of backend objects, shard by shard.
+#![tactic(auto)]
+
+mod backends;
+mod gate;
+mod jobs;
+mod lanes;
+mod numbers;
+mod room;
+mod shard;
+mod shard_swept;
+mod singles;
+mod swept;
+
+pub use backends::{sweep_plain, sweep_shards};
+pub use gate::{OpenSweepGate, SweepGate};
+pub use shard::sweep_shard;
+pub use shard_swept::ShardSwept;
+pub use swept::Swept;

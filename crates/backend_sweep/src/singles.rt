@@ -1,0 +1,50 @@
+//! The sweep of blobs and of ingests.
+ghost use Rattle.std.specs.Prelude.{◌≡◌, ◌≤◌, [], length, bytes_eq};
+ghost use Rattle.std.specs.Vec.{vec_capacity};
+ghost use Rattle.backend_sweep.specs.Singles.{AreHeldOnce, SweepsEach};
+ghost use Rattle.backend_sweep.specs.Shards.{is_number};
+
+use back_model::{BlobBackend, IngestBackend};
+use meta_types::Digest;
+
+/// Removes the blobs. What the device fails stays. It takes no memory.
+pub(crate) fn sweep_blobs<B: BlobBackend>(
+    backend: &mut B,
+    list: Vec<Digest>,
+    removed: &mut Vec<Digest>,
+    failed: &mut Vec<Digest>,
+)
+    requires list { AreHeldOnce bytes_eq list.items (B.contents backend.old) }
+    requires removed { (removed.old.items ≡ []) × (length list.items ≤ vec_capacity removed.old) }
+    requires failed { (failed.old.items ≡ []) × (length list.items ≤ vec_capacity failed.old) }
+    ensures { SweepsEach bytes_eq list.items (B.contents backend.old) (B.contents backend.new)
+        removed.new.items failed.new.items (B.fails backend.old) (B.fails backend.new) }
+{
+    for digest in list {
+        match backend.remove(&digest) {
+            Ok(()) => removed.push_reserved(digest),
+            Err(_) => failed.push_reserved(digest),
+        }
+    }
+}
+
+/// Removes the ingests' objects. What the device fails stays. It takes no memory.
+pub(crate) fn sweep_ingests<I: IngestBackend>(
+    backend: &mut I,
+    list: Vec<u64>,
+    removed: &mut Vec<u64>,
+    failed: &mut Vec<u64>,
+)
+    requires list { AreHeldOnce is_number list.items (I.contents backend.old) }
+    requires removed { (removed.old.items ≡ []) × (length list.items ≤ vec_capacity removed.old) }
+    requires failed { (failed.old.items ≡ []) × (length list.items ≤ vec_capacity failed.old) }
+    ensures { SweepsEach is_number list.items (I.contents backend.old) (I.contents backend.new)
+        removed.new.items failed.new.items (I.fails backend.old) (I.fails backend.new) }
+{
+    for number in list {
+        match backend.remove(number) {
+            Ok(()) => removed.push_reserved(number),
+            Err(_) => failed.push_reserved(number),
+        }
+    }
+}

@@ -1,9 +1,0 @@
-use Rattle.std.proofs.Common.{◌≡◌, true, rules}
-use Rattle.object_tables.specs.Calls.{is_above}
-use Rattle.object_tables.proofs.Above.{ingest_above}
-use Rattle.gc_graph.proofs.tests.add_ingest.Goals as goal
-
-pub add_ingest-requires : goal.add_ingest-requires
-add_ingest-requires c =
-    let above : is_above c.args.tables.now c.args.number ≡ true = search rules in
-    record { numbered = λ fine. ingest_above c.args.tables.now _ c.is_above.ensures.sound above }

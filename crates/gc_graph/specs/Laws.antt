@@ -1,0 +1,19 @@
+-- What marks on a store's graph say of the store. The statement is the contract of a function of the module `laws`.
+use Rattle.std.specs.Prelude.{◌≡◌, ℕ, List, ◌↔◌, ℤ}
+use Rattle.meta_types.specs.Rows.{Records}
+use Rattle.meta_types.specs.Paths.{TellsReached}
+use Rattle.mark_core.specs.Bits.{bit_of}
+use Rattle.mark_core.specs.Reach.{Reached}
+use Rattle.mark_core.specs.declared.graph.Graph.{Graph}
+use Rattle.gc_graph.specs.declared.node.Node.{Node}
+use Rattle.gc_graph.specs.Built.{IsBuilt}
+use Rattle.gc_graph.specs.Marked.{reached_by}
+
+-- a bit is set exactly where its number is reached (ours)
+abbrev pub AreReached : Graph → List ℕ → Type 0
+AreReached graph marks = (n : ℕ) → (bit_of marks n ≡ 1) ↔ Reached graph n
+
+-- marks that are the reached numbers of a store's graph tell where its paths end (ours)
+abbrev pub MarksTellWherePathsEnd : Type 0
+MarksTellWherePathsEnd = (records : Records) (at : ℤ) (book : List Node) (graph : Graph) (marks : List ℕ) → IsBuilt records at book graph → AreReached graph marks
+    → TellsReached records at (reached_by records.profile book marks at)

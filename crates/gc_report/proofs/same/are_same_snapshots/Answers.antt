@@ -1,0 +1,5 @@
+use Rattle.meta_types.proofs.Decided.{told_by, listed, ◌⊗◌, text, number}
+use Rattle.gc_report.proofs.same.are_same_snapshots.Goals as goal
+
+pub returns : goal.returns
+returns c = told_by c.eq.ensures ((listed (text ⊗ number)).decides c.args.one.now c.args.two.now)

@@ -1,0 +1,133 @@
+-- Snapshots go in an order: by snapshotter, the deepest first, then by number. Of two that differ one goes before the other, and not the other way.
+use Rattle.std.proofs.Common.{◌≡◌, ℕ, Bool, true, false, refl, sym, ap, ◌∙◌, cond, List, inl, inr}
+use Rattle.std.specs.Prelude.{◌&&◌, ◌||◌, ◌==◌, nat_lt}
+use Rattle.std.specs.declared.cmp.Ordering.{Ordering}
+use Rattle.std.specs.declared.cmp.Ordering.TheVariants.{Less, Equal, Greater}
+use Rattle.std.specs.Ordering.{is_lt, is_eq, nat_cmp, ordering_reverse, ordering_then}
+use Rattle.std.specs.Cmp.{IsTotalOrder, nat_cmp_total, unsigned_tied, nat_eq_equiv}
+use Rattle.std.specs.Cmp.Lexicographic.{nat_list_cmp_total}
+use Rattle.std.proofs.lemmas.Bool.{cases_Bool, both_ways}
+use Rattle.std.proofs.lemmas.Map.Text.{is_eq-slice_cmp}
+use Rattle.std.proofs.lemmas.Cmp.{on_total}
+use Rattle.meta_types.specs.Text.{text_cmp}
+use Rattle.meta_types.specs.Rows.{BackSnap}
+use Rattle.meta_types.specs.Backends.{depth_of, goes_before}
+
+less_number : (a b : Bool) → is_lt (cond a Less (cond b Equal Greater)) ≡ a
+less_number true b = refl
+less_number false true = refl
+less_number false false = refl
+
+is_lt-nat : (a b : ℕ) → is_lt (nat_cmp a b) ≡ nat_lt a b
+is_lt-nat a b = less_number (nat_lt a b) (a == b)
+
+is_eq-nat : (a b : ℕ) → is_eq (nat_cmp a b) ≡ (b == a)
+is_eq-nat a b = unsigned_tied a b ∙ nat_eq_equiv.symm a b
+
+-- ---- one order after another
+
+both_reversed : (r s : Ordering) → ordering_then (ordering_reverse r) (ordering_reverse s) ≡ ordering_reverse (ordering_then r s)
+both_reversed Less s = refl
+both_reversed Equal s = refl
+both_reversed Greater s = refl
+
+module _ {X : Type 0} (R S : X → X → Ordering) (r : IsTotalOrder R) (s : IsTotalOrder S) where
+  abbrev then : X → X → Ordering
+  then x y = ordering_then (R x y) (S x y)
+
+  -- what ties with another compares as that one
+  from_tied : (x y z : X) → R y z ≡ Equal → R x z ≡ R x y
+  from_tied x y z e = r.antisymm x z ∙ ap ordering_reverse (sym (r.congr y z x e)) ∙ sym (r.antisymm x y)
+
+  then_trans : (x y z : X) → ordering_then (R x y) (S x y) ≡ Less → ordering_then (R y z) (S y z) ≡ Less → ordering_then (R x z) (S x z) ≡ Less
+  then_trans x y z h k = go (R x y) (R y z) refl refl h k
+    where
+      go : (a b : Ordering) → R x y ≡ a → R y z ≡ b → ordering_then a (S x y) ≡ Less → ordering_then b (S y z) ≡ Less → ordering_then (R x z) (S x z) ≡ Less
+      go Less Less e f h k = rw (r.trans x y z e f) refl
+      go Less Equal e f h k = rw (from_tied x y z f ∙ e) refl
+      go Less Greater e f h k = absurd cc
+      go Equal Less e f h k = rw (r.congr x y z e ∙ f) refl
+      go Equal Equal e f h k = rw (r.congr x y z e ∙ f) (s.trans x y z h k)
+      go Equal Greater e f h k = absurd cc
+      go Greater b e f h k = absurd cc
+
+  then_congr : (x y z : X) → ordering_then (R x y) (S x y) ≡ Equal → ordering_then (R x z) (S x z) ≡ ordering_then (R y z) (S y z)
+  then_congr x y z h = go (R x y) refl h
+    where
+      go : (a : Ordering) → R x y ≡ a → ordering_then a (S x y) ≡ Equal → ordering_then (R x z) (S x z) ≡ ordering_then (R y z) (S y z)
+      go Less e h = absurd cc
+      go Equal e h = λ i. ordering_then (r.congr x y z e i) (s.congr x y z h i)
+      go Greater e h = absurd cc
+
+  pub then_total : IsTotalOrder then
+  then_total = record {
+    antisymm = λ x y. (λ i. ordering_then (r.antisymm x y i) (s.antisymm x y i)) ∙ both_reversed (R y x) (S y x);
+    trans = then_trans;
+    congr = then_congr;
+  }
+
+-- ---- the order of keys
+
+deepest_total : IsTotalOrder (λ (a b : ℕ). nat_cmp b a)
+deepest_total = record {
+  antisymm = λ x y. nat_cmp_total.antisymm y x;
+  trans = λ x y z h k. nat_cmp_total.trans z y x k h;
+  congr = λ x y z e. back x y z e;
+}
+  where
+    back : (x y z : ℕ) → nat_cmp y x ≡ Equal → nat_cmp z x ≡ nat_cmp z y
+    back x y z e = from_tied nat_cmp nat_cmp nat_cmp_total nat_cmp_total z y x e
+
+module _ (all : List BackSnap) where
+  abbrev go_cmp : BackSnap → BackSnap → Ordering
+  go_cmp a b = ordering_then (ordering_then (text_cmp a.snapshotter b.snapshotter) (nat_cmp (depth_of all b) (depth_of all a))) (nat_cmp a.number b.number)
+
+  go_total : IsTotalOrder go_cmp
+  go_total =
+      then_total (λ (a b : BackSnap). ordering_then (text_cmp a.snapshotter b.snapshotter) (nat_cmp (depth_of all b) (depth_of all a))) (λ (a b : BackSnap). nat_cmp a.number b.number)
+      (then_total (λ (a b : BackSnap). text_cmp a.snapshotter b.snapshotter) (λ (a b : BackSnap). nat_cmp (depth_of all b) (depth_of all a))
+      (on_total (λ (k : BackSnap). k.snapshotter) nat_list_cmp_total) (on_total (λ (k : BackSnap). depth_of all k) deepest_total))
+      (on_total (λ (k : BackSnap). k.number) nat_cmp_total)
+
+  goes_is : (a b : BackSnap) → goes_before all a b ≡ is_lt (go_cmp a b)
+  goes_is a b =
+      (λ i. is_lt (text_cmp a.snapshotter b.snapshotter) || sym (is_eq-slice_cmp a.snapshotter b.snapshotter) i
+      && (sym (is_lt-nat (depth_of all b) (depth_of all a)) i || sym (is_eq-nat (depth_of all b) (depth_of all a)) i && sym (is_lt-nat a.number b.number) i))
+      ∙ go (text_cmp a.snapshotter b.snapshotter) (nat_cmp (depth_of all b) (depth_of all a)) (nat_cmp a.number b.number)
+    where
+      go : (r s t : Ordering) → (is_lt r || is_eq r && (is_lt s || is_eq s && is_lt t)) ≡ is_lt (ordering_then (ordering_then r s) t)
+      go Less s t = refl
+      go Equal Less t = refl
+      go Equal Equal Less = refl
+      go Equal Equal Equal = refl
+      go Equal Equal Greater = refl
+      go Equal Greater t = refl
+      go Greater s t = refl
+
+  less : (r : Ordering) → is_lt r ≡ true → r ≡ Less
+  less Less h = refl
+  less Equal h = absurd cc
+  less Greater h = absurd cc
+
+  one_way_cmp : (x y : BackSnap) → is_lt (go_cmp x y) ≡ true → is_lt (go_cmp y x) ≡ false
+  one_way_cmp x y h = ap is_lt (go_total.antisymm y x ∙ ap ordering_reverse (less (go_cmp x y) h))
+
+  further : (x y z : BackSnap) → is_lt (go_cmp y x) ≡ false → is_lt (go_cmp z y) ≡ false → is_lt (go_cmp z x) ≡ false
+  further x y z h k = go (go_cmp y x) refl h
+    where
+      go : (r : Ordering) → go_cmp y x ≡ r → is_lt r ≡ false → is_lt (go_cmp z x) ≡ false
+      go Less e n = absurd cc
+      go Equal e n = ap is_lt (from_tied go_cmp go_cmp go_total go_total z y x e) ∙ k
+      go Greater e n = elim (cases_Bool (is_lt (go_cmp z x))) [
+        | inl t ↦ (
+            let xy : go_cmp x y ≡ Less = go_total.antisymm x y ∙ ap ordering_reverse e in
+            let zy : go_cmp z y ≡ Less = go_total.trans z x y (less (go_cmp z x) t) xy in
+            absurd (both_ways (is_lt (go_cmp z y)) k (ap is_lt zy)))
+        | inr f ↦ f
+      ]
+
+  pub one_way : (x y : BackSnap) → goes_before all x y ≡ true → goes_before all y x ≡ false
+  one_way x y h = goes_is y x ∙ one_way_cmp x y (sym (goes_is x y) ∙ h)
+
+  pub chain : (x y z : BackSnap) → goes_before all x y ≡ false → goes_before all y z ≡ false → goes_before all x z ≡ false
+  chain x y z h k = goes_is x z ∙ further z y x (sym (goes_is y z) ∙ k) (sym (goes_is x y) ∙ h)

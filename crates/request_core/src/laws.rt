@@ -1,0 +1,10 @@
+//! Laws of requests and histories, each as the contract of a function that does nothing.
+ghost use Rattle.request_core.specs.Laws.{ARequestKeepsAStoreSound, ARemovalByNameKeepsAStoreSound, AnEventKeepsAStoreSound, AHistoryKeepsAStoreSound};
+
+/// Each event of a history keeps a sound store sound, and so does the whole history.
+pub fn histories_keep_stores_sound()
+    ensures a_request_keeps_a_store_sound { ARequestKeepsAStoreSound }
+    ensures a_removal_by_name_keeps_a_store_sound { ARemovalByNameKeepsAStoreSound }
+    ensures an_event_keeps_a_store_sound { AnEventKeepsAStoreSound }
+    ensures a_history_keeps_a_store_sound { AHistoryKeepsAStoreSound }
+{}

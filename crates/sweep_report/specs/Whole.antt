@@ -1,0 +1,46 @@
+-- The report of a plan and of what was swept, and what the three come to.
+use Rattle.std.specs.Prelude.{◌≡◌, ℕ, Bool, true, false, ℤ, length, if◌then◌else◌}
+use Rattle.meta_types.specs.Rows.{Tables, Records, BackLists, State}
+use Rattle.meta_types.specs.Backends.{BackNames, no_objects, removed_objects}
+use Rattle.meta_types.specs.Reports.{Report, Collects, Plans}
+use Rattle.table_sweep.specs.declared.planning.Plan.{Plan}
+use Rattle.table_sweep.specs.Stays.{AreMasks}
+use Rattle.meta_types.specs.Paths.{Thing}
+use Rattle.meta_types.specs.Collected.{collected_records}
+use Rattle.backend_sweep.specs.Planned.{IsPlanOf}
+use Rattle.backend_sweep.specs.Swept.{AllSwept, IsSwept}
+
+-- the report of a collection has what was swept; that of a dry run what the plan names, and no failure (ours)
+abbrev pub reported : Plan → AllSwept → Bool → Report
+reported plan swept dry = record {
+  backend = if dry then plan.backend else swept.removed;
+  dry = dry;
+  failed = if dry then no_objects else swept.failed;
+  ignored = plan.ignored.items;
+  ignored_images = plan.ignored_images.items;
+  kept = plan.kept;
+  profile = plan.profile;
+  removed = plan.removed;
+  scanned = plan.scanned;
+}
+
+-- the plan of a store (ours)
+abbrev pub IsPlanOfStore : State → ℤ → Plan → Type 0
+IsPlanOfStore state at plan = IsPlanOf state.records (length state.records.tables.namespaces) state.backends at plan
+
+-- the backends are swept of what the plan names (ours)
+abbrev pub SweepsBackends : Plan → BackLists → AllSwept → BackLists → Type 0
+SweepsBackends plan old swept new = (tables : Tables) → plan.backend ≡ removed_objects tables no_objects old → IsSwept tables old new swept.removed swept.failed
+
+-- the records are swept of what the masks don't keep (ours)
+abbrev pub SweepsRecords : Plan → Records → Records → Type 0
+SweepsRecords plan old new = (at : ℤ) (reached : Thing → Bool) → AreMasks old at reached plan.masks → new ≡ collected_records at reached old
+
+-- a plan of a store, both sweeps by it and the report are a collection, with the failures of the sweep (ours)
+abbrev pub ASweptPlanIsACollection : Type 0
+ASweptPlanIsACollection = (state : State) (at : ℤ) (plan : Plan) (swept : AllSwept) (records : Records) (back : BackLists) → IsPlanOfStore state at plan → SweepsRecords plan state.records records → SweepsBackends plan state.backends swept back
+    → Collects state at swept.failed (reported plan swept false) (record { records = records; backends = back })
+
+-- a plan of a store and its report are a dry run (ours)
+abbrev pub APlanIsADryRun : Type 0
+APlanIsADryRun = (state : State) (at : ℤ) (plan : Plan) (swept : AllSwept) → IsPlanOfStore state at plan → Plans state at (reported plan swept true)

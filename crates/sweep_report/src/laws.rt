@@ -1,0 +1,9 @@
+//! What plan, sweep and report come to together, as the contract of a function that does nothing.
+ghost use Rattle.sweep_report.specs.Whole.{ASweptPlanIsACollection, APlanIsADryRun};
+
+/// The plan of a store, the sweeps by it and its report are a collection of that store; a plan and
+/// its report are a dry run.
+pub fn a_plan_swept_and_reported_is_a_collection()
+    ensures collects { ASweptPlanIsACollection }
+    ensures plans { APlanIsADryRun }
+{}

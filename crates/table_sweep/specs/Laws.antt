@@ -1,0 +1,31 @@
+-- A plan follows the paths. Each statement is the contract of a function of the module `laws`.
+use Rattle.std.specs.Prelude.{ℕ, List, ◌↔◌, ℤ, Contains}
+use Rattle.meta_types.specs.Rows.{Records, BackLists}
+use Rattle.meta_types.specs.Paths.{ingest, content, snapshot, IsReached}
+use Rattle.meta_types.specs.declared.rows.ContentRow.{ContentRow}
+use Rattle.meta_types.specs.declared.rows.IngestRow.{IngestRow}
+use Rattle.meta_types.specs.declared.rows.SnapRow.{SnapRow}
+use Rattle.meta_types.specs.declared.resource.Mode.{Mode}
+use Rattle.mark_core.specs.declared.graph.Graph.{Graph}
+use Rattle.gc_graph.specs.declared.node.Node.{Node}
+use Rattle.gc_graph.specs.Built.{AreApart, IsBuilt}
+use Rattle.gc_graph.specs.Laws.{AreReached}
+use Rattle.gc_graph.specs.Marked.{reached_by}
+use Rattle.table_sweep.specs.declared.planning.Plan.{Plan}
+use Rattle.table_sweep.specs.Plans.{IsPlan, IsPlanOf}
+
+-- by the graph of the store and its reached numbers, a plan is that of a collection (ours)
+abbrev pub ReachedMarksPlanACollection : Type 0
+ReachedMarksPlanACollection = (records : Records) (namespaces : ℕ) (back : BackLists) (at : ℤ) (book : List Node) (graph : Graph) (marks : List ℕ) (plan : Plan)
+    → IsBuilt records at book graph → AreReached graph marks → IsPlan records namespaces back at (reached_by records.profile book marks at) plan → IsPlanOf records namespaces back at plan
+
+-- a row is among those that go exactly where no path leads to it, in either mode (containerd garbage-collection.md)
+pub record GoesWhatNoPathLeadsTo (records : Records) (at : ℤ) (plan : Plan) : Type 0 where
+  pub content_rows : (row : ContentRow) → Contains records.tables.content row → Contains plan.removed.content (row.ns, row.digest) ↔ ((mode : Mode) → IsReached records at (content mode row) → ⊥)
+  pub snapshot_rows : (row : SnapRow) → Contains records.tables.snapshots row
+      → Contains plan.removed.snapshots (row.key.ns, row.key.snapshotter, row.key.name) ↔ ((mode : Mode) → IsReached records at (snapshot mode row) → ⊥)
+  pub ingest_rows : (row : IngestRow) → Contains records.tables.ingests row → Contains plan.removed.ingests (row.ns, row.name) ↔ (IsReached records at (ingest row) → ⊥)
+
+-- a plan names just what no path leads to (ours)
+abbrev pub APlanFollowsThePaths : Type 0
+APlanFollowsThePaths = (records : Records) (namespaces : ℕ) (back : BackLists) (at : ℤ) (plan : Plan) → AreApart records → IsPlanOf records namespaces back at plan → GoesWhatNoPathLeadsTo records at plan
