@@ -206,4 +206,3 @@ module _ {Row : Type 0} (key_of : Row → Key) where
         ∙ sym (ap (add_row key_of row) (joined_at lists i d at.within)
         ∙ added_front (joined (take i lists)) (get_or lists i d ++ joined (drop (suc i) lists)) at.before
         ∙ ap (λ rows. joined (take i lists) ++ rows) (added_back (get_or lists i d) (joined (drop (suc i) lists)) at.behind))
-

@@ -1,5 +1,6 @@
 //! Rows of all namespaces.
 ghost use Rattle.std.specs.Prelude.{◌≡◌, ◌∷◌, [], map, false, None, IfOk, IfSome, IfNone, OnOk, OnErr, IsTrue, length, filter, bytes_eq, option_copied};
+ghost use Rattle.std.specs.Bool.{OnFalse};
 ghost use Rattle.std.specs.List.{list_any};
 ghost use Rattle.meta_types.specs.Keys.{are_in_order, row_at, has_row, add_row, remove_row};
 ghost use Rattle.meta_types.specs.Faults.{Refuses};
@@ -88,6 +89,20 @@ impl<K: Named, R: NamespaceRow<K>> ByNamespace<K, R> {
             (ns.now ∷ K.texts_of name.now) self.old }
     {
         groups::take_row(&mut self.groups, ns, name)
+    }
+
+    /// The row of a namespace and a name goes; says whether it was there. It takes no memory.
+    pub fn remove(&mut self, ns: &ShortName, name: &K) -> bool
+        ensures found { result ≡ has_row (full_key K.texts_of R.name_of R.ns_of)
+            (ns.now ∷ K.texts_of name.now) self.old }
+        ensures left { self.new ≡ remove_row (full_key K.texts_of R.name_of R.ns_of)
+            (ns.now ∷ K.texts_of name.now) self.old }
+        ensures same { OnFalse result (self.new ≡ self.old) }
+    {
+        match self.take(ns, name) {
+            Some(_row) => true,
+            None => false,
+        }
     }
 
     /// Changes the row of a namespace and a name in its place; nothing is answered where there is

@@ -88,8 +88,11 @@ impl<K: Named, R: NamespaceRow<K>> Group<K, R> {
     pub(crate) fn take(&mut self, name: &K) -> Option<R>
         ensures row { result
             ≡ row_at (by_name K.texts_of R.name_of) (K.texts_of name.now) self.old.1 }
-        ensures left { self.new ≡ (self.old.0, remove_row (by_name K.texts_of R.name_of)
-            (K.texts_of name.now) self.old.1) }
+        ensures left { self.new ≡ (
+          self.old.0,
+          remove_row (by_name K.texts_of R.name_of)
+              (K.texts_of name.now) self.old.1,
+        ) }
     {
         self.rows.take(name)
     }

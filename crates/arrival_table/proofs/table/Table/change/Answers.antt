@@ -32,6 +32,9 @@ returns-clause-changed g c =
     let es = c.self.inside.rows.entries in
     let there = value_at g.K.PartialEq.eq g.K.Named.texts_of g.R.Row.name_of g.met.K.Named.same es c.in-Some.place (c.in-Some._name.now, c.in-Some._row.now) c.in-Some.ensures.entry in
     let done = changed_entry g.K.PartialEq.eq g.K.Named.texts_of g.R.Row.name_of g.met.K.Named.same es c.in-Some.place c.index_mut.result.now c.change.new.row
-    c.index_mut.ensures.value (g.met.C.Change.keeps_name _ _ _ _ c.change.ensures) c.self.invariant c.args.name.now (sym c.in-Some.ensures.value ∙ sym there ∙ c.index_mut.ensures.value) in
-    (c.index_mut.result.now, c.change.new.row, c.change.ensures,
-    subst (λ (rows : List g.row.R.Denot). Becomes key_of (g.K.Named.texts_of c.args.name.now) c.index_mut.result.now c.change.new.row (sorted key_of rows) (sorted key_of (values_of (set_value_at es c.in-Some.place c.change.new.row)))) c.self.view_is done)
+    c.index_mut.ensures.value (g.met.C.Change.keeps_name _ _ _ _ c.change.ensures) c.self.invariant c.args.name.now (sym c.in-Some.ensures.value ∙ sym there ∙ c.index_mut.ensures.value) in (
+      c.index_mut.result.now,
+      c.change.new.row,
+      c.change.ensures,
+      subst (λ (rows : List g.row.R.Denot). Becomes key_of (g.K.Named.texts_of c.args.name.now) c.index_mut.result.now c.change.new.row (sorted key_of rows) (sorted key_of (values_of (set_value_at es c.in-Some.place c.change.new.row)))) c.self.view_is done,
+    )
