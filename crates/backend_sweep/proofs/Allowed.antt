@@ -1,6 +1,6 @@
 -- What the plan of a sound store names may be swept.
 use Rattle.std.proofs.Common.{◌≡◌, ℕ, ◌<◌, Bool, true, false, not, sym, ap, ◌∙◌, subst, refl, ℤ, length}
-use Rattle.std.specs.Prelude.{Contains, Option, IfSome, IsTrue, filter, bytes_eq, ◌==◌, ◌&&◌, ◌||◌}
+use Rattle.std.specs.Prelude.{Contains, Option, IfSome, IsTrue, filter, bytes_eq, ◌==◌}
 use Rattle.std.specs.List.{list_any}
 use Rattle.std.proofs.lemmas.Bool.{and_parts, both_ways}
 use Rattle.std.proofs.lemmas.Bool.Decides.{Decides-eqb}

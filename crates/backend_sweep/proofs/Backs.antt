@@ -21,7 +21,7 @@ use Rattle.backend_sweep.specs.Sweep.{Childfirst}
 use Rattle.backend_sweep.specs.Singles.{AreHeldOnce, SweepsEach}
 use Rattle.backend_sweep.specs.Lanes.{Laned, lane_for, IsReady, SweepsLane, is_removed, is_failed}
 use Rattle.backend_sweep.specs.Backed.{MaySweep}
-use Rattle.backend_sweep.specs.Swept.{held_in, IsSwept, AreDealt, count_names}
+use Rattle.backend_sweep.specs.Swept.{held_in, IsSwept, count_names}
 use Rattle.backend_sweep.proofs.Zipped.{Triple, olds_of, lanes_of, news_of, One, Zips, zipped}
 use Rattle.backend_sweep.proofs.Counting.{counted}
 use Rattle.backend_sweep.proofs.Ends.{held_once, texts_apart, numbers_apart, first_by, swept}

@@ -1,13 +1,12 @@
 -- All devices together failed as often as removals of snapshots failed.
-use Rattle.std.proofs.Common.{◌≡◌, ℕ, ◌+◌, List, [], ◌∷◌, length, Bool, true, false, not, refl, sym, ◌∙◌, ap, subst, inl, inr, arith}
+use Rattle.std.proofs.Common.{◌≡◌, ℕ, ◌+◌, List, [], ◌∷◌, length, Bool, true, false, refl, sym, ◌∙◌, ap, inl, inr, arith}
 use Rattle.std.specs.Prelude.{Option, Some, None, bytes_eq, find, filter, cond, Contains, ◌&&◌, ◌||◌}
 use Rattle.std.specs.Option.{option_map_or}
 use Rattle.std.proofs.lemmas.List.{length-map}
 use Rattle.std.proofs.lemmas.Bool.{cases_Bool, both_ways, and_parts, false_from_ne_true}
 use Rattle.std.proofs.lemmas.Slice.Eq.{bytes_eq-Decides}
 use Rattle.meta_types.specs.Text.{Text, text_cmp}
-use Rattle.meta_types.proofs.Members.{here, later, none_in_nothing, first_or_later}
-use Rattle.meta_types.proofs.Found.{found_is}
+use Rattle.meta_types.proofs.Members.{here, later}
 use Rattle.std.specs.declared.cmp.Ordering.TheVariants.{Less}
 use Rattle.back_model.specs.Shown.{AreApart, all_failures}
 use Rattle.back_model.proofs.Places.{apart_head, apart_rest}

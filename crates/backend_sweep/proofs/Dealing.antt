@@ -1,5 +1,5 @@
 -- What was removed and what failed are dealt from the names.
-use Rattle.std.proofs.Common.{◌≡◌, ℕ, Bool, true, false, not, List, refl, ap}
+use Rattle.std.proofs.Common.{◌≡◌, ℕ, Bool, true, false, not, List, refl}
 use Rattle.std.specs.Prelude.{Option, Some, None, bytes_eq, find, filter, ◌||◌}
 use Rattle.std.specs.Option.{option_map_or}
 use Rattle.meta_types.specs.Text.{Text}

@@ -1,4 +1,7 @@
+pub mod Listing
+pub mod Blocking
 pub mod Sweeping
+pub mod Leaving
 pub mod Children
 pub mod Found
 pub mod Ancestry

@@ -18,7 +18,7 @@ use Rattle.back_model.specs.Snaps.{Snaps}
 use Rattle.back_model.specs.Shown.{Shard, AreApart, snaps_at, back_snap, all_snaps}
 use Rattle.backend_sweep.specs.Shards.{IsChild, IsHeld, has}
 use Rattle.backend_sweep.specs.Sweep.{Climbs, IsAncestor, Sweeps, Swept, Childfirst}
-use Rattle.backend_sweep.proofs.Sweeping.{leaves}
+use Rattle.backend_sweep.proofs.Leaving.{leaves}
 use Rattle.backend_sweep.proofs.Ancestry.{found, found_at, stands, climbed}
 
 -- what a sweep of the shard was given, and what it did

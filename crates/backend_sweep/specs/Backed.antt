@@ -1,5 +1,5 @@
 -- Which names may be swept.
-use Rattle.std.specs.Prelude.{◌≡◌, ◌<◌, ℕ, true, Contains, AllPairs, IsTrue}
+use Rattle.std.specs.Prelude.{◌≡◌, ◌<◌, true, Contains, AllPairs, IsTrue}
 use Rattle.meta_types.specs.Keys.{are_in_order}
 use Rattle.meta_types.specs.Rows.{Tables, BackLists, BackSnap, namespace_key}
 use Rattle.meta_types.specs.Changes.{stands_before}

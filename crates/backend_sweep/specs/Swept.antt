@@ -46,6 +46,10 @@ pub record IsSwept (tables : Tables) (old new : BackLists) (removed failed : Bac
   pub removed_is : removed ≡ removed_objects tables failed old
   pub left_is : new ≡ collected_backends tables failed old
 
+-- of what these names hold all is swept, for any tables that leave just them without an owner (ours)
+abbrev pub SweepsNames : BackNames → BackLists → BackLists → AllSwept → Type 0
+SweepsNames names old new swept = (tables : Tables) → names ≡ removed_objects tables no_objects old → IsSwept tables old new swept.removed swept.failed
+
 -- how many objects are named (ours)
 abbrev pub count_names : BackNames → ℕ
 count_names names = length names.blobs + length names.ingests + length names.snapshots

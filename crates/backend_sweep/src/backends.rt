@@ -1,16 +1,14 @@
 //! The sweep of all backends.
 ghost use Rattle.std.specs.Prelude.{◌≡◌, ◌+◌, None, IfOk, OnErr};
-ghost use Rattle.meta_types.specs.Rows.{Tables};
 ghost use Rattle.meta_types.specs.Faults.{Refuses, unless};
 ghost use Rattle.meta_types.specs.Limits.{is_worker_count};
-ghost use Rattle.meta_types.specs.Backends.{no_objects, removed_objects};
 ghost use Rattle.meta_types.specs.declared.fault.Fault.TheVariants.{InvalidArgument};
 ghost use Rattle.back_model.specs.Shown.{all_failures};
 ghost use Rattle.backend_sweep.specs.Planned.{IsPlanned};
-ghost use Rattle.backend_sweep.specs.Swept.{held_in, AreOf, IsSwept, count_names};
+ghost use Rattle.backend_sweep.specs.Swept.{held_in, AreOf, SweepsNames, count_names};
 
 use crate::gate::SweepGate;
-use crate::jobs::{JobRoom, sweep_beside};
+use crate::jobs::{lanes_and_room, sweep_beside};
 use crate::lanes::{lanes_of, sweep_in_turn};
 use crate::swept::{Swept, finish};
 use back_model::{Backends, BlobBackend, IngestBackend, SnapBackend};
@@ -28,15 +26,12 @@ pub fn sweep_plain<S: SnapBackend, B: BlobBackend, I: IngestBackend>(
     requires { IsPlanned (held_in backends.old.shards (B.contents backends.old.blobs)
         (I.contents backends.old.ingests)) plan.now }
     ensures fault { Refuses result None }
-    ensures ok { IfOk result (λ swept. (tables : Tables)
-        → plan.now.backend ≡ removed_objects tables no_objects
-        (held_in backends.old.shards (B.contents backends.old.blobs)
-        (I.contents backends.old.ingests)) → IsSwept tables
+    ensures ok { IfOk result (SweepsNames plan.now.backend
         (held_in backends.old.shards (B.contents backends.old.blobs)
         (I.contents backends.old.ingests))
         (held_in backends.new.shards (B.contents backends.new.blobs)
-        (I.contents backends.new.ingests)) swept.removed swept.failed) }
-    ensures of { IfOk result (λ swept. AreOf plan.now.backend swept) }
+        (I.contents backends.new.ingests))) }
+    ensures of { IfOk result (AreOf plan.now.backend) }
     ensures count { IfOk result (λ swept. all_failures backends.new.shards
         + B.fails backends.new.blobs + I.fails backends.new.ingests
         ≡ all_failures backends.old.shards + B.fails backends.old.blobs
@@ -59,32 +54,23 @@ pub fn sweep_plain<S: SnapBackend, B: BlobBackend, I: IngestBackend>(
 
 /// Removes what the plan names: shards by so many workers, blobs and ingests on the calling thread.
 /// Nothing is removed where it is refused.
-pub fn sweep_shards<
-    R: Threads + Sync,
-    S: SnapBackend,
-    B: BlobBackend,
-    I: IngestBackend,
-    H: SweepGate,
->(
-    rt: &R,
+pub fn sweep_shards<S: SnapBackend, B: BlobBackend, I: IngestBackend>(
+    rt: &(impl Threads + Sync),
     alloc: Global,
     backends: &mut Backends<S, B, I>,
     plan: &Plan,
     workers: usize,
-    gate: &H,
+    gate: &impl SweepGate,
 ) -> Result<Swept, Fault>
     requires { IsPlanned (held_in backends.old.shards (B.contents backends.old.blobs)
         (I.contents backends.old.ingests)) plan.now }
     ensures fault { Refuses result (unless (is_worker_count workers) InvalidArgument) }
-    ensures ok { IfOk result (λ swept. (tables : Tables)
-        → plan.now.backend ≡ removed_objects tables no_objects
-        (held_in backends.old.shards (B.contents backends.old.blobs)
-        (I.contents backends.old.ingests)) → IsSwept tables
+    ensures ok { IfOk result (SweepsNames plan.now.backend
         (held_in backends.old.shards (B.contents backends.old.blobs)
         (I.contents backends.old.ingests))
         (held_in backends.new.shards (B.contents backends.new.blobs)
-        (I.contents backends.new.ingests)) swept.removed swept.failed) }
-    ensures of { IfOk result (λ swept. AreOf plan.now.backend swept) }
+        (I.contents backends.new.ingests))) }
+    ensures of { IfOk result (AreOf plan.now.backend) }
     ensures count { IfOk result (λ swept. all_failures backends.new.shards
         + B.fails backends.new.blobs + I.fails backends.new.ingests
         ≡ all_failures backends.old.shards + B.fails backends.old.blobs
@@ -96,15 +82,8 @@ pub fn sweep_shards<
     }
     let room = Swept::room(alloc, plan)?;
     let shards = backends.take_shards();
-    let lanes = match lanes_of(alloc, &shards, &plan.backend.snapshots) {
-        Ok(lanes) => lanes,
-        Err(fault) => {
-            backends.put_shards(shards);
-            return Err(fault);
-        }
-    };
-    let jobs = match JobRoom::room(alloc, shards.len()) {
-        Ok(jobs) => jobs,
+    let (lanes, jobs) = match lanes_and_room(alloc, &shards, &plan.backend.snapshots) {
+        Ok(made) => made,
         Err(fault) => {
             backends.put_shards(shards);
             return Err(fault);

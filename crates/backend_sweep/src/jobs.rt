@@ -3,10 +3,10 @@ ghost use Rattle.std.specs.Prelude.{◌≡◌, ◌<◌, ◌≤◌, ℕ, [], leng
 ghost use Rattle.std.specs.Vec.{vec_capacity};
 ghost use Rattle.meta_types.specs.Faults.{Refuses};
 ghost use Rattle.back_model.specs.Shown.{shown};
-ghost use Rattle.backend_sweep.specs.Lanes.{IsReady, SweepsLane};
+ghost use Rattle.backend_sweep.specs.Lanes.{lane_for, IsReady, SweepsLane};
 
 use crate::gate::SweepGate;
-use crate::lanes::{Lane, sweep_lane};
+use crate::lanes::{Lane, lanes_of, sweep_lane};
 use back_model::SnapBackend;
 use meta_types::{Fault, ShortName};
 use std::alloc::Global;
@@ -28,7 +28,7 @@ pub(crate) struct JobRoom<S: SnapBackend> {
 }
 
 impl<S: SnapBackend> JobRoom<S> {
-    pub(crate) fn room(alloc: Global, count: usize) -> Result<JobRoom<S>, Fault>
+    fn room(alloc: Global, count: usize) -> Result<JobRoom<S>, Fault>
         ensures fault { Refuses result None }
         ensures jobs { IfOk result (λ room. (room.jobs.items ≡ [])
             × (count ≤ vec_capacity room.jobs)) }
@@ -43,6 +43,27 @@ impl<S: SnapBackend> JobRoom<S> {
             lanes: Vec::with_capacity(alloc, count)?,
         })
     }
+}
+
+/// A lane a shard, and room for as many jobs.
+pub(crate) fn lanes_and_room<S: SnapBackend>(
+    alloc: Global,
+    shards: &[(ShortName, S)],
+    names: &[(ShortName, u64)],
+) -> Result<(Vec<Lane>, JobRoom<S>), Fault>
+    ensures fault { Refuses result None }
+    ensures lanes { IfOk result (λ made. made.0.items
+        ≡ map (λ entry. lane_for names.now entry.0) shards.now) }
+    ensures jobs { IfOk result (λ made. (made.1.jobs.items ≡ [])
+        × (length shards.now ≤ vec_capacity made.1.jobs)) }
+    ensures shards { IfOk result (λ made. (made.1.shards.items ≡ [])
+        × (length shards.now ≤ vec_capacity made.1.shards)) }
+    ensures lanes_left { IfOk result (λ made. (made.1.lanes.items ≡ [])
+        × (length shards.now ≤ vec_capacity made.1.lanes)) }
+{
+    let lanes = lanes_of(alloc, shards, names)?;
+    let room = JobRoom::room(alloc, shards.len())?;
+    Ok((lanes, room))
 }
 
 // Puts each shard beside its lane. It takes no memory.

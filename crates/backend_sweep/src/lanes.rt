@@ -6,8 +6,10 @@ ghost use Rattle.back_model.specs.Shown.{shown};
 ghost use Rattle.backend_sweep.specs.Shards.{numbers_of};
 ghost use Rattle.backend_sweep.specs.Sweep.{Childfirst, IsRoomFor, Sweeps};
 ghost use Rattle.backend_sweep.specs.Lanes.{lane_for, IsReady, SweepsLane, is_removed, is_failed};
+ghost use Rattle.backend_sweep.specs.Swept.{HasRoom};
 
 use crate::gate::{OpenSweepGate, SweepGate};
+use crate::room::Room;
 use crate::shard::sweep_shard;
 use crate::shard_swept::ShardSwept;
 use back_model::SnapBackend;
@@ -169,8 +171,8 @@ fn lane_at<'a>(lanes: &'a [Lane], snapshotter: &ShortName) -> Option<&'a Lane>
     None
 }
 
-/// Each name goes where its lane has it. It takes no memory.
-pub(crate) fn distribute(
+// Each name goes where its lane has it. It takes no memory.
+fn distribute(
     names: Vec<(ShortName, u64)>,
     lanes: &[Lane],
     removed: &mut Vec<(ShortName, u64)>,
@@ -190,5 +192,31 @@ pub(crate) fn distribute(
         } else if !lane.swept.has_kept(name.1) {
             removed.push_reserved(name);
         }
+    }
+}
+
+/// Tells what became of each snapshot, by its lane. It takes no memory.
+pub(crate) fn snapshots_swept(
+    alloc: Global,
+    lanes: &[Lane],
+    room: Room<(ShortName, u64)>,
+) -> Room<(ShortName, u64)>
+    requires empty { (room.removed.items ≡ []) × (room.failed.items ≡ []) }
+    requires room { HasRoom room }
+    ensures names { result.names.items ≡ [] }
+    ensures removed { result.removed.items ≡ filter (is_removed lanes.now) room.names.items }
+    ensures failed { result.failed.items ≡ filter (is_failed lanes.now) room.names.items }
+    ensures room { HasRoom result }
+{
+    let Room {
+        names,
+        mut removed,
+        mut failed,
+    } = room;
+    distribute(names, lanes, &mut removed, &mut failed);
+    Room {
+        names: Vec::new(alloc),
+        removed,
+        failed,
     }
 }

@@ -7,15 +7,14 @@ ghost use Rattle.backend_sweep.specs.Shards.{is_number};
 ghost use Rattle.backend_sweep.specs.Singles.{AreHeldOnce, SweepsEach};
 ghost use Rattle.backend_sweep.specs.Swept.{AreOf};
 
-use crate::lanes::{Lane, distribute};
+use crate::lanes::{Lane, snapshots_swept};
 use crate::room::{Room, blobs_room, ingests_room, snapshots_room};
-use crate::singles::{sweep_blobs, sweep_ingests};
+use crate::singles::{blobs_swept, ingests_swept};
 use back_model::{Backends, BlobBackend, IngestBackend, SnapBackend};
 use gc_report::Objects;
 use meta_types::{Digest, Fault, ShortName};
 use std::alloc::Global;
 use std::marker::Model;
-use std::mem;
 use table_sweep::Plan;
 
 /// What was removed, and what the device failed, in the order of a report; and room for what a
@@ -144,29 +143,13 @@ pub(crate) fn finish<S: SnapBackend, B: BlobBackend, I: IngestBackend>(
     ensures shards { backends.new.shards ≡ backends.old.shards }
 {
     let Swept {
-        mut blobs,
-        mut ingests,
-        mut snapshots,
-    } = room;
-    let names = mem::replace(&mut snapshots.names, Vec::new(alloc));
-    distribute(names, lanes, &mut snapshots.removed, &mut snapshots.failed);
-    let names = mem::replace(&mut blobs.names, Vec::new(alloc));
-    sweep_blobs(
-        backends.blobs_mut(),
-        names,
-        &mut blobs.removed,
-        &mut blobs.failed,
-    );
-    let names = mem::replace(&mut ingests.names, Vec::new(alloc));
-    sweep_ingests(
-        backends.ingests_mut(),
-        names,
-        &mut ingests.removed,
-        &mut ingests.failed,
-    );
-    Swept {
         blobs,
         ingests,
         snapshots,
+    } = room;
+    Swept {
+        snapshots: snapshots_swept(alloc, lanes, snapshots),
+        blobs: blobs_swept(alloc, backends.blobs_mut(), blobs),
+        ingests: ingests_swept(alloc, backends.ingests_mut(), ingests),
     }
 }

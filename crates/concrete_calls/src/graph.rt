@@ -1,16 +1,19 @@
 //! The graph of no rows.
 
-use gc_graph::{StoreRows, build};
+use gc_graph::{Ignored, NodeBook, StoreRows, build};
 use lease_book::Leases;
+use mark_core::Graph;
 use meta_types::{Fault, Instant, ShortName};
 use object_tables::Tables;
 use std::alloc::Global;
 use std::thread::Threads;
 
-/// Makes the graph of a store that holds nothing.
-pub(crate) fn calls(rt: &(impl Threads + Sync), alloc: Global) -> Result<bool, Fault> {
-    let tables = Tables::new(alloc);
-    let leases = Leases::new(alloc);
+fn graph_of(
+    rt: &(impl Threads + Sync),
+    alloc: Global,
+    tables: &Tables,
+    leases: &Leases,
+) -> Result<(NodeBook, Graph, Ignored), Fault> {
     // Its clause says that the rows stand in order.
     let _there = tables.has_ns(&ShortName::read(alloc, "x")?);
     let images = tables.image_rows(alloc)?;
@@ -27,6 +30,15 @@ pub(crate) fn calls(rt: &(impl Threads + Sync), alloc: Global) -> Result<bool, F
         snapshots: &snapshots,
         profile: 1,
     };
-    let (_book, graph, _ignored) = build(rt, alloc, &rows, Instant(0))?;
-    Ok(graph.edges.is_empty() && graph.roots.is_empty())
+    build(rt, alloc, &rows, Instant(0))
+}
+
+/// Makes the graph of a store that holds nothing.
+pub(crate) fn calls(rt: &(impl Threads + Sync), alloc: Global) -> bool {
+    let tables = Tables::new(alloc);
+    let leases = Leases::new(alloc);
+    let graph = graph_of(rt, alloc, &tables, &leases);
+    let is_made = graph.is_ok();
+    drop(graph);
+    is_made
 }

@@ -5,6 +5,7 @@
 
 mod backends;
 mod graph;
+mod requests;
 
 use meta_types::Fault;
 use std::alloc::Global;
@@ -12,7 +13,7 @@ use std::process::ExitCode;
 use std::thread::Threads;
 
 fn all_calls(rt: &(impl Threads + Sync), alloc: Global) -> Result<bool, Fault> {
-    Ok(backends::calls(alloc)? && graph::calls(rt, alloc)?)
+    Ok(backends::calls(alloc)? && requests::calls(alloc) && graph::calls(rt, alloc))
 }
 
 fn main(rt: HostRuntime) -> ExitCode {

@@ -44,7 +44,7 @@ fn are_same_keys(one: &[(ShortName, ShortName, Name)], two: &[(ShortName, ShortN
 }
 
 impl Objects {
-    /// Whether the two are of the same names.
+    /// Whether both are of the same names, in the same order.
     pub fn is(&self, other: &Objects) -> bool
         ensures { IsTrue result ↔ (self.now ≡ other.now) }
     {
@@ -55,7 +55,7 @@ impl Objects {
 }
 
 impl Removed {
-    /// Whether the two are of the same rows.
+    /// Whether both are of the same rows, in the same order.
     pub fn is(&self, other: &Removed) -> bool
         ensures { IsTrue result ↔ (self.now ≡ other.now) }
     {
@@ -68,7 +68,7 @@ impl Removed {
 }
 
 impl Kept {
-    /// Whether the two are the same.
+    /// Whether both say the same.
     pub fn is(&self, other: &Kept) -> bool
         ensures { IsTrue result ↔ (self.now ≡ other.now) }
     {
@@ -83,7 +83,7 @@ impl Kept {
 }
 
 impl Report {
-    /// Whether the two are the same.
+    /// Whether both say the same.
     pub fn is(&self, other: &Report) -> bool
         ensures { IsTrue result ↔ (self.now ≡ other.now) }
     {

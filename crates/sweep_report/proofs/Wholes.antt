@@ -1,5 +1,5 @@
 -- A plan, the sweeps by it and its report are a collection.
-use Rattle.std.proofs.Common.{◌≡◌, ℤ, length, true, false}
+use Rattle.std.proofs.Common.{ℤ, true, false}
 use Rattle.meta_types.specs.Rows.{Records, BackLists, State}
 use Rattle.meta_types.specs.Backends.{no_objects}
 use Rattle.meta_types.specs.Collected.{collected_records}

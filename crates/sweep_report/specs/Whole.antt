@@ -1,14 +1,14 @@
 -- The report of a plan and of what was swept, and what the three come to.
-use Rattle.std.specs.Prelude.{◌≡◌, ℕ, Bool, true, false, ℤ, length, if◌then◌else◌}
-use Rattle.meta_types.specs.Rows.{Tables, Records, BackLists, State}
-use Rattle.meta_types.specs.Backends.{BackNames, no_objects, removed_objects}
+use Rattle.std.specs.Prelude.{◌≡◌, Bool, true, false, ℤ, length, if◌then◌else◌}
+use Rattle.meta_types.specs.Rows.{Records, BackLists, State}
+use Rattle.meta_types.specs.Backends.{no_objects}
 use Rattle.meta_types.specs.Reports.{Report, Collects, Plans}
 use Rattle.table_sweep.specs.declared.planning.Plan.{Plan}
 use Rattle.table_sweep.specs.Stays.{AreMasks}
 use Rattle.meta_types.specs.Paths.{Thing}
 use Rattle.meta_types.specs.Collected.{collected_records}
 use Rattle.backend_sweep.specs.Planned.{IsPlanOf}
-use Rattle.backend_sweep.specs.Swept.{AllSwept, IsSwept}
+use Rattle.backend_sweep.specs.Swept.{AllSwept, SweepsNames}
 
 -- the report of a collection has what was swept; that of a dry run what the plan names, and no failure (ours)
 abbrev pub reported : Plan → AllSwept → Bool → Report
@@ -30,7 +30,7 @@ IsPlanOfStore state at plan = IsPlanOf state.records (length state.records.table
 
 -- the backends are swept of what the plan names (ours)
 abbrev pub SweepsBackends : Plan → BackLists → AllSwept → BackLists → Type 0
-SweepsBackends plan old swept new = (tables : Tables) → plan.backend ≡ removed_objects tables no_objects old → IsSwept tables old new swept.removed swept.failed
+SweepsBackends plan old swept new = SweepsNames plan.backend old new swept
 
 -- the records are swept of what the masks don't keep (ours)
 abbrev pub SweepsRecords : Plan → Records → Records → Type 0

@@ -12,15 +12,15 @@ use Rattle.backend_sweep.proofs.backends.sweep_shards.Goals as goal
 pub sweep_beside-shards-requires-clause-ready : goal.sweep_beside-shards-requires-clause-ready
 sweep_beside-shards-requires-clause-ready g c κs within =
     let names_are : c.deref-2.result.now ≡ c.args.plan.now.backend.snapshots = search rules in
-    ready g.S.SnapBackend.contents g.S.SnapBackend.fails c.args.backends.now.shards _ _ c.args.plan.now.backend (may_sweep _ _ c.requires) c.take_shards-shards.ensures.order c.take_shards-shards.result.items c.in-Ok.lanes.items c.take_shards-shards.ensures.taken
-    (c.in-Ok.ensures.ok ∙ (λ i. map (λ x. lane_for (names_are i) x.0) (c.deref.ensures.value i)))
+    ready g.S.SnapBackend.contents g.S.SnapBackend.fails c.args.backends.now.shards _ _ c.args.plan.now.backend (may_sweep _ _ c.requires) c.take_shards-shards.ensures.order c.take_shards-shards.result.items c.in-Ok.made.0.items c.take_shards-shards.ensures.taken
+    (c.in-Ok.ensures.lanes ∙ (λ i. map (λ x. lane_for (names_are i) x.0) (c.deref.ensures.value i)))
 
 -- the shards that are left are apart
 pub put_shards-requires-2-after_bounds : goal.put_shards-requires-2-after_bounds
 put_shards-requires-2-after_bounds g c κs within =
     let names_are : c.deref-2.result.now ≡ c.args.plan.now.backend.snapshots = search rules in
-    news_apart g.S.SnapBackend.contents g.S.SnapBackend.fails c.args.backends.now.shards _ _ c.args.plan.now.backend (may_sweep _ _ c.requires) c.take_shards-shards.ensures.order c.take_shards-shards.result.items c.in-Ok.lanes.items c.take_shards-shards.ensures.taken
-    (c.in-Ok.ensures.ok ∙ (λ i. map (λ x. lane_for (names_are i) x.0) (c.deref.ensures.value i)))
+    news_apart g.S.SnapBackend.contents g.S.SnapBackend.fails c.args.backends.now.shards _ _ c.args.plan.now.backend (may_sweep _ _ c.requires) c.take_shards-shards.ensures.order c.take_shards-shards.result.items c.in-Ok.made.0.items c.take_shards-shards.ensures.taken
+    (c.in-Ok.ensures.lanes ∙ (λ i. map (λ x. lane_for (names_are i) x.0) (c.deref.ensures.value i)))
     c.sweep_beside-shards.result.0.items c.sweep_beside-shards.result.1.items c.sweep_beside-shards.ensures.length.0 c.sweep_beside-shards.ensures.length.1 c.sweep_beside-shards.ensures.each
 
 pub finish-requires-clause-blobs : goal.finish-requires-clause-blobs
@@ -45,8 +45,8 @@ returns-clause-ok g c =
     let blobs_are : c.put_shards-2.new.self.blobs ≡ c.args.backends.now.blobs = search rules in
     let ingests_are : c.put_shards-2.new.self.ingests ≡ c.args.backends.now.ingests = search rules in
     let news_are : c.finish.new.backends.shards ≡ map (shown g.S.SnapBackend.contents g.S.SnapBackend.fails) c.sweep_beside-shards.result.0.items = c.finish.ensures.shards ∙ ap (λ b. b.shards) c.put_shards-2.ensures in
-    swept_by g.S.SnapBackend.contents g.S.SnapBackend.fails c.args.backends.now.shards _ _ names (may_sweep _ _ c.requires) c.take_shards-shards.ensures.order c.take_shards-shards.result.items c.in-Ok.lanes.items c.take_shards-shards.ensures.taken
-    (c.in-Ok.ensures.ok ∙ (λ i. map (λ x. lane_for (snaps_are i) x.0) (c.deref.ensures.value i)))
+    swept_by g.S.SnapBackend.contents g.S.SnapBackend.fails c.args.backends.now.shards _ _ names (may_sweep _ _ c.requires) c.take_shards-shards.ensures.order c.take_shards-shards.result.items c.in-Ok.made.0.items c.take_shards-shards.ensures.taken
+    (c.in-Ok.ensures.lanes ∙ (λ i. map (λ x. lane_for (snaps_are i) x.0) (c.deref.ensures.value i)))
     c.sweep_beside-shards.result.0.items c.sweep_beside-shards.result.1.items c.sweep_beside-shards.ensures.length.0 c.sweep_beside-shards.ensures.length.1 c.sweep_beside-shards.ensures.each
     (g.B.BlobBackend.contents c.finish.new.backends.blobs) (g.I.IngestBackend.contents c.finish.new.backends.ingests) c.finish.result.removed c.finish.result.failed _ _ _ _
     (sweeps_from bytes_eq g.B.BlobBackend.contents g.B.BlobBackend.fails _ _ _ _ _ _ _ blobs_are (λ i. (room_is i).blobs) c.finish.ensures.blobs)
@@ -61,8 +61,8 @@ returns-clause-count g c =
     let blobs_are : c.put_shards-2.new.self.blobs ≡ c.args.backends.now.blobs = search rules in
     let ingests_are : c.put_shards-2.new.self.ingests ≡ c.args.backends.now.ingests = search rules in
     let news_are : c.finish.new.backends.shards ≡ map (shown g.S.SnapBackend.contents g.S.SnapBackend.fails) c.sweep_beside-shards.result.0.items = c.finish.ensures.shards ∙ ap (λ b. b.shards) c.put_shards-2.ensures in
-    count_by g.S.SnapBackend.contents g.S.SnapBackend.fails c.args.backends.now.shards _ _ names (may_sweep _ _ c.requires) c.take_shards-shards.ensures.order c.take_shards-shards.result.items c.in-Ok.lanes.items c.take_shards-shards.ensures.taken
-    (c.in-Ok.ensures.ok ∙ (λ i. map (λ x. lane_for (snaps_are i) x.0) (c.deref.ensures.value i)))
+    count_by g.S.SnapBackend.contents g.S.SnapBackend.fails c.args.backends.now.shards _ _ names (may_sweep _ _ c.requires) c.take_shards-shards.ensures.order c.take_shards-shards.result.items c.in-Ok.made.0.items c.take_shards-shards.ensures.taken
+    (c.in-Ok.ensures.lanes ∙ (λ i. map (λ x. lane_for (snaps_are i) x.0) (c.deref.ensures.value i)))
     c.sweep_beside-shards.result.0.items c.sweep_beside-shards.result.1.items c.sweep_beside-shards.ensures.length.0 c.sweep_beside-shards.ensures.length.1 c.sweep_beside-shards.ensures.each
     (g.B.BlobBackend.contents c.finish.new.backends.blobs) (g.I.IngestBackend.contents c.finish.new.backends.ingests) c.finish.result.removed c.finish.result.failed _ _ _ _
     (sweeps_from bytes_eq g.B.BlobBackend.contents g.B.BlobBackend.fails _ _ _ _ _ _ _ blobs_are (λ i. (room_is i).blobs) c.finish.ensures.blobs)

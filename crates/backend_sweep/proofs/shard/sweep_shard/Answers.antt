@@ -1,4 +1,4 @@
-use Rattle.std.proofs.Common.{◌≡◌, ◌+◌, ◌<◌, ℕ, length, List, take, drop, get_or, add-one, sym, ◌∙◌, ap, ◌++◌, ◌∷◌, [], Bool, subst, refl, arith, ◌-◌, ◌≤◌, ◌||◌}
+use Rattle.std.proofs.Common.{◌≡◌, ◌+◌, ◌<◌, ℕ, length, List, take, drop, get_or, add-one, sym, ◌∙◌, ap, ◌++◌, ◌∷◌, [], Bool, subst, refl, arith, ◌-◌, ◌≤◌}
 use Rattle.std.specs.Prelude.{Option}
 use Rattle.std.proofs.lemmas.List.{take-append-drop, take_more, take_all}
 use Rattle.std.proofs.Math.Seq.{drop-cons}
@@ -7,7 +7,9 @@ use Rattle.backend_sweep.specs.declared.shard_swept.Removal.{Removal}
 use Rattle.backend_sweep.specs.declared.shard_swept.Removal.TheVariants as R
 use Rattle.backend_sweep.specs.Shards.{has}
 use Rattle.backend_sweep.specs.Sweep.{Childfirst, Sweeps, Swept, Tries, put_of}
-use Rattle.backend_sweep.proofs.Sweeping.{At, Blocks, is_held, no_child_left, one_more, blocks_more, none_blocked, leaves}
+use Rattle.backend_sweep.proofs.Blocking.{Blocks}
+use Rattle.backend_sweep.proofs.Sweeping.{At, is_held, no_child_left, one_more, blocks_more}
+use Rattle.backend_sweep.proofs.Leaving.{leaves}
 use Rattle.backend_sweep.proofs.shard.sweep_shard.Goals as goal
 
 parts : (list : List ℕ) (i : ℕ) → i < length list → list ≡ take i list ++ get_or list i 0 ∷ drop (i + 1) list

@@ -1,6 +1,6 @@
 use Rattle.std.proofs.Common.{◌≤◌, ◌+◌, length, take}
 use Rattle.backend_sweep.specs.Sweep.{Sweeps}
-use Rattle.backend_sweep.proofs.Sweeping.{Blocks}
+use Rattle.backend_sweep.proofs.Blocking.{Blocks}
 use Rattle.backend_sweep.proofs.shard.sweep_shard.Given as goal
 
 abbrev pub invariant-loop-number : goal.invariant-loop-number

@@ -48,6 +48,7 @@ tests =
     ⊕ one number
     ⊕ tt
 
+-- variant by variant, and in each field by field
 pub returns : goal.returns
 unfolding tests
 returns c = told_by c.eq.ensures (by_decides enum tests c.args.self.now c.args.request.now)

@@ -1,0 +1,4 @@
+pub mod Stores
+pub mod Planned
+pub mod Refused
+pub mod Removing

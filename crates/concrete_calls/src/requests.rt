@@ -1,0 +1,59 @@
+//! Stores over backends in memory, and over those with fuses.
+ghost use Rattle.meta_types.specs.Sound.{IsSound};
+
+use back_model::{
+    BlobBackend, FuseBackend, FuseBlobs, FuseIngests, IngestBackend, MemBackend, MemBlobs,
+    MemIngests, SnapBackend,
+};
+use meta_types::{Fault, Reply, Request, Words};
+use request_core::State;
+use std::alloc::Global;
+
+fn space(alloc: Global) -> Result<Request, Fault> {
+    let ns = Words::new(String::from_str(alloc, "x")?);
+    Ok(Request::NsAdd { ns })
+}
+
+fn answer<S: SnapBackend, B: BlobBackend, I: IngestBackend>(
+    store: &mut State<S, B, I>,
+    alloc: Global,
+    request: Result<Request, Fault>,
+) -> Result<Reply, Fault>
+    requires { IsSound store.old.state }
+{
+    match request {
+        Ok(request) => {
+            let reply = store.apply(alloc, &request);
+            drop(request);
+            reply
+        }
+        Err(fault) => Err(fault),
+    }
+}
+
+fn is_answered<S: SnapBackend, B: BlobBackend, I: IngestBackend>(
+    store: &mut State<S, B, I>,
+    alloc: Global,
+) -> bool
+    requires { IsSound store.old.state }
+{
+    let reply = answer(store, alloc, space(alloc));
+    let is_done = matches!(&reply, Ok(Reply::Done));
+    drop(reply);
+    is_done && store.records.tables.counts().namespaces == 1
+}
+
+fn calls_in_memory(alloc: Global) -> bool {
+    let mut store = State::<MemBackend, MemBlobs, MemIngests>::empty(alloc);
+    is_answered(&mut store, alloc)
+}
+
+fn calls_with_fuses(alloc: Global) -> bool {
+    let mut store = State::<FuseBackend, FuseBlobs, FuseIngests>::empty(alloc);
+    is_answered(&mut store, alloc)
+}
+
+/// Adds a namespace to a store in memory, and to one whose backends have fuses.
+pub(crate) fn calls(alloc: Global) -> bool {
+    calls_in_memory(alloc) && calls_with_fuses(alloc)
+}

@@ -1,0 +1,8 @@
+pub mod SessionParts
+pub mod Each
+pub mod Growth
+pub mod Stepping
+pub mod Emptied
+pub mod ToldAll
+pub mod NoFailures
+pub mod Finishing

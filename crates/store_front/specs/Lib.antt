@@ -1,0 +1,7 @@
+pub mod Asked
+pub mod Told
+pub mod Entries
+pub mod Front
+pub mod Kept
+pub mod Parts
+pub mod Finish

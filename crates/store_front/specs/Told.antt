@@ -1,0 +1,19 @@
+-- What a session was told, and what the locked store is.
+use Rattle.std.specs.Prelude.{ℕ, List}
+use Rattle.meta_types.specs.Rows.{State}
+use Rattle.meta_types.specs.Steps.{Answer, Event, Entry}
+
+-- an event with its answer (ours)
+pub record Told : Type 0 where
+  pub event : Event
+  pub answer : Answer
+
+-- a session: its number, and what it was told, in order (ours)
+pub record Seat : Type 0 where
+  pub number : ℕ
+  pub list : List Told
+
+-- a history: the store at the opening, and the entries since (ours)
+pub record Course : Type 0 where
+  pub base : State
+  pub log : List Entry

@@ -1,0 +1,31 @@
+//! A store behind one lock, with a history that replays and sessions that remember what they were told.
+#![tactic(auto)]
+
+mod anew;
+mod apply;
+mod base;
+mod checked;
+mod clearing;
+mod collect;
+mod copies;
+mod cut;
+mod entries;
+mod events;
+mod keeping;
+mod locked;
+mod never;
+mod numbers;
+mod parting;
+mod plan_copy;
+mod running;
+mod session;
+mod store;
+mod twice;
+
+pub use base::{Base, History};
+pub use entries::{Entry, Told};
+pub use events::{Answer, Asked, Event};
+pub use locked::{Locked, SESSIONS};
+pub use plan_copy::Planned;
+pub use session::Session;
+pub use store::{Store, finish};

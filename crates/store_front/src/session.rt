@@ -1,0 +1,46 @@
+//! Sessions.
+ghost use Rattle.std.specs.Prelude.{◌≡◌};
+
+use crate::entries::Told;
+use std::marker::Model;
+use std::sync::ledger::{Ledger, Share};
+
+/// A client of the store that `L` names: its number, and what it was told, in order.
+#[derive(Drop)]
+pub struct Session<L: Ledger> {
+    pub(crate) number: u32,
+    pub(crate) list: Vec<Told>,
+    pub(crate) share: Share<L>,
+}
+
+impl<L: Ledger> Model for Session<L> {
+    ghost use Rattle.std.specs.Prelude.{◌≡◌, ◌<◌};
+    ghost use Rattle.std.specs.Vec.{vec_len};
+    ghost use Rattle.store_front.specs.Told.{Seat};
+
+    ghost Value = { Seat };
+
+    ghost view = { λ s. record { number = s.number; list = s.list.items } };
+
+    ghost invariant = { λ s. record {
+      amount : s.share.amount ≡ vec_len s.list;
+      parts : 0 < s.share.parts;
+      few : s.number < 65536;
+    } };
+}
+
+impl<L: Ledger> Session<L> {
+    /// Sessions are numbered from 0 on, in the order of their opening.
+    pub fn number(&self) -> u32
+        ensures { result ≡ self.now.number }
+    {
+        self.number
+    }
+
+    /// What it was told, in order.
+    pub fn list(&self) -> &[Told]
+        ensures { result.now ≡ self.now.list }
+    {
+        &self.list
+    }
+}

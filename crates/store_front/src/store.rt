@@ -1,0 +1,163 @@
+//! A store that many threads may use.
+ghost use Rattle.std.specs.Prelude.{◌≡◌, ◌↔◌, [], Err, None, IfOk, IfErr, OnOk, OnErr, All, map, false};
+ghost use Rattle.meta_types.specs.Faults.{Refuses};
+ghost use Rattle.meta_types.specs.Limits.{is_worker_count};
+ghost use Rattle.meta_types.specs.Sound.{IsSound};
+ghost use Rattle.meta_types.specs.Steps.{requested, collect, remove_collect};
+ghost use Rattle.meta_types.specs.declared.fault.Fault.TheVariants.{InvalidArgument, FailedPrecondition};
+ghost use Rattle.store_front.specs.Kept.{kept_reply, kept_report, list_after};
+ghost use Rattle.store_front.specs.Finish.{IsHistory, AreOfThese, fresh};
+ghost use Rattle.store_front.specs.Parts.{IsPart};
+
+use crate::base::History;
+use crate::locked::Locked;
+use crate::session::Session;
+use back_model::{
+    BlobBackend, IngestBackend, MemBackend, MemBlobs, MemIngests, SnapBackend,
+};
+use backend_sweep::SweepGate;
+use gc_report::Report;
+use meta_types::{Fault, Instant, Removal, Reply, Request};
+use request_core::State;
+use std::alloc::Global;
+use std::sync::ledger::{Blank, Ledger};
+use std::sync::{Mutex, Wait};
+use std::thread::Threads;
+use steal_mark::Gate;
+
+/// A store behind its lock. Each call holds the lock until it is answered.
+#[derive(Drop)]
+pub struct Store<
+    L: Ledger,
+    S: SnapBackend = MemBackend,
+    B: BlobBackend = MemBlobs,
+    I: IngestBackend = MemIngests,
+> {
+    pub(crate) inner: Mutex<Locked<L, S, B, I>>,
+}
+
+impl<L: Ledger, S: SnapBackend, B: BlobBackend, I: IngestBackend> Store<L, S, B, I> {
+    /// A store over this state, with no entry and no session. The blank has 65,536 parts.
+    pub fn new(
+        alloc: Global,
+        blank: Blank,
+        state: State<S, B, I>,
+    ) -> Result<Store<L, S, B, I>, Fault>
+        requires sound { IsSound state.state }
+        requires name { blank.name ≡ L.name }
+        requires parts { (blank.parts ≡ L.parts) × (blank.parts ≡ 65536) }
+        ensures { Refuses result None }
+    {
+        Ok(Store {
+            inner: Mutex::new(Locked::open(alloc, blank, state)?),
+        })
+    }
+
+    /// A new session, refused where as many are open as may be.
+    pub fn session(&self, rt: &impl Wait, alloc: Global) -> Result<Session<L>, Fault>
+        ensures ok { IfOk result (λ s. s.list ≡ []) }
+        ensures fault { IfErr result (λ f. f ≡ FailedPrecondition) }
+    {
+        self.inner.lock(rt).session(alloc)
+    }
+
+    /// Answers a request. The session's list has it with its answer, where it is an entry.
+    pub fn call(
+        &self,
+        rt: &impl Wait,
+        alloc: Global,
+        session: &mut Session<L>,
+        request: &Request,
+    ) -> Result<Reply, Fault>
+        ensures list { session.new.list ≡ list_after session.old.list (requested request.now)
+            (kept_reply result) }
+        ensures number { session.new.number ≡ session.old.number }
+    {
+        let mut guard = self.inner.lock(rt);
+        let locked = &mut *guard;
+        locked.admit(session);
+        locked.apply(alloc, session, request)
+    }
+
+    /// Collects, or with `dry` only reports, as `Locked::collect`.
+    pub fn collect<R: Threads + Wait + Sync, G: Gate, H: SweepGate>(
+        &self,
+        rt: &R,
+        alloc: Global,
+        session: &mut Session<L>,
+        at: Instant,
+        dry: bool,
+        workers: usize,
+        gate: &G,
+        sweep_gate: &H,
+    ) -> Result<Report, Fault>
+        ensures list { session.new.list ≡ list_after session.old.list (collect at.0 dry workers)
+            (kept_report result) }
+        ensures number { session.new.number ≡ session.old.number }
+    {
+        let mut guard = self.inner.lock(rt);
+        let locked = &mut *guard;
+        locked.admit(session);
+        locked.collect(rt, alloc, session, at, dry, workers, gate, sweep_gate)
+    }
+
+    /// Removes an image or a lease and collects, as `Locked::remove_collect`.
+    pub fn remove_collect<R: Threads + Wait + Sync, G: Gate, H: SweepGate>(
+        &self,
+        rt: &R,
+        alloc: Global,
+        session: &mut Session<L>,
+        removal: &Removal,
+        at: Instant,
+        workers: usize,
+        gate: &G,
+        sweep_gate: &H,
+    ) -> Result<Report, Fault>
+        ensures list { session.new.list ≡ list_after session.old.list
+            (remove_collect removal.now at.0 workers) (kept_report result) }
+        ensures number { session.new.number ≡ session.old.number }
+    {
+        let mut guard = self.inner.lock(rt);
+        let locked = &mut *guard;
+        locked.admit(session);
+        locked.remove_collect(
+            rt, alloc, session, removal, at, workers, gate, sweep_gate,
+        )
+    }
+
+    /// A history so far, in which the session's part is its list.
+    pub fn cut(&self, rt: &impl Wait, alloc: Global, session: &Session<L>) -> Result<History, Fault>
+        ensures { IfOk result (λ h. IsPart h.log session.now × IsHistory h) }
+    {
+        self.inner.lock(rt).cut(alloc, session)
+    }
+
+    /// The history so far, and a new one begun, as `Locked::begin_anew`.
+    pub fn begin_anew(
+        &self,
+        rt: &impl Wait,
+        alloc: Global,
+        sessions: &mut [Session<L>],
+    ) -> Result<History, Fault>
+        ensures ok { IfOk result (λ h. IsHistory h × All (IsPart h.log) sessions.old
+            × AreOfThese h.log sessions.old) }
+        ensures sessions { OnOk result (sessions.new ≡ map fresh sessions.old) }
+        ensures left { OnErr result (sessions.new ≡ sessions.old) }
+    {
+        self.inner.lock(rt).begin_anew(alloc, sessions)
+    }
+}
+
+/// The history, where the sessions are all that were opened. Each session's part of it is its list,
+/// and no entry is another's. Store and sessions are spent, also on a refusal.
+pub fn finish<L: Ledger, S: SnapBackend, B: BlobBackend, I: IngestBackend>(
+    alloc: Global,
+    store: Store<L, S, B, I>,
+    sessions: Vec<Session<L>>,
+) -> Result<History, Fault>
+    ensures { IfOk result (λ h. IsHistory h × All (IsPart h.log) sessions.items
+        × AreOfThese h.log sessions.items) }
+{
+    let Store { inner } = store;
+    inner.into_inner().finish(alloc, sessions)
+}
