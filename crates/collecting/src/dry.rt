@@ -42,13 +42,7 @@ pub fn dry_report<R: Threads + Wait + Sync, G: Gate>(
 }
 
 /// What a collection of this store would report. Nothing is swept.
-pub fn dry_run<
-    R: Threads + Wait + Sync,
-    S: SnapBackend,
-    B: BlobBackend,
-    I: IngestBackend,
-    G: Gate,
->(
+pub fn dry_run<R: Threads + Wait + Sync, S: SnapBackend, B: BlobBackend, I: IngestBackend, G: Gate>(
     rt: &R,
     alloc: Global,
     records: &Records,

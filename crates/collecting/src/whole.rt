@@ -13,13 +13,13 @@ use crate::planning::plan_store;
 use crate::reports::Reports;
 use crate::spare::{Spare, reports_of};
 use back_model::{Backends, BlobBackend, IngestBackend, SnapBackend};
+use backend_sweep::{SweepGate, sweep_shards};
 use meta_types::{Fault, Instant};
 use request_core::Records;
 use std::alloc::Global;
 use std::sync::Wait;
 use std::thread::Threads;
 use steal_mark::Gate;
-use backend_sweep::{SweepGate, sweep_shards};
 use table_sweep::sweep;
 
 /// Collects, and reports what went. From the first removal on nothing is refused.

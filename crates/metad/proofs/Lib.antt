@@ -3,14 +3,5 @@ pub mod Scripts
 pub mod Writers
 pub mod Runs
 pub mod WorkerCounts
-pub mod Marks
-pub mod Reaching
-pub mod Removing
-pub mod Whole
-pub mod BlobPlaces
 pub mod Outcomes
 pub mod Served
-pub mod TablesCollected
-pub mod RequestAnswers
-pub mod PairLabels
-pub mod ContentAdded

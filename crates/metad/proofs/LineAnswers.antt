@@ -1,16 +1,17 @@
 -- On the answer to a line.
-use Rattle.std.proofs.Common.{◌≡◌, ◌∙◌, ◌<◌, ◌≤◌, ◌==◌, ℕ, List, [], length, Option, Some, None, Result, Ok, Err, refl, sym, true, false, nat_lt, arith, ◌⊎◌, inl, inr}
-use Rattle.std.specs.Prelude.{OnErr, IfErr}
+use Rattle.std.proofs.Common.{◌≡◌, ◌∙◌, ◌<◌, ◌≤◌, ◌==◌, ℕ, List, [], length, Option, Some, None, Result, Ok, Err, refl, sym, true, false, nat_lt, arith, inl, inr, subst}
+use Rattle.std.specs.Result.{IsErrAnd, IfErr}
 use Rattle.std.proofs.lemmas.Bool.Decides.{nat_tests}
 use Rattle.meta_types.specs.declared.fault.Fault.{Fault}
-use Rattle.meta_types.specs.declared.fault.Fault.TheVariants.{TooLong, OutOfMemory}
+use Rattle.meta_types.specs.declared.fault.Fault.TheVariants.{TooLong}
 use Rattle.meta_types.specs.Rows.{State}
 use Rattle.meta_types.specs.Steps.{Answer, refused}
 use Rattle.request_line.specs.Lines.{asked_in}
 use Rattle.request_line.specs.Refusals.{IsUnread}
 use Rattle.request_line.specs.declared.asked.Asked.{Asked}
 use Rattle.reply_line.specs.Replies.{answer_text}
-use Rattle.metad.specs.LineSteps.{Refusal, out_of_memory, asked_step, answer_step, line_step, with_line_feed}
+use Rattle.metad.specs.LineSteps.{Refusal, out_of_memory, no_worker, asked_step, answer_step, line_step, with_line_feed}
+use Rattle.metad.specs.Served.{IsRefused}
 
 not_empty : (n : ℕ) → 65536 < n → (n == 0) ≡ false
 not_empty n long = grind (arith, nat_tests)
@@ -44,22 +45,28 @@ module _ (state : State) (line : List ℕ) (short : length line ≤ 65536) where
   ]
 
   -- what it asks for is refused
-  pub step-refused : (asked : Asked) (fault : Fault) → asked_in line ≡ Some asked → (fault ≡ OutOfMemory) ⊎ (asked_step state asked ≡ (refused fault, state)) → (refusal : Option Refusal) × (answer_step state refusal line ≡ (refused fault, state))
-  step-refused asked fault e r = elim r [
-    | inl f ↦ (Some out_of_memory, rw f refl)
-    | inr f ↦ (None, step-asked asked e ∙ f)
+  pub refused_line : (asked : Asked) (fault : Fault) (new : State) → asked_in line ≡ Some asked → IsRefused state asked fault new → (refusal : Option Refusal) × (answer_step state refusal line ≡ (refused fault, new))
+  refused_line asked fault new e r = elim r [
+    | inl f ↦ (Some out_of_memory, (λ i. (refused (sym f.0 i), sym f.1 i)))
+    | inr f ↦ elim f [
+      | inl n ↦ (Some no_worker, rw (is_short (length line) short, e, n.1, n.0, n.2) refl)
+      | inr s ↦ (None, step-asked asked e ∙ s)
+    ]
   ]
 
   -- the same of what a call answers
-  pub refused_line : {T : Type 0} (result : Result T Fault) (asked : Asked) (new : State) → asked_in line ≡ Some asked → IfErr result (λ fault. (fault ≡ OutOfMemory) ⊎ (asked_step state asked ≡ (refused fault, state))) → OnErr result (new ≡ state)
+  pub refused_call : {T : Type 0} (result : Result T Fault) (asked : Asked) (new : State) → asked_in line ≡ Some asked → IfErr result (λ fault. IsRefused state asked fault new)
       → IfErr result (λ fault. (refusal : Option Refusal) × (answer_step state refusal line ≡ (refused fault, new)))
-  refused_line (Ok x) asked new e r same = tt
-  refused_line (Err fault) asked new e r same =
-      let step = step-refused asked fault e r in
-      (step.0, step.1 ∙ λ i. (refused fault, sym same i))
+  refused_call (Ok x) asked new e r = tt
+  refused_call (Err fault) asked new e r = refused_line asked fault new e r
 
 -- a line that isn't empty is answered
 pub line_step-answer : (state : State) (refusal : Option Refusal) (line : List ℕ) (answer : Answer) (new : State) → (length line == 0) ≡ false → answer_step state refusal line ≡ (answer, new)
     → line_step state refusal line ≡ (with_line_feed (answer_text answer), new)
 unfolding line_step
 line_step-answer state refusal line answer new full e = rw (full, e) refl
+
+-- `?` passes a fault on as it is
+pub passed_on : {T : Type 0} (result : Result T Fault) (fault : Fault) (P : Fault → Type 0) → IsErrAnd result (λ other. other ≡ fault) → P fault → IfErr result P
+passed_on (Ok x) fault P same p = absurd same
+passed_on (Err other) fault P same p = subst P (sym same) p

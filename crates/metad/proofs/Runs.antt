@@ -8,15 +8,15 @@ use Rattle.metad.specs.LineSteps.{Refusal, line_step}
 use Rattle.meta_types.specs.Rows.{State}
 use Rattle.metad.proofs.LineAnswers.{line_step-empty}
 use Rattle.metad.specs.declared.line_buffer.LineBuffer.{LineBuffer}
-use Rattle.metad.specs.Stores.{empty_state}
+use Rattle.meta_types.specs.Scripts.{empty_store}
 use Rattle.metad.specs.Lines.{is_line_feed, lines_of, whole_lines}
 use Rattle.metad.specs.Output.{Refusals, output_from, output_of, IsOutput, IsWholeOutput, IsBeginning}
 use Rattle.metad.specs.Progress.{Progress, IsLine, Answers, Advances, Breaks, BeginsReply, EndsWith, Runs, Exchanges}
 use Rattle.metad.proofs.Scripts.{lines_of-line, lines_of-last, whole_lines-ended, whole_lines-rest}
-use Rattle.metad.proofs.Writers.{Appends-append, Appends-none, Consumes-append, Consumes-none, Consumes-Keeps}
+use Rattle.metad.proofs.Writers.{Appends-append, Appends-none, Appends-Keeps, Consumes-append, Consumes-none, Consumes-Keeps}
 
 -- a run that begins
-pub Progress-empty : (buffer : LineBuffer) → IsLine buffer [] → Progress [] [] empty_state buffer
+pub Progress-empty : (buffer : LineBuffer) → IsLine buffer [] → Progress [] [] empty_store buffer
 Progress-empty buffer e = record {
   whole = [];
   line = [];
@@ -115,6 +115,22 @@ Breaks-more {xs = xs} ys all e broke = record {
   begins = λ taken written p.
       let b = broke.begins taken written p in
       (b.0, b.1, λ tail. rw (← e, ← append_assoc taken xs ys, append_assoc (taken ++ xs) ys tail) (b.2 (ys ++ tail)));
+}
+
+-- all was answered, and the writer flushed
+pub Advances-flush : {b0 b1 : LineBuffer} {s0 s1 : State} {bytes : List ℕ} {h0 h1 h2 : Option (List ℕ)} → Advances b0 s0 b1 s1 bytes h0 h1 → Keeps h1 h2 → Advances b0 s0 b1 s1 bytes h0 h2
+Advances-flush {h0 = h0} {h1 = h1} {h2 = h2} more kept = record {
+  goes = λ taken written p.
+      let a = more.goes taken written p in
+      (a.0, Appends-Keeps h0 h1 h2 a.0 a.1 kept, a.2);
+}
+
+-- all was answered, but the writer couldn't be flushed
+pub Breaks-flush : {b0 b1 : LineBuffer} {s0 s1 : State} {bytes : List ℕ} {h0 h1 h2 : Option (List ℕ)} → Advances b0 s0 b1 s1 bytes h0 h1 → Keeps h1 h2 → Breaks b0 s0 bytes h0 h2
+Breaks-flush {b1 = b1} {s1 = s1} {bytes = bytes} {h0 = h0} {h1 = h1} {h2 = h2} more kept = record {
+  begins = λ taken written p.
+      let a = more.goes taken written p in
+      (a.0, Appends-Keeps h0 h1 h2 a.0 a.1 kept, λ tail. begins (taken ++ bytes) (written ++ a.0) s1 b1 a.2 tail);
 }
 
 -- a last line

@@ -1,8 +1,7 @@
 pub mod Lines
-pub mod Collections
-pub mod Stores
+pub mod EventSteps
 pub mod LineSteps
+pub mod Served
 pub mod Output
 pub mod Progress
 pub mod Args
-pub mod Marking

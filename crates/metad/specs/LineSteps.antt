@@ -1,37 +1,31 @@
 -- What one line of a script is answered, and what it leaves.
-use Rattle.std.specs.Prelude.{ℕ, ◌==◌, List, [], ◌∷◌, ◌++◌, length, Bool, true, false, nat_lt, if◌then◌else◌, Option, Some, None, String, string_bytes, ℤ}
+use Rattle.std.specs.Prelude.{ℕ, ◌==◌, List, [], ◌∷◌, ◌++◌, length, Bool, true, false, nat_lt, if◌then◌else◌, Option, Some, None, option_map, String, string_bytes}
 use Rattle.std.specs.Option.{option_map_or}
 use Rattle.std.specs.declared.alloc.Global.{Global}
 use Rattle.meta_types.specs.Time.{instant_of}
 use Rattle.meta_types.specs.Rows.{State}
-use Rattle.meta_types.specs.Steps.{Answer, refused, reported, answer_to, after, remove_collect_fault}
+use Rattle.meta_types.specs.Steps.{Answer, refused, Event, requested, collect, remove_collect}
 use Rattle.meta_types.specs.declared.fault.Fault.TheVariants.{InvalidArgument, BadLine, TooLong, OutOfMemory, NoWorker}
-use Rattle.meta_types.specs.Requests.{removal_outcome}
-use Rattle.meta_types.specs.declared.request.Removal.{Removal}
 use Rattle.request_line.specs.Lines.{asked_in}
 use Rattle.request_line.specs.declared.asked.Asked.{Asked}
 use Rattle.request_line.specs.declared.asked.Asked.TheVariants as A
 use Rattle.reply_line.specs.Replies.{answer_text}
-use Rattle.metad.specs.Collections.{collection_report, collected_state, collection_step}
+use Rattle.metad.specs.EventSteps.{event_step}
 
 -- what a line may be refused with though it asks for something that the store would answer: want of memory, or of a thread (ours)
 pub data Refusal : Type 0 where
   out_of_memory : Refusal
   no_worker : Refusal
 
--- a removal with a collection at this moment, as one event (ours)
-abbrev pub removal_step : State → Removal → ℤ → Answer × State
-removal_step state removal at =
-    let after = (removal_outcome state removal).after in
-    option_map_or (λ fault. (refused fault, state))
-    (remove_collect_fault state removal 1)
-    (reported (collection_report after at false), collected_state after at)
+-- the event that is asked for; none where the moment of a collection can't be read. The number of workers changes nothing, so one will do (ours)
+abbrev pub event_for : Asked → Option Event
+event_for (A.Request request) = Some (requested request)
+event_for (A.Collect at dry) = option_map (λ moment. collect moment dry 1) (instant_of at)
+event_for (A.Remove removal at) = option_map (λ moment. remove_collect removal moment 1) (instant_of at)
 
--- what is asked is answered so, and leaves this store; a collection whose moment can't be read is no event (ours)
+-- what is asked is answered so, and leaves this store; a moment that can't be read is refused, and is no event (ours)
 abbrev pub asked_step : State → Asked → Answer × State
-asked_step state (A.Request request) = (answer_to state request, after state request)
-asked_step state (A.Collect at dry) = option_map_or (collection_step state dry) (instant_of at) (refused InvalidArgument, state)
-asked_step state (A.Remove removal at) = option_map_or (removal_step state removal) (instant_of at) (refused InvalidArgument, state)
+asked_step state asked = option_map_or (event_step state) (event_for asked) (refused InvalidArgument, state)
 
 -- what a line of this length asks for, if anything (ours)
 abbrev pub short_request : List ℕ → Option Asked

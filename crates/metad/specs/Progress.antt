@@ -14,9 +14,13 @@ use Rattle.metad.specs.Output.{Refusals, output_from, output_of, IsBeginning}
 abbrev pub IsLateFault : Fault → Type 0
 IsLateFault fault = (fault ≡ OutOfMemory) ⊎ (fault ≡ WriteFailed)
 
--- what can end a run
+-- what can end a run whose number of workers is allowed (ours)
+abbrev pub IsStartedFault : Fault → Type 0
+IsStartedFault fault = (fault ≡ ReadFailed) ⊎ IsLateFault fault
+
+-- what can end a run (ours)
 abbrev pub IsRunFault : Fault → Type 0
-IsRunFault fault = (fault ≡ InvalidArgument) ⊎ (fault ≡ ReadFailed) ⊎ IsLateFault fault
+IsRunFault fault = (fault ≡ InvalidArgument) ⊎ IsStartedFault fault
 
 -- the buffer holds the line, or knows that it is too long
 abbrev pub IsLine : LineBuffer → List ℕ → Type 0

@@ -1,9 +1,8 @@
 //! What holds of the definition of a script's output.
-ghost use Rattle.metad.specs.Collections.{TheseCollect, OnlyTheseCollect, ThisPlans};
+ghost use Rattle.metad.specs.EventSteps.{EachEventHasThisStep, NoEventHasAnotherStep};
 
-/// The collections of an output are those of the definitions, and each has one outcome.
-pub fn collections_are_those_of_the_definitions()
-    ensures these { TheseCollect }
-    ensures only { OnlyTheseCollect }
-    ensures dry { ThisPlans }
+/// The events of an output are steps of the definitions, and each has this one alone.
+pub fn outputs_go_by_the_steps_of_the_definitions()
+    ensures step { EachEventHasThisStep }
+    ensures alone { NoEventHasAnotherStep }
 {}

@@ -3,15 +3,12 @@
 
 mod answering;
 mod args;
-mod blobs;
-mod collecting;
+mod desk;
 mod laws;
 mod line_buffer;
 mod lines;
-mod marking;
 mod script;
 mod serving;
-mod store;
 #[cfg(test)]
 mod tests;
 #[cfg(test)]
@@ -23,6 +20,8 @@ use meta_types::Fault;
 use script::run_script;
 use std::alloc::Global;
 use std::process::ExitCode;
+use std::sync::Wait;
+use std::thread::Threads;
 use std::{env, io};
 
 // The number of workers that the program's words ask for.
@@ -38,15 +37,21 @@ fn workers(rt: &HostRuntime, alloc: Global) -> Result<usize, ArgFault> {
     parse_args(alloc, &words)
 }
 
-// Runs standard input as a script.
-fn run(rt: &HostRuntime, alloc: Global, workers: usize) -> Result<(), Fault> {
-    let Ok(mut reader) = io::BufReader::new(alloc, rt.reader()) else {
+// Runs a script, through buffers.
+fn run<T: Threads + Wait + Sync, R: io::Read + Drop, W: io::Write + Drop>(
+    rt: &T,
+    alloc: Global,
+    reader: R,
+    writer: W,
+    workers: usize,
+) -> Result<(), Fault> {
+    let Ok(mut reader) = io::BufReader::new(alloc, reader) else {
         return Err(Fault::OutOfMemory);
     };
-    let Ok(mut writer) = io::BufWriter::new(alloc, io::writer(rt)) else {
+    let Ok(mut writer) = io::BufWriter::new(alloc, writer) else {
         return Err(Fault::OutOfMemory);
     };
-    run_script(alloc, &mut reader, &mut writer, workers)
+    run_script(rt, alloc, &mut reader, &mut writer, workers)
 }
 
 fn main(rt: HostRuntime) -> ExitCode {
@@ -61,7 +66,7 @@ fn main(rt: HostRuntime) -> ExitCode {
             };
         }
     };
-    match run(&rt, alloc, workers) {
+    match run(&rt, alloc, rt.reader(), io::writer(&rt), workers) {
         Ok(()) => ExitCode::SUCCESS,
         Err(fault) => {
             let number = fault.number();

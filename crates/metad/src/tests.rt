@@ -1,184 +1,28 @@
-//! Scripts, run whole.
+//! Readers, writers, clients and command lines. Whole scripts are run by trials/scripts.
 use crate::args::{ArgFault, parse_args};
 use crate::script::run_script;
 use meta_types::Fault;
 use std::alloc::Global;
+use std::cell::Cell;
 use std::io;
+use std::sync::Wait;
 use std::test::Fail;
+use std::thread::Threads;
 
 // A script's output is the same for every number of workers.
-fn gives(alloc: Global, script: &[u8], output: &str) -> Result<bool, Fault> {
+fn gives<T: Threads + Wait + Sync>(
+    rt: &T,
+    alloc: Global,
+    script: &[u8], output: &str) -> Result<bool, Fault> {
     for workers in [1usize, 2, 8, 16] {
         let mut reader = script;
         let mut writer = Vec::new(alloc);
-        run_script(alloc, &mut reader, &mut writer, workers)?;
+        run_script(rt, alloc, &mut reader, &mut writer, workers)?;
         if writer.as_slice() != output.as_bytes() {
             return Ok(false);
         }
     }
     Ok(true)
-}
-
-static AN_EMPTY_STORE_REPORTS_NOTHING: (&str, &str) = (
-    "{\"op\":\"gc.run\",\"at\":\"2024-03-01T00:00:00Z\"}\n",
-    "{\"ok\":true,\"report\":{\"backend\":{\"blobs\":[],\"ingests\":[],\"snapshots\":[]},\
-     \"dry\":false,\"failed\":{\"blobs\":[],\"ingests\":[],\"snapshots\":[]},\"ignored\":[],\
-     \"kept\":{\"containers\":0,\"content\":0,\"images\":0,\"ingests\":0,\"leases\":0,\
-     \"namespaces\":0,\"snapshots\":0},\"removed\":{\"content\":[],\"ingests\":[],\
-     \"leases\":[],\"snapshots\":[]},\"scanned\":0}}\n",
-);
-
-static KEEPS_WHAT_AN_IMAGE_REFERENCES: (&str, &str) = (
-    "{\"op\":\"ns.add\",\"ns\":\"x\"}\n\
-     {\"op\":\"content.add\",\"ns\":\"x\",\
-     \"digest\":\"sha256:bbbbbbbbbbbbbbbbbbbbbbbbbbbbbbbbbbbbbbbbbbbbbbbbbbbbbbbbbbbbbbbb\"}\
-     \n\
-     {\"op\":\"content.add\",\"ns\":\"x\",\
-     \"digest\":\"sha256:aaaaaaaaaaaaaaaaaaaaaaaaaaaaaaaaaaaaaaaaaaaaaaaaaaaaaaaaaaaaaaaa\",\
-     \"labels\":{\"containerd.io/gc.ref.content.0\":\"sha256:bbbbbbbbbbbbbbbbbbbbbbbbbbbbbbbb\
-     bbbbbbbbbbbbbbbbbbbbbbbbbbbbbbbb\"}}\n\
-     {\"op\":\"content.add\",\"ns\":\"x\",\
-     \"digest\":\"sha256:cccccccccccccccccccccccccccccccccccccccccccccccccccccccccccccccc\"}\
-     \n\
-     {\"op\":\"image.add\",\"ns\":\"x\",\"name\":\"i\",\
-     \"target\":\"sha256:aaaaaaaaaaaaaaaaaaaaaaaaaaaaaaaaaaaaaaaaaaaaaaaaaaaaaaaaaaaaaaaa\"}\
-     \n\
-     {\"op\":\"gc.run\",\"at\":\"2024-03-01T00:00:00Z\"}\n",
-    "{\"ok\":true}\n\
-     {\"ok\":true}\n\
-     {\"ok\":true}\n\
-     {\"ok\":true}\n\
-     {\"ok\":true}\n\
-     {\"ok\":true,\"report\":{\"backend\":{\"blobs\":[\
-     \"sha256:cccccccccccccccccccccccccccccccccccccccccccccccccccccccccccccccc\"],\
-     \"ingests\":[],\"snapshots\":[]},\"dry\":false,\"failed\":{\"blobs\":[],\"ingests\":[],\
-     \"snapshots\":[]},\"ignored\":[],\"kept\":{\"containers\":0,\"content\":2,\"images\":1,\
-     \"ingests\":0,\"leases\":0,\"namespaces\":1,\"snapshots\":0},\"removed\":{\"content\":[[\
-     \"x\",\"sha256:cccccccccccccccccccccccccccccccccccccccccccccccccccccccccccccccc\"]],\
-     \"ingests\":[],\"leases\":[],\"snapshots\":[]},\"scanned\":2}}\n",
-);
-
-static A_CYCLE_OF_REFERENCES: (&str, &str) = (
-    "{\"op\":\"ns.add\",\"ns\":\"x\"}\n\
-     {\"op\":\"content.add\",\"ns\":\"x\",\
-     \"digest\":\"sha256:aaaaaaaaaaaaaaaaaaaaaaaaaaaaaaaaaaaaaaaaaaaaaaaaaaaaaaaaaaaaaaaa\",\
-     \"labels\":{\"containerd.io/gc.ref.content\":\"sha256:bbbbbbbbbbbbbbbbbbbbbbbbbbbbbbbbbb\
-     bbbbbbbbbbbbbbbbbbbbbbbbbbbbbb\"}}\n\
-     {\"op\":\"content.add\",\"ns\":\"x\",\
-     \"digest\":\"sha256:bbbbbbbbbbbbbbbbbbbbbbbbbbbbbbbbbbbbbbbbbbbbbbbbbbbbbbbbbbbbbbbb\",\
-     \"labels\":{\"containerd.io/gc.ref.content\":\"sha256:aaaaaaaaaaaaaaaaaaaaaaaaaaaaaaaaaa\
-     aaaaaaaaaaaaaaaaaaaaaaaaaaaaaa\"}}\n\
-     {\"op\":\"gc.run\",\"at\":\"2024-03-01T00:00:00Z\"}\n\
-     {\"op\":\"content.add\",\"ns\":\"x\",\
-     \"digest\":\"sha256:aaaaaaaaaaaaaaaaaaaaaaaaaaaaaaaaaaaaaaaaaaaaaaaaaaaaaaaaaaaaaaaa\",\
-     \"labels\":{\"containerd.io/gc.ref.content\":\"sha256:bbbbbbbbbbbbbbbbbbbbbbbbbbbbbbbbbb\
-     bbbbbbbbbbbbbbbbbbbbbbbbbbbbbb\"}}\n\
-     {\"op\":\"content.add\",\"ns\":\"x\",\
-     \"digest\":\"sha256:bbbbbbbbbbbbbbbbbbbbbbbbbbbbbbbbbbbbbbbbbbbbbbbbbbbbbbbbbbbbbbbb\",\
-     \"labels\":{\"containerd.io/gc.ref.content\":\"sha256:aaaaaaaaaaaaaaaaaaaaaaaaaaaaaaaaaa\
-     aaaaaaaaaaaaaaaaaaaaaaaaaaaaaa\"}}\n\
-     {\"op\":\"image.add\",\"ns\":\"x\",\"name\":\"i\",\
-     \"target\":\"sha256:bbbbbbbbbbbbbbbbbbbbbbbbbbbbbbbbbbbbbbbbbbbbbbbbbbbbbbbbbbbbbbbb\"}\
-     \n\
-     {\"op\":\"gc.run\",\"at\":\"2024-03-01T00:00:00Z\"}\n",
-    "{\"ok\":true}\n\
-     {\"ok\":true}\n\
-     {\"ok\":true}\n\
-     {\"ok\":true,\"report\":{\"backend\":{\"blobs\":[\
-     \"sha256:aaaaaaaaaaaaaaaaaaaaaaaaaaaaaaaaaaaaaaaaaaaaaaaaaaaaaaaaaaaaaaaa\",\
-     \"sha256:bbbbbbbbbbbbbbbbbbbbbbbbbbbbbbbbbbbbbbbbbbbbbbbbbbbbbbbbbbbbbbbb\"],\
-     \"ingests\":[],\"snapshots\":[]},\"dry\":false,\"failed\":{\"blobs\":[],\"ingests\":[],\
-     \"snapshots\":[]},\"ignored\":[],\"kept\":{\"containers\":0,\"content\":0,\"images\":0,\
-     \"ingests\":0,\"leases\":0,\"namespaces\":1,\"snapshots\":0},\"removed\":{\"content\":[[\
-     \"x\",\"sha256:aaaaaaaaaaaaaaaaaaaaaaaaaaaaaaaaaaaaaaaaaaaaaaaaaaaaaaaaaaaaaaaa\"],[\
-     \"x\",\"sha256:bbbbbbbbbbbbbbbbbbbbbbbbbbbbbbbbbbbbbbbbbbbbbbbbbbbbbbbbbbbbbbbb\"]],\
-     \"ingests\":[],\"leases\":[],\"snapshots\":[]},\"scanned\":0}}\n\
-     {\"ok\":true}\n\
-     {\"ok\":true}\n\
-     {\"ok\":true}\n\
-     {\"ok\":true,\"report\":{\"backend\":{\"blobs\":[],\"ingests\":[],\"snapshots\":[]},\
-     \"dry\":false,\"failed\":{\"blobs\":[],\"ingests\":[],\"snapshots\":[]},\"ignored\":[],\
-     \"kept\":{\"containers\":0,\"content\":2,\"images\":1,\"ingests\":0,\"leases\":0,\
-     \"namespaces\":1,\"snapshots\":0},\"removed\":{\"content\":[],\"ingests\":[],\
-     \"leases\":[],\"snapshots\":[]},\"scanned\":2}}\n",
-);
-
-static A_SHARED_BLOB: (&str, &str) = (
-    "{\"op\":\"ns.add\",\"ns\":\"x\"}\n\
-     {\"op\":\"ns.add\",\"ns\":\"y\"}\n\
-     {\"op\":\"content.add\",\"ns\":\"x\",\
-     \"digest\":\"sha256:aaaaaaaaaaaaaaaaaaaaaaaaaaaaaaaaaaaaaaaaaaaaaaaaaaaaaaaaaaaaaaaa\"}\
-     \n\
-     {\"op\":\"content.add\",\"ns\":\"y\",\
-     \"digest\":\"sha256:aaaaaaaaaaaaaaaaaaaaaaaaaaaaaaaaaaaaaaaaaaaaaaaaaaaaaaaaaaaaaaaa\"}\
-     \n\
-     {\"op\":\"image.add\",\"ns\":\"x\",\"name\":\"i\",\
-     \"target\":\"sha256:aaaaaaaaaaaaaaaaaaaaaaaaaaaaaaaaaaaaaaaaaaaaaaaaaaaaaaaaaaaaaaaa\"}\
-     \n\
-     {\"op\":\"gc.run\",\"at\":\"2024-03-01T00:00:00Z\"}\n\
-     {\"op\":\"image.remove\",\"ns\":\"x\",\"name\":\"i\"}\n\
-     {\"op\":\"gc.run\",\"at\":\"2024-03-01T00:00:00Z\"}\n",
-    "{\"ok\":true}\n\
-     {\"ok\":true}\n\
-     {\"ok\":true}\n\
-     {\"ok\":true}\n\
-     {\"ok\":true}\n\
-     {\"ok\":true,\"report\":{\"backend\":{\"blobs\":[],\"ingests\":[],\"snapshots\":[]},\
-     \"dry\":false,\"failed\":{\"blobs\":[],\"ingests\":[],\"snapshots\":[]},\"ignored\":[],\
-     \"kept\":{\"containers\":0,\"content\":1,\"images\":1,\"ingests\":0,\"leases\":0,\
-     \"namespaces\":2,\"snapshots\":0},\"removed\":{\"content\":[[\"y\",\
-     \"sha256:aaaaaaaaaaaaaaaaaaaaaaaaaaaaaaaaaaaaaaaaaaaaaaaaaaaaaaaaaaaaaaaa\"]],\
-     \"ingests\":[],\"leases\":[],\"snapshots\":[]},\"scanned\":1}}\n\
-     {\"ok\":true}\n\
-     {\"ok\":true,\"report\":{\"backend\":{\"blobs\":[\
-     \"sha256:aaaaaaaaaaaaaaaaaaaaaaaaaaaaaaaaaaaaaaaaaaaaaaaaaaaaaaaaaaaaaaaa\"],\
-     \"ingests\":[],\"snapshots\":[]},\"dry\":false,\"failed\":{\"blobs\":[],\"ingests\":[],\
-     \"snapshots\":[]},\"ignored\":[],\"kept\":{\"containers\":0,\"content\":0,\"images\":0,\
-     \"ingests\":0,\"leases\":0,\"namespaces\":2,\"snapshots\":0},\"removed\":{\"content\":[[\
-     \"x\",\"sha256:aaaaaaaaaaaaaaaaaaaaaaaaaaaaaaaaaaaaaaaaaaaaaaaaaaaaaaaaaaaaaaaa\"]],\
-     \"ingests\":[],\"leases\":[],\"snapshots\":[]},\"scanned\":0}}\n",
-);
-
-#[test]
-fn an_empty_store_reports_nothing(rt: HostRuntime) -> Result<(), Fail> {
-    assert!(rt;
-        gives(
-            rt.alloc(),
-            AN_EMPTY_STORE_REPORTS_NOTHING.0.as_bytes(),
-            AN_EMPTY_STORE_REPORTS_NOTHING.1
-        )?
-    );
-    Ok(())
-}
-
-#[test]
-fn keeps_what_an_image_references_and_reports_the_rest(rt: HostRuntime) -> Result<(), Fail> {
-    assert!(rt;
-        gives(
-            rt.alloc(),
-            KEEPS_WHAT_AN_IMAGE_REFERENCES.0.as_bytes(),
-            KEEPS_WHAT_AN_IMAGE_REFERENCES.1
-        )?
-    );
-    Ok(())
-}
-
-#[test]
-fn a_cycle_of_references_stays_only_with_a_root(rt: HostRuntime) -> Result<(), Fail> {
-    assert!(rt;
-        gives(
-            rt.alloc(),
-            A_CYCLE_OF_REFERENCES.0.as_bytes(),
-            A_CYCLE_OF_REFERENCES.1
-        )?
-    );
-    Ok(())
-}
-
-#[test]
-fn a_shared_blob_goes_with_its_last_row(rt: HostRuntime) -> Result<(), Fail> {
-    assert!(rt; gives(rt.alloc(), A_SHARED_BLOB.0.as_bytes(), A_SHARED_BLOB.1)?);
-    Ok(())
 }
 
 #[test]
@@ -194,7 +38,7 @@ fn the_longest_line_is_read_and_a_longer_one_refused(rt: HostRuntime) -> Result<
          {\"fault\":6,\"name\":\"TooLong\"}\n\
          {\"names\":[\"x\"],\"ok\":true}\n\
          {\"fault\":5,\"name\":\"BadLine\"}\n";
-    assert!(rt; gives(alloc, script.as_slice(), output)?);
+    assert!(rt; gives(&rt, alloc, script.as_slice(), output)?);
     Ok(())
 }
 
@@ -256,19 +100,31 @@ static SHORT: (&str, &str) = (
      {\"names\":[\"x\"],\"ok\":true}\n",
 );
 
+// The bytes up to the last line feed among them.
+fn whole(bytes: &[u8]) -> &[u8] {
+    match bytes.iter().rposition(|b| *b == b'\n') {
+        Some(at) => &bytes[..at + 1],
+        None => &bytes[..0],
+    }
+}
+
+// What a reader that fails after so many reads leaves is what its whole lines would give.
+fn leaves_whole_lines<T: Threads + Wait + Sync>(rt: &T, alloc: Global, reads: usize) -> Result<bool, Fault> {
+    let bytes = SHORT.0.as_bytes();
+    let mut reader = Slow { bytes, reads };
+    let mut left = Vec::new(alloc);
+    let end = run_script(rt, alloc, &mut reader, &mut left, 1);
+    let mut reader = whole(&bytes[..reads]);
+    let mut writer = Vec::new(alloc);
+    run_script(rt, alloc, &mut reader, &mut writer, 1)?;
+    Ok(end == Err(Fault::ReadFailed) && left.as_slice() == writer.as_slice())
+}
+
 #[test]
 fn a_reader_that_fails_ends_the_run_after_the_whole_lines(rt: HostRuntime) -> Result<(), Fail> {
-    let alloc = rt.alloc();
-    let mut reader = Slow {
-        bytes: SHORT.0.as_bytes(),
-        reads: 30,
-    };
-    let mut writer = Vec::new(alloc);
-    assert_eq!(rt;
-        run_script(alloc, &mut reader, &mut writer, 1),
-        Err(Fault::ReadFailed)
-    );
-    assert!(rt; writer.as_slice() == "{\"ok\":true}\n".as_bytes());
+    for reads in 0..SHORT.0.len() {
+        assert!(rt; leaves_whole_lines(&rt, rt.alloc(), reads)?);
+    }
     Ok(())
 }
 
@@ -283,7 +139,7 @@ fn one_byte_at_a_time_is_read_and_written(rt: HostRuntime) -> Result<(), Fail> {
         bytes: Vec::new(alloc),
         room: 1000,
     };
-    run_script(alloc, &mut reader, &mut writer, 1)?;
+    run_script(&rt, alloc, &mut reader, &mut writer, 1)?;
     assert!(rt; writer.bytes.as_slice() == SHORT.1.as_bytes());
     Ok(())
 }
@@ -298,11 +154,75 @@ fn a_writer_that_fails_ends_the_run_and_holds_a_beginning(rt: HostRuntime) -> Re
             room,
         };
         assert_eq!(rt;
-            run_script(alloc, &mut reader, &mut writer, 1),
+            run_script(&rt, alloc, &mut reader, &mut writer, 1),
             Err(Fault::WriteFailed)
         );
         assert!(rt; writer.bytes.as_slice() == &SHORT.1.as_bytes()[..room]);
     }
+    Ok(())
+}
+
+// Takes all bytes, and notes how many they were when it was flushed.
+#[derive(Drop)]
+struct Noting<'a> {
+    bytes: Vec<u8>,
+    flushed: &'a Cell<usize>,
+}
+
+impl io::Write for Noting<'_> {
+    fn write(&mut self, buf: &[u8]) -> io::Result<usize> {
+        self.bytes.extend_from_slice(buf)?;
+        Ok(buf.len())
+    }
+
+    fn flush(&mut self) -> io::Result<()> {
+        self.flushed.set(self.bytes.len());
+        Ok(())
+    }
+}
+
+static QUESTION: &str = "{\"op\":\"ns.list\"}\n";
+
+static REPLY: &str = "{\"names\":[],\"ok\":true}\n";
+
+// Asks three times, and each time only when the replies before were flushed.
+#[derive(Drop)]
+struct Client<'a> {
+    asked: usize,
+    flushed: &'a Cell<usize>,
+}
+
+impl io::Read for Client<'_> {
+    fn read(&mut self, buf: &mut [u8]) -> io::Result<usize> {
+        if self.flushed.get() != self.asked * REPLY.len() || buf.len() < QUESTION.len() {
+            return Err(io::Error::from(io::ErrorKind::Interrupted));
+        }
+        if self.asked == 3 {
+            return Ok(0);
+        }
+        self.asked += 1;
+        buf[..QUESTION.len()].copy_from_slice(QUESTION.as_bytes());
+        Ok(QUESTION.len())
+    }
+}
+
+// How a run for a client ends that waits for each reply.
+fn serves_a_client<T: Threads + Wait + Sync>(rt: &T, alloc: Global) -> Result<(), Fault> {
+    let flushed = Cell::new(0usize);
+    let mut reader = Client {
+        asked: 0,
+        flushed: &flushed,
+    };
+    let mut writer = Noting {
+        bytes: Vec::new(alloc),
+        flushed: &flushed,
+    };
+    run_script(rt, alloc, &mut reader, &mut writer, 1)
+}
+
+#[test]
+fn each_reply_is_flushed_before_more_is_read(rt: HostRuntime) -> Result<(), Fail> {
+    assert_eq!(rt; serves_a_client(&rt, rt.alloc()), Ok(()));
     Ok(())
 }
 
@@ -344,7 +264,7 @@ fn seventeen_workers_run_nothing(rt: HostRuntime) -> Result<(), Fail> {
     let mut reader = SHORT.0.as_bytes();
     let mut writer = Vec::new(alloc);
     assert_eq!(rt;
-        run_script(alloc, &mut reader, &mut writer, 17),
+        run_script(&rt, alloc, &mut reader, &mut writer, 17),
         Err(Fault::InvalidArgument)
     );
     assert!(rt; writer.is_empty());

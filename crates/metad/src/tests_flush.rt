@@ -32,7 +32,7 @@ fn a_writer_that_cannot_be_flushed_ends_the_run(rt: HostRuntime) -> Result<(), F
         flushes: 0,
     };
     assert_eq!(rt;
-        run_script(alloc, &mut reader, &mut writer, 1),
+        run_script(&rt, alloc, &mut reader, &mut writer, 1),
         Err(Fault::WriteFailed)
     );
     assert!(rt; writer.flushes > 0);

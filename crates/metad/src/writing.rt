@@ -1,6 +1,6 @@
 //! Writing by a loop of its own: a writer that fails holds a beginning of what was meant.
 ghost use Rattle.std.specs.Prelude.{◌≡◌, ℕ, List, OnOk, OnErr, IfErr, string_bytes};
-ghost use Rattle.std.specs.Io.KnownBytes.{Appends};
+ghost use Rattle.std.specs.Io.KnownBytes.{Appends, Keeps};
 ghost use Rattle.metad.specs.LineSteps.{with_line_feed};
 ghost use Rattle.metad.specs.Progress.{WritesFront};
 
@@ -36,4 +36,15 @@ pub fn write_line<W: Write>(writer: &mut W, text: &String) -> Result<(), Fault>
 {
     write_bytes(writer, text.as_bytes())?;
     write_bytes(writer, b"\n")
+}
+
+/// Flushes the writer, so that whoever waits for a reply gets it.
+pub fn flush<W: Write>(writer: &mut W) -> Result<(), Fault>
+    ensures kept { Keeps (W.contents writer.old) (W.contents writer.new) }
+    ensures fault { IfErr result (λ fault. fault ≡ Fault.WriteFailed) }
+{
+    match writer.flush() {
+        Ok(()) => Ok(()),
+        Err(_) => Err(Fault::WriteFailed),
+    }
 }

@@ -6,6 +6,7 @@ ghost use Rattle.meta_types.specs.Rows.{container_key};
 ghost use Rattle.meta_types.specs.Faults.{Refuses, OnlyRefuses};
 ghost use Rattle.object_tables.specs.Calls.{adding_fault, missing_fault, labelling_fault};
 
+use crate::stored::relabel;
 use crate::tables::Tables;
 use meta_types::{ContainerRow, Fault, Name, ShortName};
 use std::alloc::Global;
@@ -16,14 +17,14 @@ impl Tables {
         ensures { option_copied result ≡ row_at container_key (ns.now ∷ name.now
             ∷ []) self.now.containers }
     {
-        self.containers.get(&[ns.text(), name.text()])
+        self.containers.get(ns, name)
     }
 
     /// Whether the container is there.
     pub fn has_container(&self, ns: &ShortName, name: &Name) -> bool
         ensures { result ≡ has_row container_key (ns.now ∷ name.now ∷ []) self.now.containers }
     {
-        self.containers.has(&[ns.text(), name.text()])
+        self.containers.has(ns, name)
     }
 
     /// The rows, in the order of their keys.
@@ -31,11 +32,11 @@ impl Tables {
         ensures fault { Refuses result None }
         ensures ok { IfOk result (λ rows. map (λ row. row.now) rows.items ≡ self.now.containers) }
     {
-        self.containers.borrowed(alloc)
+        self.containers.rows(alloc)
     }
 
     /// Adds a container's row.
-    pub fn add_container(&mut self, _alloc: Global, row: ContainerRow) -> Result<(), Fault>
+    pub fn add_container(&mut self, alloc: Global, row: ContainerRow) -> Result<(), Fault>
         ensures fault { Refuses result (adding_fault self.old row.ns (has_row container_key
             (container_key row) self.old.containers)) }
         ensures ok { OnOk result (self.new ≡ record self.old
@@ -48,7 +49,7 @@ impl Tables {
         if self.has_container(&row.ns, &row.name) {
             return Err(Fault::AlreadyExists);
         }
-        self.containers.add(row)
+        self.containers.add(alloc, row)
     }
 
     /// Removes a container's row. It takes no memory.
@@ -61,7 +62,7 @@ impl Tables {
         } }
         ensures err { OnErr result (self.new ≡ self.old) }
     {
-        if self.containers.remove(&[ns.text(), name.text()]) {
+        if self.containers.remove(ns, name) {
             Ok(())
         } else {
             Err(Fault::NotFound)
@@ -85,7 +86,6 @@ impl Tables {
         }) }
         ensures err { OnErr result (self.new ≡ self.old) }
     {
-        self.containers
-            .relabel(alloc, &[ns.text(), name.text()], key, value)
+        relabel(&mut self.containers, alloc, ns, name, key, value)
     }
 }

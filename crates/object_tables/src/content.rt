@@ -6,6 +6,7 @@ ghost use Rattle.meta_types.specs.Rows.{content_key};
 ghost use Rattle.meta_types.specs.Faults.{Refuses, OnlyRefuses};
 ghost use Rattle.object_tables.specs.Calls.{adding_fault, missing_fault, kept, labelling_fault};
 
+use crate::stored::relabel;
 use crate::tables::Tables;
 use meta_types::{ContentRow, Digest, Fault, ShortName};
 use std::alloc::Global;
@@ -16,14 +17,14 @@ impl Tables {
         ensures { option_copied result ≡ row_at content_key (ns.now ∷ digest.now
             ∷ []) self.now.content }
     {
-        self.content.get(&[ns.text(), digest.text()])
+        self.content.get(ns, digest)
     }
 
     /// Whether the content is there.
     pub fn has_content(&self, ns: &ShortName, digest: &Digest) -> bool
         ensures { result ≡ has_row content_key (ns.now ∷ digest.now ∷ []) self.now.content }
     {
-        self.content.has(&[ns.text(), digest.text()])
+        self.content.has(ns, digest)
     }
 
     /// The rows, in the order of their keys.
@@ -31,11 +32,11 @@ impl Tables {
         ensures fault { Refuses result None }
         ensures ok { IfOk result (λ rows. map (λ row. row.now) rows.items ≡ self.now.content) }
     {
-        self.content.borrowed(alloc)
+        self.content.rows(alloc)
     }
 
     /// Adds a row of content.
-    pub fn add_content(&mut self, _alloc: Global, row: ContentRow) -> Result<(), Fault>
+    pub fn add_content(&mut self, alloc: Global, row: ContentRow) -> Result<(), Fault>
         ensures fault { Refuses result (adding_fault self.old row.ns (has_row content_key
             (content_key row) self.old.content)) }
         ensures ok { OnOk result (self.new ≡ record self.old
@@ -48,7 +49,7 @@ impl Tables {
         if self.has_content(&row.ns, &row.digest) {
             return Err(Fault::AlreadyExists);
         }
-        self.content.add(row)
+        self.content.add(alloc, row)
     }
 
     /// Removes a row of content. It takes no memory.
@@ -61,7 +62,7 @@ impl Tables {
         } }
         ensures err { OnErr result (self.new ≡ self.old) }
     {
-        if self.content.remove(&[ns.text(), digest.text()]) {
+        if self.content.remove(ns, digest) {
             Ok(())
         } else {
             Err(Fault::NotFound)
@@ -86,8 +87,7 @@ impl Tables {
         }) }
         ensures err { OnErr result (self.new ≡ self.old) }
     {
-        self.content
-            .relabel(alloc, &[ns.text(), digest.text()], key, value)
+        relabel(&mut self.content, alloc, ns, digest, key, value)
     }
 
     /// Leaves the rows whose places are marked. It takes no memory.

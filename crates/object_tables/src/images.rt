@@ -4,25 +4,46 @@ ghost use Rattle.meta_types.specs.Keys.{row_at, has_row, add_row, remove_row, ch
 ghost use Rattle.meta_types.specs.Labels.{put_label};
 ghost use Rattle.meta_types.specs.Rows.{image_key};
 ghost use Rattle.meta_types.specs.Faults.{Refuses, OnlyRefuses};
+ghost use Rattle.std.specs.Bool.{OnFalse};
+ghost use Rattle.std.proofs.Common.{ap};
+ghost use Rattle.object_tables.specs.Edits.{with_target};
 ghost use Rattle.object_tables.specs.Calls.{adding_fault, missing_fault, kept, labelling_fault};
 
+use crate::stored::relabel;
 use crate::tables::Tables;
+use arrival_table::{ByNamespace, Change};
 use meta_types::{Digest, Fault, ImageRow, Name, ShortName};
 use std::alloc::Global;
+
+/// Other content for an image to run from.
+#[derive(Drop)]
+struct Target {
+    target: Digest,
+}
+
+impl Change<Name, ImageRow, ()> for Target {
+    ghost changes = { λ c old answer new. new ≡ with_target c.target old };
+
+    ghost keeps_name = { λ c old answer new is. ap (λ row. row.name) is };
+
+    fn change(self, row: &mut ImageRow) {
+        row.target = self.target;
+    }
+}
 
 impl Tables {
     /// The row of an image.
     pub fn get_image(&self, ns: &ShortName, name: &Name) -> Option<&ImageRow>
         ensures { option_copied result ≡ row_at image_key (ns.now ∷ name.now ∷ []) self.now.images }
     {
-        self.images.get(&[ns.text(), name.text()])
+        self.images.get(ns, name)
     }
 
     /// Whether the image is there.
     pub fn has_image(&self, ns: &ShortName, name: &Name) -> bool
         ensures { result ≡ has_row image_key (ns.now ∷ name.now ∷ []) self.now.images }
     {
-        self.images.has(&[ns.text(), name.text()])
+        self.images.has(ns, name)
     }
 
     /// The rows, in the order of their keys.
@@ -30,11 +51,11 @@ impl Tables {
         ensures fault { Refuses result None }
         ensures ok { IfOk result (λ rows. map (λ row. row.now) rows.items ≡ self.now.images) }
     {
-        self.images.borrowed(alloc)
+        self.images.rows(alloc)
     }
 
     /// Adds an image's row.
-    pub fn add_image(&mut self, _alloc: Global, row: ImageRow) -> Result<(), Fault>
+    pub fn add_image(&mut self, alloc: Global, row: ImageRow) -> Result<(), Fault>
         ensures fault { Refuses result (adding_fault self.old row.ns (has_row image_key
             (image_key row) self.old.images)) }
         ensures ok { OnOk result (self.new ≡ record self.old
@@ -47,7 +68,7 @@ impl Tables {
         if self.has_image(&row.ns, &row.name) {
             return Err(Fault::AlreadyExists);
         }
-        self.images.add(row)
+        self.images.add(alloc, row)
     }
 
     /// Removes an image's row. It takes no memory.
@@ -60,7 +81,7 @@ impl Tables {
         } }
         ensures err { OnErr result (self.new ≡ self.old) }
     {
-        if self.images.remove(&[ns.text(), name.text()]) {
+        if self.images.remove(ns, name) {
             Ok(())
         } else {
             Err(Fault::NotFound)
@@ -77,7 +98,7 @@ impl Tables {
         } }
         ensures err { OnErr result (self.new ≡ self.old) }
     {
-        if self.images.set_target(&[ns.text(), name.text()], target) {
+        if set_target(&mut self.images, ns, name, target) {
             Ok(())
         } else {
             Err(Fault::NotFound)
@@ -102,8 +123,7 @@ impl Tables {
         }) }
         ensures err { OnErr result (self.new ≡ self.old) }
     {
-        self.images
-            .relabel(alloc, &[ns.text(), name.text()], key, value)
+        relabel(&mut self.images, alloc, ns, name, key, value)
     }
 
     /// Leaves the rows whose places are marked. It takes no memory.
@@ -112,5 +132,22 @@ impl Tables {
         ensures { self.new ≡ record self.old { images = kept keep.now self.old.images } }
     {
         self.images.retain(keep);
+    }
+}
+
+fn set_target(
+    images: &mut ByNamespace<Name, ImageRow>,
+    ns: &ShortName,
+    name: &Name,
+    target: Digest,
+) -> bool
+    ensures found { result ≡ has_row image_key (ns.now ∷ name.now ∷ []) images.old }
+    ensures left { images.new ≡ change_row image_key (ns.now ∷ name.now ∷ [])
+        (λ row. record row { target = target }) images.old }
+    ensures same { OnFalse result (images.new ≡ images.old) }
+{
+    match images.change(ns, name, Target { target }) {
+        Some(()) => true,
+        None => false,
     }
 }

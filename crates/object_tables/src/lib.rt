@@ -9,6 +9,7 @@ mod ingests;
 mod keyed;
 mod snapshots;
 mod span;
+mod stored;
 mod table;
 mod tables;
 

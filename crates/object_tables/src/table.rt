@@ -6,7 +6,7 @@ ghost use Rattle.std.specs.Cmp.Lexicographic.{slice_cmp};
 ghost use Rattle.meta_types.specs.Text.{text_cmp};
 ghost use Rattle.meta_types.specs.Keys.{is_key, is_before, row_at, has_row, add_row, remove_row, change_row, are_in_order};
 ghost use Rattle.meta_types.specs.Labels.{is_label, put_label};
-ghost use Rattle.meta_types.specs.Rows.{image_key, snap_key};
+ghost use Rattle.meta_types.specs.Rows.{snap_key};
 ghost use Rattle.meta_types.specs.Faults.{Refuses};
 ghost use Rattle.meta_types.specs.Outcomes.{names_in};
 ghost use Rattle.object_tables.specs.Calls.{labelling_fault, kept};
@@ -15,7 +15,7 @@ ghost use Rattle.object_tables.specs.Children.{is_under};
 use crate::children::ChildRow;
 use crate::keyed::{Keyed, Labelled};
 use crate::span::{in_namespace, of_snapshotter, under_parent};
-use meta_types::{Digest, Fault, ImageRow, Listing, ShortName, SnapKey, SnapRow};
+use meta_types::{Fault, Listing, ShortName, SnapKey, SnapRow};
 use std::alloc::Global;
 use std::cmp::Ordering;
 use std::marker::Model;
@@ -163,17 +163,6 @@ impl<R: Labelled> Table<R> {
         ensures err { OnErr result (self.new ≡ self.old) }
     {
         relabel_row(&mut self.rows, alloc, at, key, value)
-    }
-}
-
-impl Table<ImageRow> {
-    pub(crate) fn set_target(&mut self, at: &[&str], target: Digest) -> bool
-        ensures found { result ≡ has_row image_key (map (λ s. s.now) at.now) self.old }
-        ensures left { self.new ≡ change_row image_key (map (λ s. s.now) at.now)
-            (λ row. record row { target = target }) self.old }
-        ensures same { OnFalse result (self.new ≡ self.old) }
-    {
-        target_row(&mut self.rows, at, target)
     }
 }
 
@@ -357,22 +346,8 @@ fn relabel_row<R: Labelled>(
     }
 }
 
-fn is_label(key: &str, value: &str) -> bool
+pub(crate) fn is_label(key: &str, value: &str) -> bool
     ensures { result ≡ is_label key.now value.now }
 {
     value == "" || (key != "" && value.len() <= 4096 && key.len() <= 4096 - value.len())
-}
-
-fn target_row(rows: &mut Vec<ImageRow>, at: &[&str], target: Digest) -> bool
-    requires { IsTrue (are_in_order image_key rows.old.items) }
-    ensures found { result ≡ has_row image_key (map (λ s. s.now) at.now) rows.old.items }
-    ensures left { rows.new.items ≡ change_row image_key (map (λ s. s.now) at.now)
-        (λ row. record row { target = target }) rows.old.items }
-    ensures same { OnFalse result (rows.new.items ≡ rows.old.items) }
-{
-    let Ok(place) = search(rows, at) else {
-        return false;
-    };
-    rows[place].target = target;
-    true
 }

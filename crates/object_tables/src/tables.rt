@@ -9,9 +9,12 @@ ghost use Rattle.object_tables.specs.Calls.{AreInOrder, is_above, missing_fault,
 ghost use Rattle.meta_types.specs.Sound.{AreTables};
 
 use crate::children::Snapshots;
+use crate::stored::names_in;
 use crate::table::Table;
+use arrival_table::ByNamespace;
 use meta_types::{
-    ContainerRow, ContentRow, Fault, ImageRow, IngestRow, Kind, Listing, ShortName, SnapRow,
+    ContainerRow, ContentRow, Digest, Fault, ImageRow, IngestRow, Kind, Listing, Name, ShortName,
+    SnapRow,
 };
 use std::alloc::Global;
 use std::marker::Model;
@@ -20,9 +23,9 @@ use std::marker::Model;
 #[derive(Drop)]
 pub struct Tables {
     pub(crate) namespaces: Table<ShortName>,
-    pub(crate) images: Table<ImageRow>,
-    pub(crate) containers: Table<ContainerRow>,
-    pub(crate) content: Table<ContentRow>,
+    pub(crate) images: ByNamespace<Name, ImageRow>,
+    pub(crate) containers: ByNamespace<Name, ContainerRow>,
+    pub(crate) content: ByNamespace<Digest, ContentRow>,
     pub(crate) ingests: Table<IngestRow>,
     pub(crate) snapshots: Snapshots,
 }
@@ -77,9 +80,9 @@ impl Tables {
     {
         Tables {
             namespaces: Table::new(alloc),
-            images: Table::new(alloc),
-            containers: Table::new(alloc),
-            content: Table::new(alloc),
+            images: ByNamespace::new(alloc),
+            containers: ByNamespace::new(alloc),
+            content: ByNamespace::new(alloc),
             ingests: Table::new(alloc),
             snapshots: Snapshots::new(alloc),
         }
@@ -117,9 +120,9 @@ impl Tables {
     {
         Counts {
             namespaces: self.namespaces.len() as u128,
-            images: self.images.len() as u128,
-            containers: self.containers.len() as u128,
-            content: self.content.len() as u128,
+            images: self.images.len(),
+            containers: self.containers.len(),
+            content: self.content.len(),
             ingests: self.ingests.len() as u128,
             snapshots: self.snapshots.table().len() as u128,
         }
@@ -217,9 +220,9 @@ impl Tables {
             return Err(Fault::NotFound);
         }
         match kind {
-            Kind::Image => self.images.names(alloc, ns),
-            Kind::Container => self.containers.names(alloc, ns),
-            Kind::Content => self.content.names(alloc, ns),
+            Kind::Image => names_in(&self.images, alloc, ns),
+            Kind::Container => names_in(&self.containers, alloc, ns),
+            Kind::Content => names_in(&self.content, alloc, ns),
             Kind::Ingest => self.ingests.names(alloc, ns),
         }
     }

@@ -4,5 +4,4 @@ pub mod Growth
 pub mod Stepping
 pub mod Emptied
 pub mod ToldAll
-pub mod NoFailures
 pub mod Finishing

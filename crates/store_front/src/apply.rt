@@ -40,7 +40,10 @@ impl<L: Ledger, S: SnapBackend, B: BlobBackend, I: IngestBackend> Locked<L, S, B
             ≡ self.old.store.failures + reply_failures result }
     {
         let Locked {
-            state, log, book, ..
+            state,
+            log,
+            book,
+            ..
         } = self;
         let Session {
             number,

@@ -29,8 +29,8 @@ pub(crate) fn check_sessions<L: Ledger>(
     }
     match first_mismatch(sessions, log) {
         Some(place) => Err(Fault::Mismatch {
-                place: place as u64,
-            }),
+            place: place as u64,
+        }),
         None => Ok(()),
     }
 }

@@ -17,11 +17,7 @@ fn clear<L: Ledger>(alloc: Global, book: &mut Book<L>, session: &mut Session<L>)
 }
 
 // The same of all sessions.
-pub(crate) fn clear_all<L: Ledger>(
-    alloc: Global,
-    book: &mut Book<L>,
-    sessions: &mut [Session<L>],
-)
+pub(crate) fn clear_all<L: Ledger>(alloc: Global, book: &mut Book<L>, sessions: &mut [Session<L>])
     ensures sessions { sessions.new ≡ map fresh sessions.old }
     ensures total { book.new.total + told_to sessions.old ≡ book.old.total }
 {

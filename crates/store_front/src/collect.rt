@@ -49,7 +49,10 @@ impl<L: Ledger, S: SnapBackend, B: BlobBackend, I: IngestBackend> Locked<L, S, B
             ≡ self.old.store.failures + report_failures result }
     {
         let Locked {
-            state, log, book, ..
+            state,
+            log,
+            book,
+            ..
         } = self;
         let Session {
             number,
@@ -93,7 +96,10 @@ impl<L: Ledger, S: SnapBackend, B: BlobBackend, I: IngestBackend> Locked<L, S, B
             ≡ self.old.store.failures + report_failures result }
     {
         let Locked {
-            state, log, book, ..
+            state,
+            log,
+            book,
+            ..
         } = self;
         let Session {
             number,

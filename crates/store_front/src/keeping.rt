@@ -120,7 +120,11 @@ pub(crate) fn keep_report<L: Ledger>(
 {
     match outcome {
         Ok(reports) => {
-            let Reports { caller, log: one, list: other } = reports;
+            let Reports {
+                caller,
+                log: one,
+                list: other,
+            } = reports;
             let answers = Answers {
                 log: Answer::Reported(one),
                 list: Answer::Reported(other),

@@ -17,6 +17,7 @@ mod never;
 mod numbers;
 mod parting;
 mod plan_copy;
+mod records;
 mod running;
 mod session;
 mod store;

@@ -7,9 +7,7 @@ ghost use Rattle.meta_types.specs.declared.fault.Fault.TheVariants.{FailedPrecon
 use crate::base::Base;
 use crate::entries::Entry;
 use crate::session::Session;
-use back_model::{
-    BlobBackend, IngestBackend, MemBackend, MemBlobs, MemIngests, SnapBackend,
-};
+use back_model::{BlobBackend, IngestBackend, MemBackend, MemBlobs, MemIngests, SnapBackend};
 use meta_types::Fault;
 use request_core::State;
 use std::alloc::Global;

@@ -2,26 +2,13 @@
 ghost use Rattle.std.specs.Prelude.{◌≡◌};
 
 use crate::locked::Locked;
-use back_model::{MemBackend, MemBlobs, MemIngests};
-use request_core::State;
 use std::sync::ledger::Ledger;
 
 impl<L: Ledger> Locked<L> {
-    /// Tells that no device has failed. It changes nothing: the shards are taken out and put back.
-    pub fn never_failed(&mut self)
-        ensures none { self.old.store.failures ≡ 0 }
-        ensures same { self.new ≡ self.old }
+    /// No device of a store in memory ever failed. It does nothing, and serves a proof alone.
+    pub fn never_failed(&self)
+        ensures { self.now.store.failures ≡ 0 }
     {
-        let state = &mut self.state;
-        tell_none_failed(state);
+        self.state.never_failed()
     }
-}
-
-fn tell_none_failed(state: &mut State<MemBackend, MemBlobs, MemIngests>)
-    ensures none { state.old.failures ≡ 0 }
-    ensures same { state.new ≡ state.old }
-{
-    let State { backends, .. } = state;
-    let shards = backends.take_shards();
-    backends.put_shards(shards);
 }

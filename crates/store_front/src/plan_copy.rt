@@ -74,8 +74,15 @@ impl<L: Ledger, S: SnapBackend, B: BlobBackend, I: IngestBackend> Store<L, S, B,
             return Err(Fault::InvalidArgument);
         }
         let Copied { cut, now } = self.inner.lock(rt).copies(alloc, session)?;
-        let report =
-            collecting::dry_report(rt, alloc, &now.records, &now.lists, at, workers, gate)?;
+        let report = collecting::dry_report(
+            rt,
+            alloc,
+            &now.records,
+            &now.lists,
+            at,
+            workers,
+            gate,
+        )?;
         Ok(Planned { report, cut })
     }
 }

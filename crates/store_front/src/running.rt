@@ -45,9 +45,7 @@ pub(crate) fn run_collect<
     if dry {
         return collecting::dry_run(rt, alloc, records, backends, at, workers, gate);
     }
-    collecting::collect(
-        rt, alloc, records, backends, at, workers, gate, sweep_gate,
-    )
+    collecting::collect(rt, alloc, records, backends, at, workers, gate, sweep_gate)
 }
 
 // Removes an image or a lease, and collects.

@@ -12,9 +12,7 @@ ghost use Rattle.store_front.specs.Parts.{IsPart};
 use crate::base::History;
 use crate::locked::Locked;
 use crate::session::Session;
-use back_model::{
-    BlobBackend, IngestBackend, MemBackend, MemBlobs, MemIngests, SnapBackend,
-};
+use back_model::{BlobBackend, IngestBackend, MemBackend, MemBlobs, MemIngests, SnapBackend};
 use backend_sweep::SweepGate;
 use gc_report::Report;
 use meta_types::{Fault, Instant, Removal, Reply, Request};
@@ -120,9 +118,7 @@ impl<L: Ledger, S: SnapBackend, B: BlobBackend, I: IngestBackend> Store<L, S, B,
         let mut guard = self.inner.lock(rt);
         let locked = &mut *guard;
         locked.admit(session);
-        locked.remove_collect(
-            rt, alloc, session, removal, at, workers, gate, sweep_gate,
-        )
+        locked.remove_collect(rt, alloc, session, removal, at, workers, gate, sweep_gate)
     }
 
     /// A history so far, in which the session's part is its list.

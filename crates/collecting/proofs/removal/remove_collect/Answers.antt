@@ -46,6 +46,6 @@ returns-clause-ok g c =
     c.remove.ensures ∙ (λ i. without (records_in (c.in_ok-left.ensures.ok i)) c.in_ok-named.named) in
     let report : Report = c.in_ok-reports.reports in
     subst (λ (s : State). Collects s c.args.at.0 report.failed report
-        (store_in c.collect.new.records c.collect.new.backends.shards (g.B.BlobBackend.contents c.collect.new.backends.blobs) (g.I.IngestBackend.contents c.collect.new.backends.ingests)))
+    (store_in c.collect.new.records c.collect.new.backends.shards (g.B.BlobBackend.contents c.collect.new.backends.blobs) (g.I.IngestBackend.contents c.collect.new.backends.ingests)))
     (left_is state.records (records_in c.remove.new.records) state.backends c.args.removal.now c.in_ok-named.named c.in_ok-named.ensures.1 left)
     c.in_ok-reports.ensures.ok

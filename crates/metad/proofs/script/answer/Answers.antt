@@ -6,7 +6,7 @@ use Rattle.metad.proofs.script.answer.Goals as goal
 
 pub returns-in_err-reply_to-clause-err : goal.returns-in_err-reply_to-clause-err
 returns-in_err-reply_to-clause-err g c = holds_on_err c.from_residual.result (λ line is_line.
-    let step = line_step c.args.store.now None line in
+    let step = line_step c.args.desk.now None line in
     (step.0, step.0, step.1, (None, refl), WritesFront-none _ step.0))
 
 pub returns-in-Some-clause-err : goal.returns-in-Some-clause-err

@@ -1,5 +1,5 @@
-use Rattle.metad.specs.Progress.{Runs}
 use Rattle.metad.proofs.script.run_script.Given as goal
 
-abbrev pub invariant-reads : goal.invariant-reads
-invariant-reads g l = Runs l.store l.buffer (g.R.Read.remaining l.fn.reader) (g.R.Read.remaining l.reader) (g.W.Write.contents l.fn.writer) (g.W.Write.contents l.writer)
+-- the ledger is named as the blank is
+abbrev pub ghosts-run_named : goal.ghosts-run_named
+ghosts-run_named g a = record { name = a.blank.name; parts = a.blank.parts }

@@ -1,18 +1,26 @@
-use Rattle.std.proofs.Common.{◌∙◌, ap, sym, inr}
+use Rattle.std.proofs.Common.{◌∙◌, ap, sym, refl}
 use Rattle.meta_types.specs.Time.{instant_of}
-use Rattle.metad.proofs.Outcomes.{no_moment, refused_collection, answered_collection}
-use Rattle.metad.proofs.RequestAnswers.{passed_on}
+use Rattle.meta_types.specs.Steps.{collect}
+use Rattle.request_line.specs.declared.asked.Asked.TheVariants as A
+use Rattle.metad.proofs.Served.{no_collection, is_collection, report_ok, report_err}
 use Rattle.metad.proofs.serving.collect.Goals as goal
 
 -- a moment that can't be read
-pub returns-in_default-clause-fault : goal.returns-in_default-clause-fault
-returns-in_default-clause-fault c = inr (no_moment c.args.store.now c.args.at.now (ap instant_of (sym c.text.ensures) ∙ sym c.in_default.ensures.moment))
+pub returns-in_default-clause-err : goal.returns-in_default-clause-err
+returns-in_default-clause-err g c = no_collection c.args.locked.now.store.state c.args.at.now c.args.dry (ap instant_of (sym c.text.ensures) ∙ sym c.in_default.ensures.moment)
 
--- too many rows, or no memory
-pub returns-in_err-collect-clause-fault : goal.returns-in_err-collect-clause-fault
-returns-in_err-collect-clause-fault c = passed_on c.from_residual.result _ _ c.from_residual.ensures.1
-    (refused_collection c.args.store.now c.args.at.now c.in-Some.at.0 (ap instant_of (sym c.text.ensures) ∙ sym c.in-Some.ensures.moment) Unit c.in_err-collect.field-0.0 c.in_err-collect.ensures.fault)
-
--- the one outcome of a collection
+-- the report of the step
 pub returns-clause-ok : goal.returns-clause-ok
-returns-clause-ok c = answered_collection c.args.store.now c.args.at.now c.in-Some.at.0 (ap instant_of (sym c.text.ensures) ∙ sym c.in-Some.ensures.moment) _ _ c.in_ok-collect.ensures.fault c.in_ok-collect.ensures.ok
+returns-clause-ok g c =
+    let old = c.args.locked.now.store.state in
+    let is = is_collection old c.args.at.now c.in-Some.at.0 c.args.dry c.args.workers (ap instant_of (sym c.text.ensures) ∙ sym c.in-Some.ensures.moment) c.requires.workers in
+    report_ok old c.collect-report.new.self.store.state (A.Collect c.args.at.now c.args.dry) (collect c.in-Some.at.0 c.args.dry c.args.workers) is
+        c.args.locked.now.store.failures c.collect-report.new.self.store.failures c.never_failed.ensures c.never_failed-2.ensures c.collect-report.result c.collect-report.ensures.step c.collect-report.ensures.failures
+
+-- the refusal of the step, or want of memory or of a thread
+pub returns-clause-err : goal.returns-clause-err
+returns-clause-err g c =
+    let old = c.args.locked.now.store.state in
+    let is = is_collection old c.args.at.now c.in-Some.at.0 c.args.dry c.args.workers (ap instant_of (sym c.text.ensures) ∙ sym c.in-Some.ensures.moment) c.requires.workers in
+    report_err old c.collect-report.new.self.store.state (A.Collect c.args.at.now c.args.dry) (collect c.in-Some.at.0 c.args.dry c.args.workers) is
+        refl c.collect-report.result _ c.collect-report.ensures.step c.collect-report.ensures.fault

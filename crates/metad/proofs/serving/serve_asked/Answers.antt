@@ -1,20 +1,19 @@
-use Rattle.std.proofs.Common.{◌≡◌, ◌⊎◌, IfOk, IfErr, sym, subst}
-use Rattle.meta_types.specs.Steps.{refused}
-use Rattle.meta_types.specs.declared.fault.Fault.TheVariants.{OutOfMemory}
-use Rattle.reply_line.specs.Answers.{answer_of}
+use Rattle.std.proofs.Common.{sym, subst}
+use Rattle.meta_types.specs.Steps.{reported}
 use Rattle.request_line.specs.declared.asked.Asked.{Asked}
-use Rattle.metad.specs.LineSteps.{asked_step}
-use Rattle.metad.proofs.Served.{no_dry_run}
+use Rattle.metad.specs.Served.{IsServed, IsRefused}
+use Rattle.metad.proofs.LineAnswers.{passed_on}
 use Rattle.metad.proofs.serving.serve_asked.Goals as goal
 
--- the line reader asks for no dry run yet
-pub returns-in-Collect-clause-ok : goal.returns-in-Collect-clause-ok
-returns-in-Collect-clause-ok c =
-    subst (λ (asked : Asked). IfOk c.collect.result (λ answer. asked_step c.args.store.now asked ≡ (answer_of answer, c.collect.new.store)))
-    (sym (no_dry_run c.args.asked.now _ _ c.in-Collect.is c.requires)) c.collect.ensures.ok
+-- the removal is refused
+pub returns-in_err-report-in-Remove-clause-err : goal.returns-in_err-report-in-Remove-clause-err
+returns-in_err-report-in-Remove-clause-err g c =
+    let old = c.args.locked.now.store.state in
+    let new = c.remove.new.locked.store.state in
+    passed_on c.from_residual-in_err-report-in-Remove.result _ (λ fault. IsRefused old c.args.asked.now fault new) c.from_residual-in_err-report-in-Remove.ensures.1
+        (subst (λ (asked : Asked). IsRefused old asked c.in_err-report-in-Remove.field-0.0 new) (sym c.in-Remove.is) c.in_err-report-in-Remove.ensures.err)
 
--- the same where it is refused
-pub returns-in-Collect-clause-fault : goal.returns-in-Collect-clause-fault
-returns-in-Collect-clause-fault c =
-    subst (λ (asked : Asked). IfErr c.collect.result (λ fault. (fault ≡ OutOfMemory) ⊎ (asked_step c.args.store.now asked ≡ (refused fault, c.args.store.now))))
-    (sym (no_dry_run c.args.asked.now _ _ c.in-Collect.is c.requires)) c.collect.ensures.fault
+-- the removal is done
+pub returns-in_ok-report-in-Remove-clause-ok : goal.returns-in_ok-report-in-Remove-clause-ok
+returns-in_ok-report-in-Remove-clause-ok g c =
+    subst (λ (asked : Asked). IsServed c.args.locked.now.store.state asked (reported c.in_ok-report-in-Remove.report) c.remove.new.locked.store.state) (sym c.in-Remove.is) c.in_ok-report-in-Remove.ensures.ok

@@ -11,6 +11,6 @@ pub invariant_of-self : goal.invariant_of-self
 invariant_of-self c =
     other_containers _ c.self.invariant _
     (labelled container_key (λ (row : ContainerRow). row.ns) _ _ _ c.self.invariant.containers
-    (c.text.result.now ∷ c.text-2.result.now ∷ [])
+    (c.args.ns.now ∷ c.args.name.now ∷ [])
     (λ row. record row { labels = put_label c.args.key.now c.args.value.now row.labels })
     (λ row. refl) (λ row. refl) c.relabel.result c.relabel.ensures.ok c.relabel.ensures.err)

@@ -11,6 +11,6 @@ pub invariant_of-self : goal.invariant_of-self
 invariant_of-self c =
     other_images _ c.self.invariant _
     (labelled image_key (λ (row : ImageRow). row.ns) _ _ _ c.self.invariant.images
-    (c.text.result.now ∷ c.text-2.result.now ∷ [])
+    (c.args.ns.now ∷ c.args.name.now ∷ [])
     (λ row. record row { labels = put_label c.args.key.now c.args.value.now row.labels })
     (λ row. refl) (λ row. refl) c.relabel.result c.relabel.ensures.ok c.relabel.ensures.err)

@@ -10,5 +10,5 @@ pub invariant_of-self : goal.invariant_of-self
 invariant_of-self c =
     other_containers _ c.self.invariant _
     (removed container_key (λ (row : ContainerRow). row.ns) _ _ _ c.self.invariant.containers
-    (c.text.result.now ∷ c.text-2.result.now ∷ [])
+    (c.args.ns.now ∷ c.args.name.now ∷ [])
     c.remove.ensures.left)

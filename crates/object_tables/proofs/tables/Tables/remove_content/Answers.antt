@@ -10,5 +10,5 @@ pub invariant_of-self : goal.invariant_of-self
 invariant_of-self c =
     other_content _ c.self.invariant _
     (removed content_key (λ (row : ContentRow). row.ns) _ _ _ c.self.invariant.content
-    (c.text.result.now ∷ c.text-2.result.now ∷ [])
+    (c.args.ns.now ∷ c.args.digest.now ∷ [])
     c.remove.ensures.left)

@@ -10,5 +10,5 @@ pub invariant_of-self : goal.invariant_of-self
 invariant_of-self c =
     other_images _ c.self.invariant _
     (removed image_key (λ (row : ImageRow). row.ns) _ _ _ c.self.invariant.images
-    (c.text.result.now ∷ c.text-2.result.now ∷ [])
+    (c.args.ns.now ∷ c.args.name.now ∷ [])
     c.remove.ensures.left)

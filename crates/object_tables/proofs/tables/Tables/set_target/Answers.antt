@@ -10,6 +10,6 @@ pub invariant_of-self : goal.invariant_of-self
 invariant_of-self c =
     other_images _ c.self.invariant _
     (changed image_key (λ (row : ImageRow). row.ns) _ _ _ c.self.invariant.images
-    (c.text.result.now ∷ c.text-2.result.now ∷ [])
+    (c.args.ns.now ∷ c.args.name.now ∷ [])
     (λ row. record row { target = c.args.target }) (λ row. refl) (λ row. refl)
     c.set_target.ensures.left)

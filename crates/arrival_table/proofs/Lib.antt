@@ -1,0 +1,10 @@
+pub mod Arrivals
+pub mod Entries
+pub mod JoinedLists
+pub mod KeptOrder
+pub mod ListLoops
+pub mod Listed
+pub mod MarksByKey
+pub mod NamespaceRows
+pub mod PlacesSorted
+pub mod Retained

@@ -1,0 +1,34 @@
+use Rattle.std.proofs.Common.{◌≡◌, ◌∷◌, [], false, List, ap, ◌∙◌, sym, subst, arith}
+use Rattle.std.specs.List.{insert, position_or_len}
+use Rattle.meta_types.specs.Keys.{is_before, has_row}
+use Rattle.meta_types.specs.Text.{Text}
+use Rattle.arrival_table.specs.Namespaces.{group_key}
+use Rattle.arrival_table.proofs.NamespaceRows.{place_within, same_rows, opened_groups, opened_home}
+use Rattle.arrival_table.proofs.groups.home_of.Goals as goal
+
+pub insert-requires : goal.insert-requires
+insert-requires g c =
+    let within = place_within (λ (group : Text × List g.row.R.Denot). is_before (c.args.ns.now ∷ []) (group_key group)) c.deref.result.now in
+    omega (arith, within, c.in-Err.ensures.absent, c.deref.ensures.len)
+
+none : (g : _) (c : goal.In_ok-insert-in-Err g) → has_row group_key (c.args.ns.now ∷ []) c.args.groups.now.items ≡ false
+none g c = ap (has_row group_key (c.args.ns.now ∷ [])) (sym c.deref.ensures.value) ∙ c.in-Err.ensures.none
+
+place : (g : _) (c : goal.In_ok-insert-in-Err g) → c.in-Err.place ≡ position_or_len (λ group. is_before (c.args.ns.now ∷ []) (group_key group)) c.args.groups.now.items
+place g c = c.in-Err.ensures.absent ∙ ap (position_or_len (λ group. is_before (c.args.ns.now ∷ []) (group_key group))) c.deref.ensures.value
+
+opened : (g : _) (c : goal.In_ok-insert-in-Err g) → c.insert.new.self.items ≡ insert c.args.groups.now.items c.in-Err.place (c.args.ns.now, [])
+opened g c = c.in_ok-insert-in-Err.ensures.items ∙ ap (insert c.args.groups.now.items c.in-Err.place) (c.new.ensures ∙ ap (λ ns. (ns, [])) c.in_ok-ns-in-Err.ensures.ok)
+
+-- the namespace stands in its place, and has no row
+pub returns-in_ok-insert-in-Err-clause-home : goal.returns-in_ok-insert-in-Err-clause-home
+returns-in_ok-insert-in-Err-clause-home g c =
+    opened_home g.K.Named.texts_of g.R.Row.name_of g.R.NamespaceRow.ns_of c.args.ns.now c.in-Err.place c.args.groups.now.items c.insert.new.self.items c.requires (none g c) (place g c) (opened g c)
+
+pub returns-in_ok-insert-in-Err-clause-same : goal.returns-in_ok-insert-in-Err-clause-same
+returns-in_ok-insert-in-Err-clause-same g c =
+    same_rows g.K.Named.texts_of g.R.Row.name_of g.R.NamespaceRow.ns_of c.args.ns.now c.in-Err.place c.args.groups.now.items c.insert.new.self.items c.requires (none g c) (place g c) (opened g c)
+
+pub returns-in_ok-insert-in-Err-clause-groups : goal.returns-in_ok-insert-in-Err-clause-groups
+returns-in_ok-insert-in-Err-clause-groups g c =
+    opened_groups g.K.Named.texts_of g.R.Row.name_of g.R.NamespaceRow.ns_of c.args.ns.now c.in-Err.place c.args.groups.now.items c.insert.new.self.items c.requires (none g c) (place g c) (opened g c)

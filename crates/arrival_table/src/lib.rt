@@ -1,0 +1,20 @@
+//! Rows in the order in which they came, each found by its name in a hash table, and seen in the order of their keys.
+#![tactic(auto)]
+
+mod by_namespace;
+mod group;
+mod groups;
+mod in_order;
+mod listing;
+mod named;
+mod places;
+mod row;
+mod rows;
+mod table;
+
+pub use by_namespace::ByNamespace;
+pub use in_order::InOrder;
+pub use listing::in_key_order;
+pub use named::Named;
+pub use row::{Change, NamespaceRow, Row};
+pub use table::Table;

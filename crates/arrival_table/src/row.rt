@@ -1,0 +1,52 @@
+//! Rows, and what may be done to one in its place.
+ghost use Rattle.std.specs.Prelude.{◌≡◌, None, IfOk};
+ghost use Rattle.meta_types.specs.Text.{Text};
+ghost use Rattle.meta_types.specs.Faults.{Refuses};
+
+use crate::named::Named;
+use meta_types::{Fault, ShortName};
+use std::alloc::Global;
+
+/// A row that is found by a name of its own.
+pub trait Row<K: Named>: Drop {
+    /// The name that it is found by.
+    ghost name_of: { Self → K };
+
+    /// The name that it is found by.
+    fn name(&self) -> &K
+        ensures { result.now ≡ name_of self.now };
+
+    /// The row once more. It shares its texts.
+    fn copy_row(&self, alloc: Global) -> Result<Self, Fault>
+        ensures fault { Refuses result None }
+        ensures ok { IfOk result (λ row. row ≡ self.now) };
+}
+
+/// A change of one row in its place, which leaves its name.
+pub trait Change<K: Named, R: Row<K>, A>: Drop {
+    /// What the row was, what is answered, and what it becomes.
+    ghost changes: { Self → R → A → R → Type 0 };
+
+    /// Changes the row.
+    fn change(self, row: &mut R) -> A
+        ensures { changes self row.old result row.new };
+
+    /// The row is found by the name that it had.
+    ghost keeps_name: { (c : Self) (old : R) (answer : A) (new : R) → changes c old answer new
+        → R.name_of new ≡ R.name_of old };
+}
+
+/// A row of a namespace, found there by a name of its own.
+pub trait NamespaceRow<K: Named>: Row<K> {
+    /// Its namespace.
+    ghost ns_of: { Self → Text };
+
+    /// Its namespace.
+    fn ns(&self) -> &ShortName
+        ensures { result.now ≡ ns_of self.now };
+
+    /// The same row, whose namespace shares this text.
+    fn share_ns(&mut self, ns: ShortName)
+        requires { ns ≡ ns_of self.old }
+        ensures { self.new ≡ self.old };
+}

@@ -1,0 +1,36 @@
+use Rattle.std.proofs.lemmas.Result.{on_err_weaker, on_ok_weaker}
+use Rattle.metad.specs.Output.{IsOutput, IsBeginning}
+use Rattle.metad.proofs.Runs.{Progress-empty, Runs-none, Runs-feed, Runs-break, Runs-end, Runs-whole, Runs-begins, Exchanges-none}
+use Rattle.metad.proofs.Writers.{holds_on_err, Keeps-same}
+use Rattle.metad.proofs.script.run_named.Goals as goal
+
+-- the store couldn't be opened, and nothing was read
+pub returns-in_err-desk-clause-err : goal.returns-in_err-desk-clause-err
+returns-in_err-desk-clause-err g c = holds_on_err c.from_residual.result (Exchanges-none _ _)
+
+pub reads-init : goal.reads-init
+reads-init g c = Runs-none _ _ _ _ (rw c.in_ok-desk.ensures.ok (Progress-empty _ c.new-buffer.ensures.empty))
+
+pub returns-in-Ok-eq0-clause-ok : goal.returns-in-Ok-eq0-clause-ok
+returns-in-Ok-eq0-clause-ok g c = on_ok_weaker c.finish.result (λ e. Runs-end IsOutput c.reads.invariant (rw c.in-Ok-eq0.field-0-test at c.in-Ok-eq0.ensures.bytes.0) e) c.finish.ensures.ok
+
+pub returns-in-Ok-eq0-clause-err : goal.returns-in-Ok-eq0-clause-err
+returns-in-Ok-eq0-clause-err g c = on_err_weaker c.finish.result (λ e. Runs-end IsBeginning c.reads.invariant (rw c.in-Ok-eq0.field-0-test at c.in-Ok-eq0.ensures.bytes.0) e) c.finish.ensures.err
+
+pub returns-in_err-feed-in-Ok-clause-err : goal.returns-in_err-feed-in-Ok-clause-err
+returns-in_err-feed-in-Ok-clause-err g c = holds_on_err c.from_residual-in_err-feed-in-Ok.result (Runs-break _ c.reads.invariant c.in-Ok.ensures.bytes.0 c.in_err-feed-in-Ok.ensures.err)
+
+pub reads-preserved : goal.reads-preserved
+reads-preserved g c = rw c.shorten_history.ensures (Runs-feed _ c.reads.invariant c.in-Ok.ensures.bytes.0 c.in_ok-feed-in-Ok.ensures.ok)
+
+pub returns-in-Err-clause-read_failed : goal.returns-in-Err-clause-read_failed
+returns-in-Err-clause-read_failed g c = λ e. Runs-whole c.reads.invariant c.in-Err.ensures.bytes
+
+pub returns-in-Err-clause-err : goal.returns-in-Err-clause-err
+returns-in-Err-clause-err g c = Runs-begins c.reads.invariant c.in-Err.ensures.bytes
+
+pub returns-clause-read_failed : goal.returns-clause-read_failed
+returns-clause-read_failed g c = λ e. Runs-whole c.reads.invariant (Keeps-same _)
+
+pub returns-clause-err : goal.returns-clause-err
+returns-clause-err g c = Runs-begins c.reads.invariant (Keeps-same _)

@@ -1,0 +1,19 @@
+//! The records of a store.
+ghost use Rattle.std.specs.Prelude.{◌≡◌};
+
+use crate::locked::Locked;
+use back_model::{BlobBackend, IngestBackend, SnapBackend};
+use request_core::Records;
+use std::sync::ledger::Ledger;
+
+impl<L: Ledger, S: SnapBackend, B: BlobBackend, I: IngestBackend> Locked<L, S, B, I> {
+    /// The records of the store.
+    pub fn records(&self) -> &Records
+        ensures tables { result.now.tables ≡ self.now.store.state.records.tables }
+        ensures leases { result.now.leases ≡ self.now.store.state.records.leases }
+        ensures next { result.now.next ≡ self.now.store.state.records.next }
+        ensures profile { result.now.profile ≡ self.now.store.state.records.profile }
+    {
+        self.state.records()
+    }
+}
