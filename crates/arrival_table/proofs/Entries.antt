@@ -1,6 +1,6 @@
 -- Entries of a map from names to rows: each row under its own name.
-use Rattle.std.proofs.Common.{◌≡◌, ℕ, ◌<◌, Bool, true, false, cond, List, [], ◌∷◌, ◌++◌, length, map, zero, suc, refl, sym, ap, ◌∙◌, subst, get_or, take, inl, inr, arith}
-use Rattle.std.specs.Prelude.{All, Option, Some, None, Result, Ok, Err, OnOk, OnErr, is_some, slice_get, slice_set, find, if◌then◌else◌}
+use Rattle.std.proofs.Common.{◌≡◌, ℕ, ◌<◌, Bool, true, false, cond, List, [], ◌∷◌, ◌++◌, length, zero, suc, refl, sym, ap, ◌∙◌, subst, get_or, take, inl, inr, arith}
+use Rattle.std.specs.Prelude.{All, Option, Some, None, Result, Ok, Err, OnOk, OnErr, is_some, slice_get, slice_set}
 use Rattle.std.specs.Cmp.{on_equiv}
 use Rattle.std.specs.List.{IsDistinct, AllByRecursion, swap_remove, remove}
 use Rattle.std.specs.Option.{option_map}

@@ -5,6 +5,7 @@ pub mod KeptOrder
 pub mod ListLoops
 pub mod Listed
 pub mod MarksByKey
+pub mod NamespaceLists
 pub mod NamespaceRows
 pub mod PlacesSorted
 pub mod Retained

@@ -1,5 +1,5 @@
 -- Marks by the order of keys, as marks by the places of the rows.
-use Rattle.std.proofs.Common.{◌≡◌, ℕ, ◌<◌, ◌≤◌, ◌+◌, zero, suc, Bool, true, false, List, [], ◌∷◌, length, get_or, map, refl, sym, ap, ◌∙◌, subst, arith}
+use Rattle.std.proofs.Common.{◌≡◌, ℕ, ◌<◌, ◌≤◌, zero, suc, Bool, true, false, List, [], ◌∷◌, length, get_or, map, refl, sym, ap, ◌∙◌, subst, arith}
 use Rattle.std.specs.Prelude.{All, Contains, filter, slice_index_or, if◌then◌else◌}
 use Rattle.std.specs.Cmp.{on_equiv}
 use Rattle.std.specs.List.{IsDistinct, AllByRecursion}
@@ -9,7 +9,7 @@ use Rattle.std.proofs.lemmas.List.{ext_get_or, get_or-map}
 use Rattle.std.proofs.lemmas.List.Elements.{All-head, All-tail, All-nil}
 use Rattle.std.proofs.lemmas.List.Sorted.{IsPermutation-map, All-permutation, Contains-permutation, length_permutation}
 use Rattle.indexmap.proofs.MapLemmas.{distinct_permutation}
-use Rattle.meta_types.specs.Keys.{Key, is_key}
+use Rattle.meta_types.specs.Keys.{Key}
 use Rattle.arrival_table.specs.Arrived.{sorted, same_key, keys_equiv, kept, ArePlaces, AreMarked}
 use Rattle.arrival_table.proofs.Arrivals.{kept_is}
 use Rattle.arrival_table.proofs.PlacesSorted.{length_map, row_there, all_there, all_within}

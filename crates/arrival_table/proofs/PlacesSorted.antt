@@ -1,8 +1,7 @@
 -- Places of rows, in the order of the rows' keys.
-use Rattle.std.proofs.Common.{◌≡◌, ℕ, ◌<◌, ◌+◌, suc, Bool, true, false, List, [], ◌∷◌, length, get_or, map, refl, sym, ap, ◌∙◌, subst, arith, rules}
+use Rattle.std.proofs.Common.{◌≡◌, ℕ, ◌<◌, ◌+◌, suc, true, false, List, [], ◌∷◌, length, get_or, map, refl, sym, ap, ◌∙◌, subst, arith}
 use Rattle.std.specs.Prelude.{All, Option, Some, None, slice_get, slice_index_or}
 use Rattle.std.specs.Cmp.{IsStrictWeakOrder, on_equiv}
-use Rattle.std.specs.Cmp.Lexicographic.{slice_cmp}
 use Rattle.std.specs.List.{IsDistinct}
 use Rattle.std.specs.List.Sorted.{IsPermutation, IsSorted}
 use Rattle.std.specs.Ordering.{is_lt}
@@ -14,7 +13,6 @@ use Rattle.std.proofs.lemmas.List.Sorted.{IsPermutation-map, All-permutation}
 use Rattle.std.proofs.lemmas.Option.{slice_get-get_or}
 use Rattle.std.proofs.lemmas.Grind.{get_or_default_zero}
 use Rattle.indexmap.proofs.MapLemmas.{distinct_permutation}
-use Rattle.meta_types.specs.Text.{text_cmp}
 use Rattle.meta_types.specs.Keys.{Key, is_key, is_before, are_in_order}
 use Rattle.meta_types.proofs.Ordered.{after}
 use Rattle.meta_types.proofs.Searched.{one_way}

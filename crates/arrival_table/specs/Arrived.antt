@@ -1,6 +1,6 @@
 -- Rows as they came, seen in the order of their keys.
 use Rattle.std.specs.Prelude.{◌≡◌, ℕ, ◌<◌, ◌&&◌, true, false, List, [], ◌∷◌, Bool, All, Option, Some, None, length, slice_index_or, ◌≤◌, if◌then◌else◌, bytes_eq}
-use Rattle.std.proofs.Common.{refl, sym, ◌∙◌}
+use Rattle.std.proofs.Common.{refl}
 use Rattle.std.specs.Cmp.{IsEquivalence}
 use Rattle.std.specs.Cmp.Lexicographic.{slice_cmp, lists_equiv, nat_list_eq_equiv}
 use Rattle.std.specs.declared.cmp.Ordering.{Ordering}

@@ -15,8 +15,8 @@ use meta_types::{Fault, ShortName};
 use std::alloc::Global;
 use std::marker::Model;
 
-/// Rows by namespace and name, which contracts see in the order of their keys. A row is found in its
-/// namespace by a hash of its name.
+/// Rows by namespace and name, which contracts see in the order of their keys. A row is found in
+/// its namespace by a hash of its name.
 #[derive(Drop)]
 pub struct ByNamespace<K: Named, R: NamespaceRow<K>> {
     groups: Vec<Group<K, R>>,

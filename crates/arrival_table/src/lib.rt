@@ -1,4 +1,4 @@
-//! Rows in the order in which they came, each found by its name in a hash table, and seen in the order of their keys.
+//! Rows as they came, each found by a hash of its name, and seen in the order of their keys.
 #![tactic(auto)]
 
 mod by_namespace;

@@ -1,8 +1,8 @@
 -- The row of a key, changed in its place.
-use Rattle.std.proofs.Common.{◌≡◌, true, false, List, [], ◌∷◌, Some, refl, sym, ap, ◌∙◌, inl, inr}
+use Rattle.std.proofs.Common.{◌≡◌, List, [], ◌∷◌, Some, refl, sym, ap, ◌∙◌, inl, inr}
 use Rattle.std.proofs.lemmas.Bool.{cases_Bool}
 use Rattle.meta_types.specs.Keys.{Key, is_key, row_at, change_row}
-use Rattle.meta_types.proofs.Found.{no_none, some_is}
+use Rattle.meta_types.proofs.Found.{some_is}
 use Rattle.arrival_table.specs.Arrived.{Becomes}
 
 module _ {Row : Type 0} (key_of : Row → Key) (key : Key) where

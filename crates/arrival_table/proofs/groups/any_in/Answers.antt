@@ -1,4 +1,4 @@
-use Rattle.std.proofs.Common.{◌≡◌, List, length, not, sym, ap, ◌∙◌}
+use Rattle.std.proofs.Common.{length, not, sym, ap, ◌∙◌}
 use Rattle.std.specs.Prelude.{bytes_eq, ◌==◌}
 use Rattle.arrival_table.specs.Namespaces.{all_rows}
 use Rattle.arrival_table.proofs.NamespaceRows.{group_is, none_of_it, rows_of_it, any_pass}

@@ -1,7 +1,7 @@
 use Rattle.std.proofs.Common.{◌++◌, map, take, sym, ap, ◌∙◌}
 use Rattle.std.proofs.lemmas.List.{map-append}
 use Rattle.arrival_table.specs.Namespaces.{all_rows}
-use Rattle.arrival_table.proofs.NamespaceRows.{rows_more}
+use Rattle.arrival_table.proofs.NamespaceLists.{rows_more}
 use Rattle.arrival_table.proofs.groups.borrow_rows.Goals as goal
 
 -- the rows of one namespace more

@@ -1,7 +1,7 @@
-use Rattle.std.proofs.Common.{◌≡◌, ◌∷◌, [], false, List, Some, None, ap, ◌∙◌, sym, subst}
-use Rattle.std.specs.Prelude.{is_some, IfNone, IfSome, Option}
-use Rattle.meta_types.specs.Keys.{row_at, has_row}
-use Rattle.arrival_table.specs.Namespaces.{all_rows, group_key, IsHome}
+use Rattle.std.proofs.Common.{◌≡◌, ◌∷◌, [], false, ap, ◌∙◌, sym, subst}
+use Rattle.std.specs.Prelude.{is_some, IfNone}
+use Rattle.meta_types.specs.Keys.{has_row}
+use Rattle.arrival_table.specs.Namespaces.{group_key, IsHome}
 use Rattle.arrival_table.proofs.NamespaceRows.{read_in, changed_some, changed_groups, none_there}
 use Rattle.arrival_table.proofs.groups.change_row.Goals as goal
 

@@ -1,6 +1,6 @@
 use Rattle.std.proofs.Common.{◌+◌, sym, ap, ◌∙◌, length, length-append, take, arith}
 use Rattle.arrival_table.specs.Namespaces.{all_rows}
-use Rattle.arrival_table.proofs.NamespaceRows.{rows_more}
+use Rattle.arrival_table.proofs.NamespaceLists.{rows_more}
 use Rattle.arrival_table.proofs.groups.count_rows.Goals as goal
 
 -- the rows of one namespace more

@@ -1,9 +1,10 @@
-use Rattle.std.proofs.Common.{◌≡◌, ◌∷◌, [], false, List, ap, ◌∙◌, sym, subst, arith}
+use Rattle.std.proofs.Common.{◌≡◌, ◌∷◌, [], false, List, ap, ◌∙◌, sym, arith}
 use Rattle.std.specs.List.{insert, position_or_len}
 use Rattle.meta_types.specs.Keys.{is_before, has_row}
 use Rattle.meta_types.specs.Text.{Text}
 use Rattle.arrival_table.specs.Namespaces.{group_key}
-use Rattle.arrival_table.proofs.NamespaceRows.{place_within, same_rows, opened_groups, opened_home}
+use Rattle.arrival_table.proofs.NamespaceLists.{place_within}
+use Rattle.arrival_table.proofs.NamespaceRows.{same_rows, opened_groups, opened_home}
 use Rattle.arrival_table.proofs.groups.home_of.Goals as goal
 
 pub insert-requires : goal.insert-requires

@@ -1,5 +1,5 @@
-use Rattle.std.proofs.Common.{◌≡◌, ◌<◌, List, map, take, drop, length, get_or, sym, ap, ◌∙◌, subst, arith, ◌+◌}
-use Rattle.std.specs.Prelude.{All, slice_set}
+use Rattle.std.proofs.Common.{◌≡◌, ◌<◌, List, map, take, drop, length, sym, ap, ◌∙◌, subst, arith, ◌+◌}
+use Rattle.std.specs.Prelude.{All}
 use Rattle.std.proofs.lemmas.List.Elements.{All-set}
 use Rattle.meta_types.specs.Text.{Text}
 use Rattle.meta_types.specs.Keys.{are_in_order}
@@ -9,7 +9,8 @@ use Rattle.arrival_table.proofs.ListLoops.{Retains, retains_more, retains_all, o
 use Rattle.arrival_table.proofs.KeptOrder.{order_kept}
 use Rattle.arrival_table.proofs.MarksByKey.{all_kept}
 use Rattle.arrival_table.proofs.PlacesSorted.{length_map}
-use Rattle.arrival_table.proofs.NamespaceRows.{full, IsOwn, lists_set, names_kept, order_of_names}
+use Rattle.arrival_table.proofs.NamespaceLists.{lists_set, names_kept, order_of_names}
+use Rattle.arrival_table.proofs.NamespaceRows.{full, IsOwn}
 use Rattle.arrival_table.proofs.groups.retain_rows.Goals as goal
 
 -- the marks that are left are of the namespaces that are left

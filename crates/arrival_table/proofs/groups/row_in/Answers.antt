@@ -1,5 +1,4 @@
-use Rattle.std.proofs.Common.{sym, ap, ◌∙◌}
-use Rattle.std.specs.Prelude.{is_some}
+use Rattle.std.proofs.Common.{sym, ◌∙◌}
 use Rattle.arrival_table.proofs.NamespaceRows.{read_in, none_there}
 use Rattle.arrival_table.proofs.groups.row_in.Goals as goal
 

@@ -1,10 +1,10 @@
-use Rattle.std.proofs.Common.{rules, of_calls, [], ◌∷◌, ◌≡◌, sym, subst}
+use Rattle.std.proofs.Common.{rules, of_calls, [], ◌∷◌, ◌≡◌}
 use Rattle.std.proofs.lemmas.Fn.{always_returns_same}
 use Rattle.std.specs.Cmp.Lexicographic.{slice_cmp}
 use Rattle.meta_types.specs.Text.{text_cmp}
 use Rattle.meta_types.proofs.Searched.{key_cmp, Finds, searched}
 use Rattle.arrival_table.specs.Namespaces.{group_key}
-use Rattle.arrival_table.proofs.NamespaceRows.{home_found, none_found}
+use Rattle.arrival_table.proofs.NamespaceLists.{home_found, none_found}
 use Rattle.arrival_table.proofs.groups.search.Goals as goal
 
 -- the closure compares a namespace to the one that is looked for

@@ -1,7 +1,6 @@
-use Rattle.std.proofs.Common.{◌≡◌, ◌∷◌, [], false, List, Some, ap, ◌∙◌, sym, subst}
-use Rattle.std.specs.Prelude.{is_some, slice_get}
-use Rattle.meta_types.specs.Keys.{row_at, has_row}
-use Rattle.meta_types.specs.Text.{Text}
+use Rattle.std.proofs.Common.{◌∷◌, [], ap, ◌∙◌, sym, subst}
+use Rattle.std.specs.Prelude.{is_some}
+use Rattle.meta_types.specs.Keys.{has_row}
 use Rattle.meta_types.proofs.Puts.{remove_absent}
 use Rattle.arrival_table.specs.Namespaces.{all_rows, group_key, IsHome}
 use Rattle.arrival_table.proofs.NamespaceRows.{full, read_in, take_rows, take_groups, none_there}

@@ -1,4 +1,4 @@
-use Rattle.std.proofs.Common.{◌≡◌, ◌≤◌, vec_capacity}
+use Rattle.std.proofs.Common.{◌≡◌, vec_capacity}
 use Rattle.arrival_table.specs.Arrived.{ArePlaces}
 use Rattle.arrival_table.proofs.places.list_places.Given as goal
 

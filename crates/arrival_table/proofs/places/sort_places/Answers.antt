@@ -1,4 +1,4 @@
-use Rattle.std.proofs.Common.{◌≡◌, ℕ, List, map, length, sym, subst, rules}
+use Rattle.std.proofs.Common.{◌≡◌, List, map, length, sym, subst, rules}
 use Rattle.std.specs.Prelude.{slice_index_or}
 use Rattle.std.specs.Ordering.{is_lt}
 use Rattle.std.specs.List.{IsDistinct}

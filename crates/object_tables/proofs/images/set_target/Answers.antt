@@ -1,6 +1,5 @@
-use Rattle.std.proofs.Common.{◌∷◌, [], sym, ap, ◌∙◌}
+use Rattle.std.proofs.Common.{◌∷◌, [], ◌∙◌}
 use Rattle.meta_types.specs.Rows.{image_key}
-use Rattle.meta_types.specs.Keys.{change_row}
 use Rattle.object_tables.specs.Edits.{with_target}
 use Rattle.object_tables.proofs.ChangedThere.{became}
 use Rattle.object_tables.proofs.Kept.{nothing_to_change}

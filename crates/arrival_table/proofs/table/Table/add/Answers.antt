@@ -1,6 +1,5 @@
-use Rattle.std.proofs.Common.{◌≡◌, ◌++◌, ◌∷◌, [], false, sym, ap, ◌∙◌}
+use Rattle.std.proofs.Common.{◌++◌, ◌∷◌, [], ap, ◌∙◌}
 use Rattle.meta_types.specs.Keys.{has_row, add_row}
-use Rattle.indexmap.specs.IndexMap.{values}
 use Rattle.arrival_table.specs.Arrived.{sorted, by_name}
 use Rattle.arrival_table.proofs.Entries.{named_more, last_row, added_entry}
 use Rattle.arrival_table.proofs.table.Table.add.Goals as goal

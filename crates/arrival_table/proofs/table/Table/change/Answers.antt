@@ -1,5 +1,5 @@
-use Rattle.std.proofs.Common.{◌≡◌, List, sym, ap, ◌∙◌, subst, Some, None, length}
-use Rattle.std.specs.Prelude.{is_some, slice_get}
+use Rattle.std.proofs.Common.{List, sym, ap, ◌∙◌, subst, length}
+use Rattle.std.specs.Prelude.{is_some}
 use Rattle.meta_types.specs.Keys.{has_row}
 use Rattle.std.specs.Map.{values_of}
 use Rattle.indexmap.specs.IndexMap.{set_value_at}

@@ -1,4 +1,4 @@
-use Rattle.std.proofs.Common.{sym, ap, ◌∙◌}
+use Rattle.std.proofs.Common.{ap, ◌∙◌}
 use Rattle.meta_types.specs.Keys.{row_at}
 use Rattle.arrival_table.specs.Arrived.{sorted, by_name}
 use Rattle.arrival_table.proofs.Entries.{get_sorted}

@@ -1,4 +1,4 @@
-use Rattle.std.proofs.Common.{sym, ap, ◌∙◌}
+use Rattle.std.proofs.Common.{ap, ◌∙◌}
 use Rattle.std.specs.Prelude.{is_some}
 use Rattle.meta_types.specs.Keys.{has_row}
 use Rattle.arrival_table.specs.Arrived.{sorted, by_name}

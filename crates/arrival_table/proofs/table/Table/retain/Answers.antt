@@ -1,5 +1,5 @@
-use Rattle.std.proofs.Common.{◌≡◌, List, sym, ap, ◌∙◌, subst, map}
-use Rattle.std.specs.Prelude.{All, filter}
+use Rattle.std.proofs.Common.{sym, ap, ◌∙◌, subst, map}
+use Rattle.std.specs.Prelude.{All}
 use Rattle.std.specs.List.{IsDistinct}
 use Rattle.arrival_table.specs.Arrived.{by_name, same_key, kept}
 use Rattle.arrival_table.proofs.Arrivals.{kept_stays}

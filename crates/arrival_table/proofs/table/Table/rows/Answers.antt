@@ -1,7 +1,6 @@
-use Rattle.std.proofs.Common.{◌≡◌, List, true, sym, ap, ◌∙◌, subst}
+use Rattle.std.proofs.Common.{subst}
 use Rattle.std.specs.List.{IsDistinct}
-use Rattle.meta_types.specs.Keys.{are_in_order}
-use Rattle.arrival_table.specs.Arrived.{sorted, by_name, same_key}
+use Rattle.arrival_table.specs.Arrived.{by_name, same_key}
 use Rattle.arrival_table.proofs.Arrivals.{is_in_order}
 use Rattle.arrival_table.proofs.Entries.{rows_apart}
 use Rattle.arrival_table.proofs.table.Table.rows.Goals as goal
