@@ -6,3 +6,4 @@ pub mod Emptied
 pub mod ToldAll
 pub mod NoFailures
 pub mod Finishing
+pub mod Comparing
