@@ -13,7 +13,7 @@ count k seats = count_by (λ (s : Seat). s.number == k) seats
 abbrev pub with : ℕ → List Seat → List Seat
 with k seats = filter (λ (s : Seat). s.number == k) seats
 
-some_with : (k : ℕ) (seats : List Seat) (i : ℕ) (d : Seat) → i < length seats → (get_or seats i d).number ≡ k → 0 < length (with k seats)
+pub some_with : (k : ℕ) (seats : List Seat) (i : ℕ) (d : Seat) → i < length seats → (get_or seats i d).number ≡ k → 0 < length (with k seats)
 some_with k [] i d here is = absurd (omega arith)
 some_with k (x ∷ xs) zero d here is =
     let e : (x.number == k) ≡ true = eq-eqb x.number k is in

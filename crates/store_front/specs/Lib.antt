@@ -5,3 +5,4 @@ pub mod Front
 pub mod Kept
 pub mod Parts
 pub mod Finish
+pub mod Cursors

@@ -1,7 +1,9 @@
-use Rattle.std.proofs.Common.{take}
-use Rattle.std.specs.Prelude.{All}
-use Rattle.store_front.specs.Parts.{IsPart}
+use Rattle.std.proofs.Common.{◌≡◌, length, take}
+use Rattle.store_front.specs.Cursors.{AreUpTo}
 use Rattle.store_front.proofs.checked.first_mismatch.Given as goal
 
-abbrev pub invariant-loop-session : goal.invariant-loop-session
-invariant-loop-session g l = All (IsPart l.log) (take l.session-index l.sessions)
+abbrev pub invariant-loop-entry : goal.invariant-loop-entry
+invariant-loop-entry g l = record {
+  long : length l.next.items ≡ length l.sessions;
+  each : AreUpTo (take l.entry-index l.log) l.sessions l.next.items;
+}
