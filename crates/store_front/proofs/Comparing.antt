@@ -1,12 +1,12 @@
 -- Lists of all sessions, compared in one pass over the log.
 use Rattle.std.proofs.Common.{◌≡◌, ◌≢◌, ℕ, zero, suc, ◌+◌, ◌<◌, ◌≤◌, List, [], ◌∷◌, length, take, slice_index_or, slice_set, Bool, true, false, refl, sym, ap, ◌∙◌, subst, arith, inl, inr}
-use Rattle.std.specs.Prelude.{◌==◌, cond, filter, count_by, nat_lt, if◌then◌else◌, All, slice_get, Option, Some, None, MatchOption}
+use Rattle.std.specs.Prelude.{◌==◌, cond, count_by, nat_lt, if◌then◌else◌, All, slice_get, Option, Some, None, MatchOption}
 use Rattle.std.proofs.lemmas.Bool.{eq-eqb, ne_eqb, cases_lt}
 use Rattle.std.proofs.lemmas.List.{take_all, get_or-set_same, get_or-set_other}
 use Rattle.std.proofs.lemmas.List.Sums.{length-filter}
 use Rattle.meta_types.specs.Steps.{Entry}
-use Rattle.store_front.specs.Told.{Told, Seat}
-use Rattle.store_front.specs.Parts.{part, told_of, IsPart, AreOpened, DifferFirst}
+use Rattle.store_front.specs.Told.{Seat}
+use Rattle.store_front.specs.Parts.{part, told_of, IsPart, AreOpened}
 use Rattle.store_front.specs.Finish.{AreEach, OneDiffers}
 use Rattle.store_front.specs.Cursors.{IsUpTo, AreUpTo, AreEnded, IsShort}
 use Rattle.store_front.proofs.Each.{with, some_with, nat_lt_true}

@@ -1,18 +1,18 @@
 -- A request that was answered is its step, and a history with its entry more is legal.
 use Rattle.meta_types.specs.declared.reply.Reply.TheVariants as P
-use Rattle.std.proofs.Common.{inl, inr, add-zero, rules, ◌<◌, ◌+◌, ◌⊎◌, ◌≢◌, ◌≡◌, ℕ, Bool, true, false, List, [], ◌∷◌, ◌++◌, refl, sym, ap, ◌∙◌, subst}
+use Rattle.std.proofs.Common.{inl, inr, add-zero, rules, ◌<◌, ◌+◌, ◌⊎◌, ◌≢◌, ◌≡◌, ℕ, List, [], ◌∷◌, ◌++◌, refl, sym, ap, ◌∙◌, subst}
 use Rattle.std.specs.Prelude.{Option, Some, None, Result, Ok, Err, IsOk, IfErr, is_some, if◌then◌else◌}
 use Rattle.std.specs.Option.{option_map_or}
 use Rattle.meta_types.specs.Rows.{State}
-use Rattle.meta_types.specs.Outcomes.{Outcome, least_fault}
+use Rattle.meta_types.specs.Outcomes.{least_fault}
 use Rattle.meta_types.specs.Requests.{outcome}
 use Rattle.meta_types.specs.Requests.{outcome as asked_outcome}
-use Rattle.meta_types.specs.Steps.{Answer, answered, reported, refused, Event, requested, Step, Entry, failed_in, IsLegal, answer_to, after}
+use Rattle.meta_types.specs.Steps.{Answer, answered, refused, Event, requested, Step, Entry, failed_in, IsLegal}
 use Rattle.meta_types.specs.declared.request.Request.{Request}
 use Rattle.meta_types.specs.declared.reply.Reply.{Reply}
 use Rattle.meta_types.specs.declared.fault.Fault.{Fault}
 use Rattle.meta_types.specs.declared.fault.Fault.TheVariants.{InvalidArgument, NotFound, AlreadyExists, FailedPrecondition, BadLine, TooLong, OutOfMemory, NoWorker, BackendFailed, ReadFailed, WriteFailed, Mismatch}
-use Rattle.request_core.specs.Follows.{Store, Answers, Follows, Fails, left_by}
+use Rattle.request_core.specs.Follows.{Store, Answers, Follows, Fails}
 use Rattle.store_front.specs.Kept.{kept_reply, Takes, log_after, reply_failures}
 use Rattle.store_front.specs.Parts.{AreOpened}
 use Rattle.std.proofs.lemmas.List.Elements.{All-append}

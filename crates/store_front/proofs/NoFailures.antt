@@ -1,5 +1,5 @@
 -- Shards whose devices never fail have no failure.
-use Rattle.std.proofs.Common.{◌≡◌, ℕ, List, [], ◌∷◌, refl, arith}
+use Rattle.std.proofs.Common.{◌≡◌, List, [], ◌∷◌, refl, arith}
 use Rattle.std.specs.Prelude.{map}
 use Rattle.meta_types.specs.Text.{Text}
 use Rattle.back_model.specs.Snaps.{Snaps}

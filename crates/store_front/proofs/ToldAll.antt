@@ -1,11 +1,11 @@
 -- What all sessions were told together, beside the log.
-use Rattle.std.proofs.Common.{◌≡◌, ℕ, zero, suc, ◌+◌, ◌<◌, List, [], ◌∷◌, length, Bool, true, false, refl, sym, ap, ◌∙◌, arith}
+use Rattle.std.proofs.Common.{◌≡◌, ℕ, suc, ◌+◌, ◌<◌, List, [], ◌∷◌, length, Bool, true, false, refl, sym, ap, ◌∙◌, arith}
 use Rattle.std.specs.Prelude.{◌==◌, cond, filter, map, All, if◌then◌else◌}
-use Rattle.std.proofs.lemmas.Bool.{eq-eqb, ne_eqb, cases_lt}
+use Rattle.std.proofs.lemmas.Bool.{eq-eqb}
 use Rattle.std.proofs.lemmas.Bool.Decides.{Decides-eqb}
 use Rattle.std.proofs.lemmas.List.Sums.{length-filter}
 use Rattle.meta_types.specs.Steps.{Entry}
-use Rattle.store_front.specs.Told.{Told, Seat}
+use Rattle.store_front.specs.Told.{Seat}
 use Rattle.store_front.specs.Parts.{part, told_of, IsPart, AreOpened}
 use Rattle.store_front.specs.Finish.{AreEach, told_to}
 use Rattle.store_front.proofs.Each.{with, nat_lt_true}

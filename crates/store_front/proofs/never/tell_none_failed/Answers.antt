@@ -1,6 +1,6 @@
-use Rattle.std.proofs.Common.{◌≡◌, ◌∙◌, ◌+◌, sym, ap, arith, List}
+use Rattle.std.proofs.Common.{◌≡◌, ◌∙◌, ◌+◌, sym, ap, arith}
 use Rattle.request_core.specs.Follows.{Store}
-use Rattle.back_model.specs.Shown.{Shard, all_failures}
+use Rattle.back_model.specs.Shown.{all_failures}
 use Rattle.store_front.proofs.NoFailures.{none_failed}
 use Rattle.store_front.proofs.never.tell_none_failed.Goals as goal
 
