@@ -1,6 +1,6 @@
 -- What is said of the rows that were read holds of the records that they were read from: namespaces and the next number lead no path anywhere.
-use Rattle.std.proofs.Common.{inl, ◌≡◌, ℕ, Bool, true, false, not, List, [], ◌∷◌, refl, sym, ap, ◌∙◌, subst, ℤ}
-use Rattle.std.specs.Prelude.{Contains, IsTrue, Option, Some, None, Result, Ok, Err}
+use Rattle.std.proofs.Common.{inl, ◌≡◌, ℕ, Bool, true, false, not, List, [], ◌∷◌, refl, sym, ◌∙◌, subst, ℤ}
+use Rattle.std.specs.Prelude.{Contains, IsTrue, Option, None, Result, Ok, Err}
 use Rattle.std.specs.Result.{IsErrAnd}
 use Rattle.meta_types.specs.Limits.{is_worker_count, is_too_large}
 use Rattle.meta_types.specs.Reports.{Report}

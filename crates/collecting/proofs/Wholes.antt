@@ -1,8 +1,7 @@
 -- A plan of a store, and the sweep of its records.
-use Rattle.std.proofs.Common.{◌≡◌, ℕ, false, List, length, refl, sym, ap, ◌∙◌, subst, ℤ}
+use Rattle.std.proofs.Common.{◌≡◌, ℕ, false, List, refl, subst, ℤ}
 use Rattle.meta_types.specs.Rows.{Records, BackLists, State, Tables, LeaseRow}
 use Rattle.meta_types.specs.Collected.{collected_records}
-use Rattle.meta_types.specs.Reports.{Report}
 use Rattle.meta_types.specs.Sound.{IsSound}
 use Rattle.table_sweep.specs.declared.planning.Plan.{Plan}
 use Rattle.table_sweep.specs.Copies.{IsSame}
