@@ -1,6 +1,6 @@
 -- What is said of the rows that were read holds of the records that they were read from: namespaces and the next number lead no path anywhere.
-use Rattle.std.proofs.Common.{inl, ◌≡◌, ℕ, Bool, true, false, not, List, [], ◌∷◌, refl, sym, ap, ◌∙◌, subst, ℤ}
-use Rattle.std.specs.Prelude.{Contains, IsTrue, Option, Some, None, Result, Ok, Err}
+use Rattle.std.proofs.Common.{inl, ◌≡◌, ℕ, Bool, true, false, not, List, [], ◌∷◌, refl, sym, ◌∙◌, subst, ℤ}
+use Rattle.std.specs.Prelude.{Contains, IsTrue, Option, None, Result, Ok, Err}
 use Rattle.std.specs.Result.{IsErrAnd}
 use Rattle.meta_types.specs.Limits.{is_worker_count, is_too_large}
 use Rattle.meta_types.specs.Reports.{Report}
@@ -17,12 +17,14 @@ use Rattle.backend_sweep.specs.Planned.{IsPlanOf}
 
 -- ---- paths
 
-path_as : (a b : Records) (at : ℤ) → things a ≡ things b → a.profile ≡ b.profile → (x : Thing) (path : List Thing) → IsPath a at x path → IsPath b at x path
+path_as : (a b : Records) (at : ℤ) → things a ≡ things b → a.profile ≡ b.profile
+    → (x : Thing) (path : List Thing) → IsPath a at x path → IsPath b at x path
 path_as a b at t p x [] h = (subst (λ (l : List Thing). Contains l x) t h.0, subst (λ (n : ℕ). IsTrue (is_root n at x)) p h.1)
 path_as a b at t p x (y ∷ path) h = (subst (λ (l : List Thing). Contains l x) t h.0, h.1, path_as a b at t p y path h.2)
 
 -- a test that tells where paths end tells it of other records of the same things
-pub tells_as : (a b : Records) (at : ℤ) (reached : Thing → Bool) → things a ≡ things b → a.profile ≡ b.profile → TellsReached a at reached → TellsReached b at reached
+pub tells_as : (a b : Records) (at : ℤ) (reached : Thing → Bool) → things a ≡ things b
+    → a.profile ≡ b.profile → TellsReached a at reached → TellsReached b at reached
 tells_as a b at reached t p h = record {
   each = λ thing c.
       let e = h.each thing (subst (λ (l : List Thing). Contains l thing) (sym t) c) in (
@@ -66,7 +68,9 @@ moved_is a b h = λ i. record {
   profile = h.profile i;
 }
 
-plan_moved : (a b : Records) (n : ℕ) (back : BackLists) (at : ℤ) (reached : Thing → Bool) (plan : Plan) → IsPlan a n back at reached plan → IsPlan (moved a b) n back at reached plan
+plan_moved : (a b : Records) (n : ℕ) (back : BackLists) (at : ℤ) (reached : Thing
+    → Bool) (plan : Plan) → IsPlan a n back at reached plan
+    → IsPlan (moved a b) n back at reached plan
 plan_moved a b n back at reached plan p = record {
   masks = record {
     images = p.masks.images;
@@ -85,7 +89,8 @@ plan_moved a b n back at reached plan p = record {
 }
 
 -- a plan of the one is a plan of the other
-pub plan_as : (a b : Records) (n m : ℕ) (back : BackLists) (at : ℤ) (plan : Plan) → Agree a b → n ≡ m → IsPlanOf a n back at plan → IsPlanOf b m back at plan
+pub plan_as : (a b : Records) (n m : ℕ) (back : BackLists) (at : ℤ) (plan : Plan) → Agree a b
+    → n ≡ m → IsPlanOf a n back at plan → IsPlanOf b m back at plan
 plan_as a b n m back at plan h e p =
     let q : IsPlanOf (moved a b) n back at plan = record {
       reached = p.reached;
@@ -97,7 +102,8 @@ plan_as a b n m back at plan h e p =
 -- ---- checks
 
 -- where no fault applies, the workers are allowed and the rows aren't too many
-pub no_fault : (workers large : Bool) → least_of (not workers) false false large ≡ None → (workers ≡ true) × (large ≡ false)
+pub no_fault : (workers large : Bool) → least_of (not workers) false false large ≡ None
+    → (workers ≡ true) × (large ≡ false)
 no_fault true true e = absurd cc
 no_fault true false e = (refl, refl)
 no_fault false large e = absurd cc

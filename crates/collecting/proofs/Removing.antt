@@ -31,7 +31,8 @@ fault_is state (R.Lease ns id) workers read =
     ap (λ (b : Bool). least_of (not b || not (is_worker_count workers)) (is_missing state.records (named_in (R.Lease ns id))) false (is_too_large state.records)) (sym read)
 
 -- texts that aren't allowed are refused so
-pub unreadable : (state : State) (removal : Removal) (workers : ℕ) → is_readable removal ≡ false → remove_collect_fault state removal workers ≡ Some InvalidArgument
+pub unreadable : (state : State) (removal : Removal) (workers : ℕ) → is_readable removal ≡ false
+    → remove_collect_fault state removal workers ≡ Some InvalidArgument
 unreadable state (R.Image ns name) workers read =
     ap (λ (b : Bool). least_of (not b || not (is_worker_count workers)) (is_missing state.records (named_in (R.Image ns name))) false (is_too_large state.records)) read
 unreadable state (R.Lease ns id) workers read =
@@ -44,24 +45,29 @@ after_is records backends (R.Image ns name) = refl
 after_is records backends (R.Lease ns id) = refl
 
 -- it is sound
-pub sound_without : (state : State) (removal : Removal) → IsSound state → IsSound (removal_outcome state removal).after
+pub sound_without : (state : State) (removal : Removal) → IsSound state
+    → IsSound (removal_outcome state removal).after
 sound_without state (R.Image ns name) s = after_image_remove state ns name s
 sound_without state (R.Lease ns id) s = after_lease_remove state ns id s
 
 -- rows that go with a removal aren't counted
-pub as_large : (records : Records) (named : Named) → is_too_large (without records named) ≡ is_too_large records
+pub as_large : (records : Records) (named : Named)
+    → is_too_large (without records named) ≡ is_too_large records
 as_large records (N.Image ns name) = refl
 as_large records (N.Lease ns id) = refl
 
 -- ---- refusals
 
-of_least : (a b d : Bool) (fault : Fault) → least_of a b false d ≡ Some fault → CollectFails fault (least_of a b false d)
+of_least : (a b d : Bool) (fault : Fault) → least_of a b false d ≡ Some fault
+    → CollectFails fault (least_of a b false d)
 of_least true b d fault e = let p : InvalidArgument ≡ fault = cc in subst (λ (f : Fault). CollectFails f (Some InvalidArgument)) p refl
 of_least false true d fault e = let p : NotFound ≡ fault = cc in subst (λ (f : Fault). CollectFails f (Some NotFound)) p refl
 of_least false false true fault e = let p : FailedPrecondition ≡ fault = cc in subst (λ (f : Fault). CollectFails f (Some FailedPrecondition)) p refl
 of_least false false false fault e = absurd cc
 
-passed_on : (result : Result Report Fault) (fault : Fault) (least : Option Fault) → IsErrAnd result (λ other. other ≡ fault) → CollectFails fault least → RefusesCollect result least
+passed_on : (result : Result Report Fault) (fault : Fault) (least : Option Fault)
+    → IsErrAnd result (λ other. other ≡ fault) → CollectFails fault least
+    → RefusesCollect result least
 passed_on (Ok report) fault least same h = absurd same
 passed_on (Err other) fault least same h = subst (λ (f : Fault). CollectFails f least) (sym same) h
 
@@ -87,7 +93,9 @@ module _ (state : State) (removal : Removal) (workers : ℕ) (named : Named) (re
       ∙ fault_is state removal workers read.0
 
   -- what the check refuses is refused so
-  pub checked : (result : Result Report Fault) (fault : Fault) → IsErrAnd result (λ other. other ≡ fault) → tested ≡ Some fault → RefusesCollect result (remove_collect_fault state removal workers)
+  pub checked : (result : Result Report Fault) (fault : Fault)
+      → IsErrAnd result (λ other. other ≡ fault) → tested ≡ Some fault
+      → RefusesCollect result (remove_collect_fault state removal workers)
   checked result fault same h = passed_on result fault (remove_collect_fault state removal workers) same
       (subst (CollectFails fault) tested_is (of_least (not (is_worker_count workers)) (is_missing state.records named) (is_too_large state.records) fault h))
 
@@ -96,7 +104,8 @@ module _ (state : State) (removal : Removal) (workers : ℕ) (named : Named) (re
   none_applies h = sym tested_is ∙ h
 
   -- the collection of what is left is refused for memory or threads alone
-  pub later : (left : Records) → left ≡ without state.records named → tested ≡ None → (result : Result Report Fault) (fault : Fault) → IsErrAnd result (λ other. other ≡ fault)
+  pub later : (left : Records) → left ≡ without state.records named → tested ≡ None
+      → (result : Result Report Fault) (fault : Fault) → IsErrAnd result (λ other. other ≡ fault)
       → RefusesThreads {X = Report} (Err fault) (collect_fault left workers) → RefusesCollect result (remove_collect_fault state removal workers)
   later left is h result fault same refused =
       let none = none_of (not (is_worker_count workers)) (is_missing state.records named) (is_too_large state.records) h in
@@ -105,7 +114,8 @@ module _ (state : State) (removal : Removal) (workers : ℕ) (named : Named) (re
       (subst (CollectFails fault) (sym (none_applies h)) (from_threads (is_worker_count workers) (is_too_large left) fault none.0 large refused))
 
 -- what is left is the store that the removal leaves
-pub left_is : (old left : Records) (backends : BackLists) (removal : Removal) (named : Named) → named ≡ named_in removal → left ≡ without old named
+pub left_is : (old left : Records) (backends : BackLists) (removal : Removal) (named : Named)
+    → named ≡ named_in removal → left ≡ without old named
     → record { records = left; backends = backends } ≡ (removal_outcome (record { records = old; backends = backends }) removal).after
 left_is old left backends removal named n is =
     (λ i. record { records = (is ∙ ap (without old) n) i; backends = backends }) ∙ after_is old backends removal

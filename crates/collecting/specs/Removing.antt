@@ -1,5 +1,5 @@
 -- A removal whose texts are read.
-use Rattle.std.specs.Prelude.{◌≡◌, Bool, true, false, not, List, [], ◌∷◌, Result, Ok, Err, ⊤}
+use Rattle.std.specs.Prelude.{◌≡◌, Bool, true, false, not, [], ◌∷◌, Result, Ok, Err, ⊤}
 use Rattle.meta_types.specs.Text.{is_short_name, is_name}
 use Rattle.meta_types.specs.Keys.{has_row, remove_row}
 use Rattle.meta_types.specs.Rows.{Records, image_key, lease_key}

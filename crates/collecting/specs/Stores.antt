@@ -1,8 +1,8 @@
 -- Records and backends as the definitions have them.
-use Rattle.std.specs.Prelude.{ℕ, ◌+◌, List, map}
+use Rattle.std.specs.Prelude.{ℕ, List, map}
 use Rattle.meta_types.specs.Text.{Text}
 use Rattle.meta_types.specs.Rows.{Records, BackLists, State}
-use Rattle.back_model.specs.Shown.{Shard, all_snaps, all_failures, listed_snap}
+use Rattle.back_model.specs.Shown.{Shard, listed_snap}
 use Rattle.backend_sweep.specs.Swept.{held_in}
 use Rattle.back_model.specs.declared.lists.BackLists.{BackLists as Listed}
 use Rattle.request_core.specs.declared.state.Records.{Records as Kept}

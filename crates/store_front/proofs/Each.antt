@@ -13,7 +13,8 @@ count k seats = count_by (λ (s : Seat). s.number == k) seats
 abbrev pub with : ℕ → List Seat → List Seat
 with k seats = filter (λ (s : Seat). s.number == k) seats
 
-pub some_with : (k : ℕ) (seats : List Seat) (i : ℕ) (d : Seat) → i < length seats → (get_or seats i d).number ≡ k → 0 < length (with k seats)
+pub some_with : (k : ℕ) (seats : List Seat) (i : ℕ) (d : Seat) → i < length seats
+    → (get_or seats i d).number ≡ k → 0 < length (with k seats)
 some_with k [] i d here is = absurd (omega arith)
 some_with k (x ∷ xs) zero d here is =
     let e : (x.number == k) ≡ true = eq-eqb x.number k is in
@@ -23,12 +24,14 @@ some_with k (x ∷ xs) (suc i) d here is =
     elim (x.number == k) as (λ (b : Bool). 0 < length (cond b (x ∷ with k xs) (with k xs))) [ true ↦ omega arith | false ↦ omega arith ]
 
 -- a seat with the number is counted
-pub counted : (k : ℕ) (seats : List Seat) (i : ℕ) (d : Seat) → i < length seats → (get_or seats i d).number ≡ k → 0 < count k seats
+pub counted : (k : ℕ) (seats : List Seat) (i : ℕ) (d : Seat) → i < length seats
+    → (get_or seats i d).number ≡ k → 0 < count k seats
 counted k seats i d here is =
     let h = some_with k seats i d here is in
     omega (arith, length-filter (λ (s : Seat). s.number == k) seats)
 
-none_with : (opened k : ℕ) (seats : List Seat) → All (λ (s : Seat). s.number < opened) seats → opened ≤ k → length (with k seats) ≡ 0
+none_with : (opened k : ℕ) (seats : List Seat) → All (λ (s : Seat). s.number < opened) seats
+    → opened ≤ k → length (with k seats) ≡ 0
 none_with opened k [] all above = refl
 none_with opened k (x ∷ xs) all above =
     let h : x.number < opened = all 0 x (omega arith) in
@@ -38,7 +41,8 @@ none_with opened k (x ∷ xs) all above =
     subst (λ (b : Bool). length (cond b (x ∷ with k xs) (with k xs)) ≡ 0) (sym e) n
 
 -- none has a number that is above all
-pub none_above : (opened k : ℕ) (seats : List Seat) → All (λ (s : Seat). s.number < opened) seats → opened ≤ k → count k seats ≡ 0
+pub none_above : (opened k : ℕ) (seats : List Seat)
+    → All (λ (s : Seat). s.number < opened) seats → opened ≤ k → count k seats ≡ 0
 none_above opened k seats all above = sym (length-filter (λ (s : Seat). s.number == k) seats) ∙ none_with opened k seats all above
 
 pub nat_lt_true : (k opened : ℕ) → k < opened → nat_lt k opened ≡ true
@@ -48,17 +52,20 @@ nat_lt_false : (k opened : ℕ) → opened ≤ k → nat_lt k opened ≡ false
 nat_lt_false k opened h = grind (arith, nat_tests)
 
 -- each number below is counted once, and none is above
-pub are_each : (opened : ℕ) (seats : List Seat) → ((k : ℕ) → k < opened → count k seats ≡ 1) → All (λ (s : Seat). s.number < opened) seats → AreEach opened seats
+pub are_each : (opened : ℕ) (seats : List Seat) → ((k : ℕ) → k < opened → count k seats ≡ 1)
+    → All (λ (s : Seat). s.number < opened) seats → AreEach opened seats
 are_each opened seats once below k =
     elim (cases_lt k opened) [
       | inl less ↦ once k less ∙ ap (λ (b : Bool). if b then 1 else 0) (sym (nat_lt_true k opened less))
       | inr more ↦ none_above opened k seats below more ∙ ap (λ (b : Bool). if b then 1 else 0) (sym (nat_lt_false k opened more))
     ]
 
-pub not_each : (opened : ℕ) (seats : List Seat) (k : ℕ) → k < opened → count k seats ≢ 1 → ¬ (AreEach opened seats)
+pub not_each : (opened : ℕ) (seats : List Seat) (k : ℕ) → k < opened → count k seats ≢ 1
+    → ¬ (AreEach opened seats)
 not_each opened seats k here other each = other (each k ∙ ap (λ (b : Bool). if b then 1 else 0) (nat_lt_true k opened here))
 
-pub one_above : (opened : ℕ) (seats : List Seat) (k : ℕ) → opened ≤ k → 0 < count k seats → ¬ (AreEach opened seats)
+pub one_above : (opened : ℕ) (seats : List Seat) (k : ℕ) → opened ≤ k → 0 < count k seats
+    → ¬ (AreEach opened seats)
 one_above opened seats k above some each =
     let n : count k seats ≡ 0 = each k ∙ ap (λ (b : Bool). if b then 1 else 0) (nat_lt_false k opened above) in
     omega arith

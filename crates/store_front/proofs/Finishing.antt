@@ -14,7 +14,8 @@ use Rattle.store_front.specs.Finish.{AreEach, FinishFails, IsHistory, AreOfThese
 abbrev pub IsEach : Result Course Fault → ℕ → List Seat → Type 0
 IsEach r opened seats = (r ≡ Err InvalidArgument → ¬ (AreEach opened seats)) × (¬ (AreEach opened seats) → r ≡ Err InvalidArgument)
 
-each_fault : (fault : Fault) (opened : ℕ) (log : List Entry) (seats : List Seat) → FinishFails fault opened log seats → IsEach (Err fault) opened seats
+each_fault : (fault : Fault) (opened : ℕ) (log : List Entry) (seats : List Seat)
+    → FinishFails fault opened log seats → IsEach (Err fault) opened seats
 each_fault InvalidArgument opened log seats h = (λ e. h, λ n. refl)
 each_fault OutOfMemory opened log seats h = (λ e. absurd cc, λ n. absurd (n h))
 each_fault (Mismatch place) opened log seats h = (λ e. absurd cc, λ n. absurd (n h.0))
@@ -37,20 +38,24 @@ each_refused (Err other) fault inside opened log now seats same o s fails =
     (subst (λ (k : ℕ). IsEach (Err fault) k seats) o (subst (λ (l : List Seat). IsEach (Err fault) inside l) s (each_fault fault inside log now fails)))
 
 -- and of a history
-pub each_given : (h : Course) (opened : ℕ) (seats : List Seat) → AreEach opened seats → IsEach (Ok h) opened seats
+pub each_given : (h : Course) (opened : ℕ) (seats : List Seat) → AreEach opened seats
+    → IsEach (Ok h) opened seats
 each_given h opened seats all = (λ e. absurd cc, λ n. absurd (n all))
 
 -- ---- from the fields to the value
 
-pub own_as : (log other : List Entry) (now seats : List Seat) → log ≡ other → now ≡ seats → All (IsPart log) now → All (IsPart other) seats
+pub own_as : (log other : List Entry) (now seats : List Seat) → log ≡ other → now ≡ seats
+    → All (IsPart log) now → All (IsPart other) seats
 own_as log other now seats l s h = subst (λ (x : List Entry). All (IsPart x) seats) l (subst (λ (y : List Seat). All (IsPart log) y) s h)
 
-pub each_as : (inside opened : ℕ) (now seats : List Seat) → inside ≡ opened → now ≡ seats → AreEach inside now → AreEach opened seats
+pub each_as : (inside opened : ℕ) (now seats : List Seat) → inside ≡ opened → now ≡ seats
+    → AreEach inside now → AreEach opened seats
 each_as inside opened now seats o s h = subst (λ (k : ℕ). AreEach k seats) o (subst (λ (y : List Seat). AreEach inside y) s h)
 
 -- what a finish gives, outside the lock
 pub outside : (f : Front) (seats : List Seat) (r : Result Course Fault) → IfOk r (λ h. h ≡ record { base = f.base; log = f.log }) → IfOk r (λ h. IsLegal h.base h.log f.store.state × AreOpened f.opened h.log)
-    → OnOk r (All (IsPart f.log) seats) → OnOk r (AreEach f.opened seats) → IfOk r (λ h. IsHistory h × All (IsPart h.log) seats × AreOfThese h.log seats)
+    → OnOk r (All (IsPart f.log) seats) → OnOk r (AreEach f.opened seats)
+    → IfOk r (λ h. IsHistory h × All (IsPart h.log) seats × AreOfThese h.log seats)
 outside f seats (Ok h) whole legal own each =
     let log : f.log ≡ h.log = sym (ap (λ (c : Course). c.log) whole) in
     ((f.store.state, legal.0), subst (λ (l : List Entry). All (IsPart l) seats) log own, (f.opened, each, legal.1))

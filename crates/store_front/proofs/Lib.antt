@@ -1,7 +1,6 @@
 pub mod SessionParts
 pub mod Each
 pub mod Growth
-pub mod Stepping
 pub mod Emptied
 pub mod ToldAll
 pub mod Finishing

@@ -9,19 +9,25 @@ use Rattle.meta_types.specs.Steps.{Entry}
 use Rattle.store_front.specs.Told.{Told}
 use Rattle.store_front.specs.Parts.{part, told_of, DifferFirst}
 
-pub part-append : (number : ℕ) (xs ys : List Entry) → part number (xs ++ ys) ≡ part number xs ++ part number ys
+pub part-append : (number : ℕ) (xs ys : List Entry)
+    → part number (xs ++ ys) ≡ part number xs ++ part number ys
 part-append number xs ys =
     ap (map told_of) (filter-append (λ (e : Entry). e.session == number) xs ys) ∙ map-append told_of (filter (λ (e : Entry). e.session == number) xs) (filter (λ (e : Entry). e.session == number) ys)
 
-pub part-one : (number : ℕ) (e : Entry) → part number (e ∷ []) ≡ cond (e.session == number) (told_of e ∷ []) []
+pub part-one : (number : ℕ) (e : Entry)
+    → part number (e ∷ []) ≡ cond (e.session == number) (told_of e ∷ []) []
 part-one number e = elim (e.session == number) as (λ (b : Bool). map told_of (cond b (e ∷ []) []) ≡ cond b (told_of e ∷ []) []) [ true ↦ refl | false ↦ refl ]
 
 -- the part of one entry more
-pub part_more : (number : ℕ) (log : List Entry) (i : ℕ) (e : Entry) → i < length log → get_or log i e ≡ e → part number (take (i + 1) log) ≡ part number (take i log) ++ cond (e.session == number) (told_of e ∷ []) []
+pub part_more : (number : ℕ) (log : List Entry) (i : ℕ) (e : Entry) → i < length log
+    → get_or log i e ≡ e
+    → part number (take (i + 1) log) ≡ part number (take i log) ++ cond (e.session == number) (told_of e ∷ []) []
 part_more number log i e here is =
     ap (part number) (take_more log i e here ∙ ap (λ (x : Entry). take i log ++ x ∷ []) is) ∙ part-append number (take i log) (e ∷ []) ∙ ap (λ (l : List Told). part number (take i log) ++ l) (part-one number e)
 
-seam : (number : ℕ) (log : List Entry) (i : ℕ) (e : Entry) → i < length log → get_or log i e ≡ e → (e.session == number) ≡ true → part number log ≡ part number (take i log) ++ told_of e ∷ part number (drop (i + 1) log)
+seam : (number : ℕ) (log : List Entry) (i : ℕ) (e : Entry) → i < length log → get_or log i e ≡ e
+    → (e.session == number) ≡ true
+    → part number log ≡ part number (take i log) ++ told_of e ∷ part number (drop (i + 1) log)
 seam number log i e here is same =
     let more : part number (take (i + 1) log) ≡ part number (take i log) ++ told_of e ∷ [] =
     part_more number log i e here is ∙ ap (λ (b : Bool). part number (take i log) ++ cond b (told_of e ∷ []) []) same in
@@ -30,8 +36,10 @@ seam number log i e here is same =
     ∙ search (append_assoc, rules)
 
 -- at this entry the list has another, or has ended
-pub differs : (number : ℕ) (log : List Entry) (list : List Told) (i next : ℕ) (e : Entry) → i < length log → get_or log i e ≡ e → (e.session == number) ≡ true
-    → part number (take i log) ≡ take next list → next ≤ length list → slice_get list next ≢ Some (told_of e) → DifferFirst (part number log) list next
+pub differs : (number : ℕ) (log : List Entry) (list : List Told) (i next : ℕ) (e : Entry)
+    → i < length log → get_or log i e ≡ e → (e.session == number) ≡ true
+    → part number (take i log) ≡ take next list → next ≤ length list
+    → slice_get list next ≢ Some (told_of e) → DifferFirst (part number log) list next
 differs number log list i next e here is same so_far within other =
     let a = part number (take i log) in
     let t = told_of e in
@@ -53,7 +61,8 @@ some_is_none (x ∷ xs) next more h =
     let p = slice_get-get_or (x ∷ xs) next x more in cc
 
 -- the log has ended and the list goes on
-pub ends : (xs list : List Told) (next : ℕ) → xs ≡ take next list → next < length list → DifferFirst xs list next
+pub ends : (xs list : List Told) (next : ℕ) → xs ≡ take next list → next < length list
+    → DifferFirst xs list next
 ends xs list next so_far more =
     let n : length xs ≡ next = ap length so_far ∙ length-take-le next list (omega arith) in (
       ap (λ (k : ℕ). take k xs) (sym n) ∙ take-length xs ∙ so_far,
@@ -61,13 +70,17 @@ ends xs list next so_far more =
     )
 
 -- an entry of another session
-pub skips : (number : ℕ) (log : List Entry) (list : List Told) (i next : ℕ) (e : Entry) → i < length log → get_or log i e ≡ e → (e.session == number) ≡ false → part number (take i log) ≡ take next list
+pub skips : (number : ℕ) (log : List Entry) (list : List Told) (i next : ℕ) (e : Entry)
+    → i < length log → get_or log i e ≡ e → (e.session == number) ≡ false
+    → part number (take i log) ≡ take next list
     → part number (take (i + 1) log) ≡ take next list
 skips number log list i next e here is other so_far =
     part_more number log i e here is ∙ ap (λ (b : Bool). part number (take i log) ++ cond b (told_of e ∷ []) []) other ∙ append-nil (part number (take i log)) ∙ so_far
 
 -- an entry that stands in the list too
-pub goes_on : (number : ℕ) (log : List Entry) (list : List Told) (i next : ℕ) (e : Entry) → i < length log → get_or log i e ≡ e → (e.session == number) ≡ true → part number (take i log) ≡ take next list → slice_get list next ≡ Some (told_of e)
+pub goes_on : (number : ℕ) (log : List Entry) (list : List Told) (i next : ℕ) (e : Entry)
+    → i < length log → get_or log i e ≡ e → (e.session == number) ≡ true
+    → part number (take i log) ≡ take next list → slice_get list next ≡ Some (told_of e)
     → (part number (take (i + 1) log) ≡ take (next + 1) list) × (next + 1 ≤ length list)
 goes_on number log list i next e here is same so_far at =
     let within = slice_get_within list next (told_of e) at in

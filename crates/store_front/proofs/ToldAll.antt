@@ -1,11 +1,11 @@
 -- What all sessions were told together, beside the log.
-use Rattle.std.proofs.Common.{◌≡◌, ℕ, zero, suc, ◌+◌, ◌<◌, List, [], ◌∷◌, length, Bool, true, false, refl, sym, ap, ◌∙◌, arith}
+use Rattle.std.proofs.Common.{◌≡◌, ℕ, suc, ◌+◌, ◌<◌, List, [], ◌∷◌, length, Bool, true, false, refl, sym, ap, ◌∙◌, arith}
 use Rattle.std.specs.Prelude.{◌==◌, cond, filter, map, All, if◌then◌else◌}
-use Rattle.std.proofs.lemmas.Bool.{eq-eqb, ne_eqb, cases_lt}
+use Rattle.std.proofs.lemmas.Bool.{eq-eqb}
 use Rattle.std.proofs.lemmas.Bool.Decides.{Decides-eqb}
 use Rattle.std.proofs.lemmas.List.Sums.{length-filter}
 use Rattle.meta_types.specs.Steps.{Entry}
-use Rattle.store_front.specs.Told.{Told, Seat}
+use Rattle.store_front.specs.Told.{Seat}
 use Rattle.store_front.specs.Parts.{part, told_of, IsPart, AreOpened}
 use Rattle.store_front.specs.Finish.{AreEach, told_to}
 use Rattle.store_front.proofs.Each.{with, nat_lt_true}
@@ -18,11 +18,13 @@ abbrev pub parts : List Entry → List Seat → ℕ
 parts log [] = 0
 parts log (s ∷ seats) = length (part s.number log) + parts log seats
 
-step_entry : (b : Bool) (e : Entry) (log : List Entry) → length (map told_of (cond b (e ∷ log) log)) ≡ one_if b + length (map told_of log)
+step_entry : (b : Bool) (e : Entry) (log : List Entry)
+    → length (map told_of (cond b (e ∷ log) log)) ≡ one_if b + length (map told_of log)
 step_entry true e log = omega arith
 step_entry false e log = omega arith
 
-step_seat : (b : Bool) (s : Seat) (seats : List Seat) → length (cond b (s ∷ seats) seats) ≡ one_if b + length seats
+step_seat : (b : Bool) (s : Seat) (seats : List Seat)
+    → length (cond b (s ∷ seats) seats) ≡ one_if b + length seats
 step_seat true s seats = omega arith
 step_seat false s seats = omega arith
 
@@ -35,7 +37,8 @@ turned a b = same (a == b) (b == a) (λ h. eq-eqb b a (sym ((Decides-eqb a b).0 
     same false false f g = refl
 
 -- an entry more is one answer more for each session with its number
-more : (e : Entry) (log : List Entry) (seats : List Seat) → parts (e ∷ log) seats ≡ length (with e.session seats) + parts log seats
+more : (e : Entry) (log : List Entry) (seats : List Seat)
+    → parts (e ∷ log) seats ≡ length (with e.session seats) + parts log seats
 more e log [] = omega arith
 more e log (s ∷ seats) =
     let one : length (part s.number (e ∷ log)) ≡ one_if (e.session == s.number) + length (part s.number log) = step_entry (e.session == s.number) e (filter (λ (x : Entry). x.session == s.number) log) in
@@ -48,7 +51,8 @@ none : (seats : List Seat) → parts [] seats ≡ 0
 none [] = refl
 none (s ∷ seats) = let rest = none seats in omega (arith, rest)
 
-whole : (opened : ℕ) (log : List Entry) (seats : List Seat) → AreEach opened seats → AreOpened opened log → parts log seats ≡ length log
+whole : (opened : ℕ) (log : List Entry) (seats : List Seat) → AreEach opened seats
+    → AreOpened opened log → parts log seats ≡ length log
 whole opened [] seats each all = none seats
 whole opened (e ∷ log) seats each all =
     let here : e.session < opened = all 0 e (omega arith) in
@@ -58,7 +62,8 @@ whole opened (e ∷ log) seats each all =
     let first = more e log seats in
     omega (arith, one, rest, first)
 
-told_parts : (log : List Entry) (seats : List Seat) → All (IsPart log) seats → told_to seats ≡ parts log seats
+told_parts : (log : List Entry) (seats : List Seat) → All (IsPart log) seats
+    → told_to seats ≡ parts log seats
 told_parts log [] all = refl
 told_parts log (s ∷ seats) all =
     let here : length (part s.number log) ≡ length s.list = ap length (all 0 s (omega arith)) in
@@ -66,5 +71,6 @@ told_parts log (s ∷ seats) all =
     omega (arith, here, rest)
 
 -- together the sessions were told each answer of the log once
-pub told_all : (opened : ℕ) (log : List Entry) (seats : List Seat) → AreEach opened seats → AreOpened opened log → All (IsPart log) seats → told_to seats ≡ length log
+pub told_all : (opened : ℕ) (log : List Entry) (seats : List Seat) → AreEach opened seats
+    → AreOpened opened log → All (IsPart log) seats → told_to seats ≡ length log
 told_all opened log seats each opens all = told_parts log seats all ∙ whole opened log seats each opens

@@ -1,8 +1,5 @@
 -- Events and answers, as the definitions have them.
-use Rattle.std.specs.Prelude.{List, [], ◌∷◌}
 use Rattle.meta_types.specs.Steps.{Answer as Said, answered, reported, refused, Event as Happening, requested, collect, remove_collect}
-use Rattle.meta_types.specs.declared.request.Request.{Request}
-use Rattle.meta_types.specs.declared.request.Request.TheVariants as R
 use Rattle.store_front.specs.declared.events.Event.{Event}
 use Rattle.store_front.specs.declared.events.Event.TheVariants as E
 use Rattle.store_front.specs.declared.events.Answer.{Answer}

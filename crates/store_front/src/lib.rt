@@ -1,4 +1,4 @@
-//! A store behind one lock, with a history that replays and sessions that remember what they were told.
+//! A store behind one lock: a history that replays, and sessions that keep what they were told.
 #![tactic(auto)]
 
 mod anew;

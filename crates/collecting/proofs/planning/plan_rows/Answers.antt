@@ -1,11 +1,10 @@
-use Rattle.std.proofs.Common.{◌≡◌, ◌∙◌, List, ap, map, sym, subst}
+use Rattle.std.proofs.Common.{map, subst}
 use Rattle.meta_types.specs.Rows.{BackLists}
 use Rattle.back_model.specs.Shown.{listed_snap}
 use Rattle.gc_graph.specs.Stored.{records_of}
 use Rattle.gc_graph.specs.Marked.{reached_by}
 use Rattle.gc_graph.proofs.Tells.{tells}
 use Rattle.table_sweep.specs.Plans.{IsPlan}
-use Rattle.backend_sweep.specs.Planned.{IsPlanOf}
 use Rattle.collecting.proofs.planning.plan_rows.Goals as goal
 
 pub returns-clause-ok : goal.returns-clause-ok

@@ -1,4 +1,4 @@
-use Rattle.std.proofs.Common.{◌≡◌, ◌∙◌, ap, map, Bor, refl, length}
+use Rattle.std.proofs.Common.{◌∙◌, ap, map, Bor, refl, length}
 use Rattle.meta_types.specs.declared.rows.ImageRow.{ImageRow}
 use Rattle.meta_types.specs.declared.rows.ContainerRow.{ContainerRow}
 use Rattle.meta_types.specs.declared.rows.ContentRow.{ContentRow}

@@ -1,8 +1,7 @@
-use Rattle.std.proofs.Common.{◌≡◌, ◌∙◌, sym, ap, subst}
-use Rattle.meta_types.specs.Rows.{Records, State}
+use Rattle.std.proofs.Common.{◌≡◌, ◌∙◌, sym, subst}
+use Rattle.meta_types.specs.Rows.{State}
 use Rattle.meta_types.specs.Reports.{Report, Collects}
 use Rattle.meta_types.specs.Sound.{IsSound}
-use Rattle.backend_sweep.specs.Swept.{held_in}
 use Rattle.collecting.specs.Removing.{without}
 use Rattle.collecting.specs.Stores.{records_in, store_in}
 use Rattle.collecting.proofs.Removing.{checked, none_applies, later, left_is, sound_without}

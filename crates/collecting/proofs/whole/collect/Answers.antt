@@ -1,4 +1,4 @@
-use Rattle.std.proofs.Common.{◌≡◌, List, sym, subst, refl, length}
+use Rattle.std.proofs.Common.{sym, subst, refl, length}
 use Rattle.meta_types.specs.Rows.{Records, State}
 use Rattle.meta_types.specs.Reports.{Report, Collects}
 use Rattle.meta_types.proofs.SoundAfter.{a_collected_store_is_sound}

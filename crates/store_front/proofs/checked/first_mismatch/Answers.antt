@@ -1,4 +1,4 @@
-use Rattle.std.proofs.Common.{rules, ◌≡◌, ◌≢◌, ◌∙◌, ◌<◌, ◌+◌, ℕ, List, length, slice_index_or, slice_set, arith, sym, ap, subst}
+use Rattle.std.proofs.Common.{rules, ◌≡◌, ◌≢◌, ◌∙◌, ◌<◌, ℕ, length, slice_index_or, sym, ap, subst}
 use Rattle.std.specs.Prelude.{count_by, ◌==◌, slice_get, Some}
 use Rattle.std.proofs.lemmas.Option.{slice_get_within}
 use Rattle.meta_types.specs.Steps.{Entry}

@@ -1,4 +1,3 @@
-use Rattle.store_front.specs.Told.{Seat}
 use Rattle.store_front.proofs.Comparing.{must_be}
 use Rattle.store_front.proofs.checked.place_of.Goals as goal
 

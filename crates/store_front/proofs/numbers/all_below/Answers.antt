@@ -5,10 +5,14 @@ use Rattle.std.proofs.lemmas.List.Elements.{All-more}
 use Rattle.store_front.specs.Told.{Seat}
 use Rattle.store_front.proofs.numbers.all_below.Goals as goal
 
-all : (opened n : ℕ) (seats : List Seat) → All (λ (s : Seat). s.number < opened) (take n seats) → length seats ≤ n → All (λ (s : Seat). s.number < opened) seats
+all : (opened n : ℕ) (seats : List Seat) → All (λ (s : Seat). s.number < opened) (take n seats)
+    → length seats ≤ n → All (λ (s : Seat). s.number < opened) seats
 all opened n seats h end = subst (λ (l : List Seat). All (λ (s : Seat). s.number < opened) l) (take_all n seats end) h
 
-more : (opened n : ℕ) (seats : List Seat) (x : Seat) → All (λ (s : Seat). s.number < opened) (take n seats) → n < length seats → x ≡ get_or seats n x → x.number < opened → All (λ (s : Seat). s.number < opened) (take (n + 1) seats)
+more : (opened n : ℕ) (seats : List Seat) (x : Seat)
+    → All (λ (s : Seat). s.number < opened) (take n seats) → n < length seats
+    → x ≡ get_or seats n x → x.number < opened
+    → All (λ (s : Seat). s.number < opened) (take (n + 1) seats)
 more opened n seats x h inside is below = All-more (λ (s : Seat). s.number < opened) seats n x inside h (subst (λ (s : Seat). s.number < opened) is below)
 
 pub returns : goal.returns

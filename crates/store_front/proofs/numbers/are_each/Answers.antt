@@ -13,7 +13,8 @@ returns-then-count_of-ne1 g c =
 pub loop-number-preserved : goal.loop-number-preserved
 loop-number-preserved g c = below_more (λ (k : ℕ). count_by (λ (s : Seat). s.number == k) c.args.sessions.now ≡ 1) _ c.loop-number.invariant (sym c.count_of.ensures ∙ c.if-count_of-ne1.false)
 
-whole : (opened n : ℕ) (seats : _) (b : Bool) → ((k : ℕ) → k < n → count_by (λ (s : Seat). s.number == k) seats ≡ 1) → opened ≤ n
+whole : (opened n : ℕ) (seats : _) (b : Bool) → ((k : ℕ) → k < n
+    → count_by (λ (s : Seat). s.number == k) seats ≡ 1) → opened ≤ n
     → MatchBool b (All (λ (s : Seat). s.number < opened) seats) ((k : ℕ) × (opened ≤ k) × (0 < count_by (λ (s : Seat). s.number == k) seats))
     → MatchBool b (AreEach opened seats) (¬ (AreEach opened seats))
 whole opened n seats true once all h = are_each opened seats (λ k l. once k (omega arith)) h

@@ -1,4 +1,4 @@
-use Rattle.std.proofs.Common.{rules, ◌≡◌, ◌<◌, ◌+◌, ◌∙◌, sym, ap, subst, List}
+use Rattle.std.proofs.Common.{rules, ◌<◌, ◌+◌, ◌∙◌, sym, ap, subst, List}
 use Rattle.meta_types.specs.Steps.{IsLegal, Entry, requested}
 use Rattle.store_front.specs.Front.{Front}
 use Rattle.store_front.specs.Kept.{kept_reply, log_after, Takes, reply_failures}

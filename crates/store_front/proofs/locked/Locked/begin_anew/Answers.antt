@@ -1,4 +1,4 @@
-use Rattle.std.proofs.Common.{rules, ◌≡◌, ◌∙◌, ◌+◌, ◌<◌, [], ℕ, List, refl, sym, ap, subst, arith, length}
+use Rattle.std.proofs.Common.{rules, ◌≡◌, ◌∙◌, ◌+◌, [], List, refl, sym, ap, subst, arith, length}
 use Rattle.std.specs.Vec.{vec_len}
 use Rattle.meta_types.specs.Steps.{Entry, IsLegal}
 use Rattle.store_front.specs.Front.{Front}

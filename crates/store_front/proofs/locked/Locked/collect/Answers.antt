@@ -1,4 +1,4 @@
-use Rattle.std.proofs.Common.{rules, ◌≡◌, ◌<◌, ◌∙◌, sym, subst, List}
+use Rattle.std.proofs.Common.{rules, ◌<◌, ◌∙◌, sym, subst, List}
 use Rattle.std.specs.Prelude.{Result}
 use Rattle.meta_types.specs.Reports.{Report}
 use Rattle.meta_types.specs.Steps.{IsLegal, Entry, collect}

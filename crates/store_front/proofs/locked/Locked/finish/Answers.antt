@@ -1,4 +1,4 @@
-use Rattle.std.proofs.Common.{◌≡◌, ◌∙◌, sym, ap, subst}
+use Rattle.std.proofs.Common.{◌∙◌, sym, ap, subst}
 use Rattle.meta_types.specs.Steps.{IsLegal}
 use Rattle.store_front.specs.Front.{Front}
 use Rattle.store_front.specs.Told.{Course}
