@@ -53,7 +53,11 @@ impl<L: Ledger> Desk<L> {
     {
         let mut locked = Locked::open(alloc, blank, State::empty(alloc))?;
         let session = locked.session(alloc)?;
-        Ok(Desk { locked, session, workers })
+        Ok(Desk {
+            locked,
+            session,
+            workers,
+        })
     }
 
     /// Answers one line, without its line feed, as `answer_line`.
@@ -70,7 +74,14 @@ impl<L: Ledger> Desk<L> {
         ensures err { OnErr result ((refusal : Option Refusal)
             × (self.new ≡ (line_step self.old refusal line.now).1)) }
     {
-        answer_line(&mut self.locked, rt, alloc, &mut self.session, line, self.workers)
+        answer_line(
+            &mut self.locked,
+            rt,
+            alloc,
+            &mut self.session,
+            line,
+            self.workers,
+        )
     }
 
     // Whether the history is long enough to be begun anew. It takes no memory.
@@ -82,7 +93,9 @@ impl<L: Ledger> Desk<L> {
         let counts = self.locked.records().tables.counts();
         let objects = counts.images.saturating_add(counts.containers);
         let stored = counts.content.saturating_add(counts.ingests);
-        let rows = objects.saturating_add(stored).saturating_add(counts.snapshots);
+        let rows = objects
+            .saturating_add(stored)
+            .saturating_add(counts.snapshots);
         rows <= entries as u128
     }
 
@@ -94,7 +107,11 @@ impl<L: Ledger> Desk<L> {
         if !self.is_long() {
             return;
         }
-        let Desk { locked, session, .. } = self;
+        let Desk {
+            locked,
+            session,
+            ..
+        } = self;
         let _history = locked.begin_anew(alloc, slice::from_mut(session));
     }
 }

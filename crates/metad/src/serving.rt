@@ -62,7 +62,14 @@ fn collect<L: Ledger, R: Threads + Wait + Sync>(
     };
     locked.never_failed();
     let report = locked.collect(
-        rt, alloc, session, at, dry, workers, &OpenGate, &OpenSweepGate,
+        rt,
+        alloc,
+        session,
+        at,
+        dry,
+        workers,
+        &OpenGate,
+        &OpenSweepGate,
     );
     locked.never_failed();
     report
@@ -91,7 +98,14 @@ fn remove<L: Ledger, R: Threads + Wait + Sync>(
     };
     locked.never_failed();
     let report = locked.remove_collect(
-        rt, alloc, session, removal, at, workers, &OpenGate, &OpenSweepGate,
+        rt,
+        alloc,
+        session,
+        removal,
+        at,
+        workers,
+        &OpenGate,
+        &OpenSweepGate,
     );
     locked.never_failed();
     report

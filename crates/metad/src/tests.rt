@@ -13,7 +13,9 @@ use std::thread::Threads;
 fn gives<T: Threads + Wait + Sync>(
     rt: &T,
     alloc: Global,
-    script: &[u8], output: &str) -> Result<bool, Fault> {
+    script: &[u8],
+    output: &str,
+) -> Result<bool, Fault> {
     for workers in [1usize, 2, 8, 16] {
         let mut reader = script;
         let mut writer = Vec::new(alloc);
@@ -109,7 +111,11 @@ fn whole(bytes: &[u8]) -> &[u8] {
 }
 
 // What a reader that fails after so many reads leaves is what its whole lines would give.
-fn leaves_whole_lines<T: Threads + Wait + Sync>(rt: &T, alloc: Global, reads: usize) -> Result<bool, Fault> {
+fn leaves_whole_lines<T: Threads + Wait + Sync>(
+    rt: &T,
+    alloc: Global,
+    reads: usize,
+) -> Result<bool, Fault> {
     let bytes = SHORT.0.as_bytes();
     let mut reader = Slow { bytes, reads };
     let mut left = Vec::new(alloc);

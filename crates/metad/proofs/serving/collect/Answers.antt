@@ -15,7 +15,7 @@ returns-clause-ok g c =
     let old = c.args.locked.now.store.state in
     let is = is_collection old c.args.at.now c.in-Some.at.0 c.args.dry c.args.workers (ap instant_of (sym c.text.ensures) ∙ sym c.in-Some.ensures.moment) c.requires.workers in
     report_ok old c.collect-report.new.self.store.state (A.Collect c.args.at.now c.args.dry) (collect c.in-Some.at.0 c.args.dry c.args.workers) is
-        c.args.locked.now.store.failures c.collect-report.new.self.store.failures c.never_failed.ensures c.never_failed-2.ensures c.collect-report.result c.collect-report.ensures.step c.collect-report.ensures.failures
+    c.args.locked.now.store.failures c.collect-report.new.self.store.failures c.never_failed.ensures c.never_failed-2.ensures c.collect-report.result c.collect-report.ensures.step c.collect-report.ensures.failures
 
 -- the refusal of the step, or want of memory or of a thread
 pub returns-clause-err : goal.returns-clause-err
@@ -23,4 +23,4 @@ returns-clause-err g c =
     let old = c.args.locked.now.store.state in
     let is = is_collection old c.args.at.now c.in-Some.at.0 c.args.dry c.args.workers (ap instant_of (sym c.text.ensures) ∙ sym c.in-Some.ensures.moment) c.requires.workers in
     report_err old c.collect-report.new.self.store.state (A.Collect c.args.at.now c.args.dry) (collect c.in-Some.at.0 c.args.dry c.args.workers) is
-        refl c.collect-report.result _ c.collect-report.ensures.step c.collect-report.ensures.fault
+    refl c.collect-report.result _ c.collect-report.ensures.step c.collect-report.ensures.fault

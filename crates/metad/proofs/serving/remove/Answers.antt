@@ -15,7 +15,7 @@ returns-clause-ok g c =
     let old = c.args.locked.now.store.state in
     let is = is_removal old c.args.removal.now c.args.at.now c.in-Some.at.0 c.args.workers (ap instant_of (sym c.text.ensures) ∙ sym c.in-Some.ensures.moment) c.requires.workers in
     report_ok old c.remove_collect-report.new.self.store.state (A.Remove c.args.removal.now c.args.at.now) (remove_collect c.args.removal.now c.in-Some.at.0 c.args.workers) is
-        c.args.locked.now.store.failures c.remove_collect-report.new.self.store.failures c.never_failed.ensures c.never_failed-2.ensures c.remove_collect-report.result c.remove_collect-report.ensures.step c.remove_collect-report.ensures.failures
+    c.args.locked.now.store.failures c.remove_collect-report.new.self.store.failures c.never_failed.ensures c.never_failed-2.ensures c.remove_collect-report.result c.remove_collect-report.ensures.step c.remove_collect-report.ensures.failures
 
 -- the refusal of the step, or want of memory or of a thread
 pub returns-clause-err : goal.returns-clause-err
@@ -23,4 +23,4 @@ returns-clause-err g c =
     let old = c.args.locked.now.store.state in
     let is = is_removal old c.args.removal.now c.args.at.now c.in-Some.at.0 c.args.workers (ap instant_of (sym c.text.ensures) ∙ sym c.in-Some.ensures.moment) c.requires.workers in
     report_err old c.remove_collect-report.new.self.store.state (A.Remove c.args.removal.now c.args.at.now) (remove_collect c.args.removal.now c.in-Some.at.0 c.args.workers) is
-        refl c.remove_collect-report.result _ c.remove_collect-report.ensures.step c.remove_collect-report.ensures.fault
+    refl c.remove_collect-report.result _ c.remove_collect-report.ensures.step c.remove_collect-report.ensures.fault
