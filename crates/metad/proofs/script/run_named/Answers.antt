@@ -1,7 +1,10 @@
-use Rattle.std.proofs.lemmas.Result.{on_err_weaker, on_ok_weaker}
+use Rattle.std.proofs.Common.{inr, arith}
+use Rattle.std.proofs.lemmas.Result.{on_err_weaker, on_ok_weaker, IfErr-weaker}
+use Rattle.metad.specs.Progress.{IsLateFault, IsStartedFault}
+use Rattle.metad.proofs.LineAnswers.{passed_on}
 use Rattle.metad.specs.Output.{IsOutput, IsBeginning}
 use Rattle.metad.proofs.Runs.{Progress-empty, Runs-none, Runs-feed, Runs-break, Runs-end, Runs-whole, Runs-begins, Exchanges-none}
-use Rattle.metad.proofs.Writers.{holds_on_err, Keeps-same}
+use Rattle.metad.proofs.Writers.{holds_on_ok, holds_on_err, Keeps-same}
 use Rattle.metad.proofs.script.run_named.Goals as goal
 
 -- the store couldn't be opened, and nothing was read
@@ -13,6 +16,18 @@ reads-init g c = Runs-none _ _ _ _ (rw c.in_ok-desk.ensures.ok (Progress-empty _
 
 pub returns-in-Ok-eq0-clause-ok : goal.returns-in-Ok-eq0-clause-ok
 returns-in-Ok-eq0-clause-ok g c = on_ok_weaker c.finish.result (λ e. Runs-end IsOutput c.reads.invariant (rw c.in-Ok-eq0.field-0-test at c.in-Ok-eq0.ensures.bytes.0) e) c.finish.ensures.ok
+
+-- a read of no byte is the end, since there was room
+pub returns-in-Ok-eq0-clause-end : goal.returns-in-Ok-eq0-clause-end
+returns-in-Ok-eq0-clause-end g c = holds_on_ok c.finish.result (c.in-Ok-eq0.ensures.bytes.1 c.in-Ok-eq0.field-0-test (omega arith))
+
+-- the last line was refused, or its reply not written
+pub returns-in-Ok-eq0-clause-faults : goal.returns-in-Ok-eq0-clause-faults
+returns-in-Ok-eq0-clause-faults g c = IfErr-weaker c.finish.result IsLateFault IsStartedFault (λ fault late. inr late) c.finish.ensures.fault
+
+-- so of a line before
+pub returns-in_err-feed-in-Ok-clause-faults : goal.returns-in_err-feed-in-Ok-clause-faults
+returns-in_err-feed-in-Ok-clause-faults g c = passed_on c.from_residual-in_err-feed-in-Ok.result _ IsStartedFault c.from_residual-in_err-feed-in-Ok.ensures.1 (inr c.in_err-feed-in-Ok.ensures.fault)
 
 pub returns-in-Ok-eq0-clause-err : goal.returns-in-Ok-eq0-clause-err
 returns-in-Ok-eq0-clause-err g c = on_err_weaker c.finish.result (λ e. Runs-end IsBeginning c.reads.invariant (rw c.in-Ok-eq0.field-0-test at c.in-Ok-eq0.ensures.bytes.0) e) c.finish.ensures.err
