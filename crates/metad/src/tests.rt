@@ -5,6 +5,7 @@ use meta_types::Fault;
 use std::alloc::Global;
 use std::cell::Cell;
 use std::io;
+use std::io::Read;
 use std::sync::Wait;
 use std::test::Fail;
 use std::thread::Threads;
@@ -110,17 +111,19 @@ fn whole(bytes: &[u8]) -> &[u8] {
     }
 }
 
-// What a reader that fails after so many reads leaves is what its whole lines would give.
+// What a reader leaves that fails after these bytes is what the whole lines among them give.
 fn leaves_whole_lines<T: Threads + Wait + Sync>(
     rt: &T,
     alloc: Global,
-    reads: usize,
+    read: &[u8],
 ) -> Result<bool, Fault> {
-    let bytes = SHORT.0.as_bytes();
-    let mut reader = Slow { bytes, reads };
+    let mut reader = Slow {
+        bytes: SHORT.0.as_bytes(),
+        reads: read.len(),
+    };
     let mut left = Vec::new(alloc);
     let end = run_script(rt, alloc, &mut reader, &mut left, 1);
-    let mut reader = whole(&bytes[..reads]);
+    let mut reader = whole(read);
     let mut writer = Vec::new(alloc);
     run_script(rt, alloc, &mut reader, &mut writer, 1)?;
     Ok(end == Err(Fault::ReadFailed) && left.as_slice() == writer.as_slice())
@@ -129,7 +132,7 @@ fn leaves_whole_lines<T: Threads + Wait + Sync>(
 #[test]
 fn a_reader_that_fails_ends_the_run_after_the_whole_lines(rt: HostRuntime) -> Result<(), Fail> {
     for reads in 0..SHORT.0.len() {
-        assert!(rt; leaves_whole_lines(&rt, rt.alloc(), reads)?);
+        assert!(rt; leaves_whole_lines(&rt, rt.alloc(), &SHORT.0.as_bytes()[..reads])?);
     }
     Ok(())
 }
@@ -189,7 +192,8 @@ impl io::Write for Noting<'_> {
 
 static QUESTION: &str = "{\"op\":\"ns.list\"}\n";
 
-static REPLY: &str = "{\"names\":[],\"ok\":true}\n";
+// The length of {"names":[],"ok":true} with its line feed.
+const REPLY_LENGTH: usize = 23;
 
 // Asks three times, and each time only when the replies before were flushed.
 #[derive(Drop)]
@@ -200,15 +204,15 @@ struct Client<'a> {
 
 impl io::Read for Client<'_> {
     fn read(&mut self, buf: &mut [u8]) -> io::Result<usize> {
-        if self.flushed.get() != self.asked * REPLY.len() || buf.len() < QUESTION.len() {
+        if self.flushed.get() / REPLY_LENGTH != self.asked {
             return Err(io::Error::from(io::ErrorKind::Interrupted));
         }
         if self.asked == 3 {
             return Ok(0);
         }
-        self.asked += 1;
-        buf[..QUESTION.len()].copy_from_slice(QUESTION.as_bytes());
-        Ok(QUESTION.len())
+        self.asked = self.asked.saturating_add(1);
+        let mut question = QUESTION.as_bytes();
+        question.read(buf)
     }
 }
 
