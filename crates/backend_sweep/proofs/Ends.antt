@@ -23,7 +23,7 @@ use Rattle.backend_sweep.proofs.Pairing.{same_kept, Pairs, each_from, pairs_filt
 use Rattle.backend_sweep.proofs.Each.{in_of, of_in}
 use Rattle.backend_sweep.proofs.Naming.{Named, names_may_be_swept}
 use Rattle.backend_sweep.proofs.Zipped.{Triple, olds_of, lanes_of, news_of, One, All3, filter_twice, snapshots_left, snapshots_removed, failed_fit, failed_apart}
-use Rattle.backend_sweep.proofs.Orders.{one_way, chain}
+use Rattle.meta_types.proofs.GoingOrder.{one_way, chain}
 
 -- ---- objects without parents
 

@@ -13,7 +13,6 @@ pub mod Naming
 pub mod Each
 pub mod Zipped
 pub mod Counting
-pub mod Orders
 pub mod Ends
 pub mod Backs
 pub mod Allowed

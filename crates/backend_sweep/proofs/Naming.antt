@@ -26,7 +26,8 @@ use Rattle.backend_sweep.specs.Shards.{IsChild, IsHeld, IsAbove, has, numbers_of
 use Rattle.backend_sweep.specs.Sweep.{Childfirst}
 use Rattle.backend_sweep.proofs.Ancestry.{found, stands}
 use Rattle.backend_sweep.proofs.Sorting.{Ascends, AllBehind, order_ascends}
-use Rattle.backend_sweep.proofs.Pairing.{in_front, in_back, in_part, in_ordered, ordered_has, Each, Pairs, each_from, pairs_front, pairs_back, pairs_filter, pairs_order, Split, split, any_of_images}
+use Rattle.backend_sweep.proofs.Pairing.{in_front, in_back, in_part, Each, Pairs, each_from, pairs_front, pairs_back, pairs_filter, pairs_order, Split, split, any_of_images}
+use Rattle.meta_types.proofs.Sorted.{in_ordered, ordered_has}
 
 -- ---- numbers of what is in a list
 

@@ -6,14 +6,19 @@
 mod backends;
 mod graph;
 mod requests;
+mod sessions;
 
 use meta_types::Fault;
 use std::alloc::Global;
 use std::process::ExitCode;
+use std::sync::Wait;
 use std::thread::Threads;
 
-fn all_calls(rt: &(impl Threads + Sync), alloc: Global) -> Result<bool, Fault> {
-    Ok(backends::calls(alloc)? && requests::calls(alloc) && graph::calls(rt, alloc))
+fn all_calls<R: Threads + Wait + Sync>(rt: &R, alloc: Global) -> Result<bool, Fault> {
+    if !(backends::calls(alloc)? && requests::calls(alloc) && graph::calls(rt, alloc)) {
+        return Ok(false);
+    }
+    sessions::calls(rt, alloc)
 }
 
 fn main(rt: HostRuntime) -> ExitCode {

@@ -9,7 +9,7 @@ use meta_types::{Fault, Reply, Request, Words};
 use request_core::State;
 use std::alloc::Global;
 
-fn space(alloc: Global) -> Result<Request, Fault> {
+pub(crate) fn space(alloc: Global) -> Result<Request, Fault> {
     let ns = Words::new(String::from_str(alloc, "x")?);
     Ok(Request::NsAdd { ns })
 }

@@ -2,10 +2,15 @@
 ghost use Rattle.std.specs.Prelude.{◌≡◌, ◌↔◌, [], Err, None, IfOk, IfErr, OnOk, OnErr, All, map, false};
 ghost use Rattle.meta_types.specs.Faults.{Refuses};
 ghost use Rattle.meta_types.specs.Limits.{is_worker_count};
+ghost use Rattle.meta_types.specs.Outcomes.{least_fault};
+ghost use Rattle.meta_types.specs.Requests.{outcome};
+ghost use Rattle.meta_types.specs.Rows.{State as Kept};
 ghost use Rattle.meta_types.specs.Sound.{IsSound};
-ghost use Rattle.meta_types.specs.Steps.{requested, collect, remove_collect};
+ghost use Rattle.meta_types.specs.Steps.{requested, collect, collect_fault, remove_collect, remove_collect_fault};
 ghost use Rattle.meta_types.specs.declared.fault.Fault.TheVariants.{InvalidArgument, FailedPrecondition};
-ghost use Rattle.store_front.specs.Kept.{kept_reply, kept_report, list_after};
+ghost use Rattle.request_core.specs.Follows.{Fails};
+ghost use Rattle.collecting.specs.Refused.{CollectFails};
+ghost use Rattle.store_front.specs.Kept.{kept_reply, kept_report, Takes, list_after};
 ghost use Rattle.store_front.specs.Finish.{IsHistory, AreOfThese, fresh};
 ghost use Rattle.store_front.specs.Parts.{IsPart};
 
@@ -59,7 +64,8 @@ impl<L: Ledger, S: SnapBackend, B: BlobBackend, I: IngestBackend> Store<L, S, B,
         self.inner.lock(rt).session(alloc)
     }
 
-    /// Answers a request. The session's list has it with its answer, where it is an entry.
+    /// Answers a request, of a sound store: the one that was there when the lock was taken. The
+    /// session's list has it with its answer, where it is an entry.
     pub fn call(
         &self,
         rt: &impl Wait,
@@ -67,6 +73,9 @@ impl<L: Ledger, S: SnapBackend, B: BlobBackend, I: IngestBackend> Store<L, S, B,
         session: &mut Session<L>,
         request: &Request,
     ) -> Result<Reply, Fault>
+        ensures step { (old : Kept) × (new : Kept) × IsSound old
+            × Takes old (requested request.now) (kept_reply result) new
+            × IfErr result (λ f. Fails f (least_fault (outcome old request.now))) }
         ensures list { session.new.list ≡ list_after session.old.list (requested request.now)
             (kept_reply result) }
         ensures number { session.new.number ≡ session.old.number }
@@ -89,6 +98,9 @@ impl<L: Ledger, S: SnapBackend, B: BlobBackend, I: IngestBackend> Store<L, S, B,
         gate: &G,
         sweep_gate: &H,
     ) -> Result<Report, Fault>
+        ensures step { (old : Kept) × (new : Kept) × IsSound old
+            × Takes old (collect at.0 dry workers) (kept_report result) new
+            × IfErr result (λ f. CollectFails f (collect_fault old.records workers)) }
         ensures list { session.new.list ≡ list_after session.old.list (collect at.0 dry workers)
             (kept_report result) }
         ensures number { session.new.number ≡ session.old.number }
@@ -111,6 +123,9 @@ impl<L: Ledger, S: SnapBackend, B: BlobBackend, I: IngestBackend> Store<L, S, B,
         gate: &G,
         sweep_gate: &H,
     ) -> Result<Report, Fault>
+        ensures step { (old : Kept) × (new : Kept) × IsSound old
+            × Takes old (remove_collect removal.now at.0 workers) (kept_report result) new
+            × IfErr result (λ f. CollectFails f (remove_collect_fault old removal.now workers)) }
         ensures list { session.new.list ≡ list_after session.old.list
             (remove_collect removal.now at.0 workers) (kept_report result) }
         ensures number { session.new.number ≡ session.old.number }

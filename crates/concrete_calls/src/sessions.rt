@@ -1,0 +1,89 @@
+//! A store behind its lock: two sessions, a plan beside the lock, and the history at the end.
+ghost use Rattle.std.specs.Prelude.{◌≡◌};
+
+use crate::requests::space;
+use backend_sweep::OpenSweepGate;
+use meta_types::{Fault, Instant, Reply};
+use request_core::State;
+use std::alloc::Global;
+use std::marker::Brand;
+use std::sync::Wait;
+use std::sync::ledger::{Blank, Ledger};
+use std::thread::Threads;
+use steal_mark::OpenGate;
+use store_front::{Session, Store, finish};
+
+const AT: Instant = Instant(0);
+
+fn is_called<L: Ledger, R: Threads + Wait + Sync>(
+    rt: &R,
+    alloc: Global,
+    store: &Store<L>,
+    session: &mut Session<L>,
+) -> Result<bool, Fault> {
+    let request = space(alloc)?;
+    let reply = store.call(rt, alloc, session, &request);
+    let is_done = matches!(&reply, Ok(Reply::Done));
+    drop(reply);
+    drop(request);
+    Ok(is_done)
+}
+
+fn is_collected<L: Ledger, R: Threads + Wait + Sync>(
+    rt: &R,
+    alloc: Global,
+    store: &Store<L>,
+    session: &mut Session<L>,
+) -> bool {
+    let report = store.collect(rt, alloc, session, AT, false, 2, &OpenGate, &OpenSweepGate);
+    let is_ok = report.is_ok();
+    drop(report);
+    is_ok
+}
+
+// Only the call is in the plan's history: nothing was collected yet.
+fn is_planned<L: Ledger, R: Threads + Wait + Sync>(
+    rt: &R,
+    alloc: Global,
+    store: &Store<L>,
+    session: &Session<L>,
+) -> Result<bool, Fault> {
+    let planned = store.plan_copy(rt, alloc, session, AT, 2, &OpenGate)?;
+    Ok(planned.cut.log.len() == 1)
+}
+
+fn ends<L: Ledger>(
+    alloc: Global,
+    store: Store<L>,
+    first: Session<L>,
+    second: Session<L>,
+) -> Result<bool, Fault> {
+    let mut sessions = Vec::new(alloc);
+    sessions.push(first)?;
+    sessions.push(second)?;
+    let history = finish(alloc, store, sessions)?;
+    Ok(history.log.len() == 2)
+}
+
+fn calls_named<L: Ledger, R: Threads + Wait + Sync>(
+    rt: &R,
+    alloc: Global,
+    blank: Blank,
+) -> Result<bool, Fault>
+    requires name { blank.name ≡ L.name }
+    requires parts { (blank.parts ≡ L.parts) × (blank.parts ≡ 65536) }
+{
+    let store = Store::<L>::new(alloc, blank, State::empty(alloc))?;
+    let mut first = store.session(rt, alloc)?;
+    let mut second = store.session(rt, alloc)?;
+    let is_called = is_called(rt, alloc, &store, &mut first)?;
+    let is_planned = is_planned(rt, alloc, &store, &first)?;
+    let is_collected = is_collected(rt, alloc, &store, &mut second);
+    let is_ended = ends(alloc, store, first, second)?;
+    Ok(is_called && is_planned && is_collected && is_ended)
+}
+
+/// Adds a namespace in one session, plans beside the lock, collects in another, and ends the store.
+pub(crate) fn calls<R: Threads + Wait + Sync>(rt: &R, alloc: Global) -> Result<bool, Fault> {
+    calls_named::<Brand, R>(rt, alloc, Blank::new(65536))
+}
