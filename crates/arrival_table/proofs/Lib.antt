@@ -1,4 +1,5 @@
 pub mod Arrivals
+pub mod ChangedThere
 pub mod Entries
 pub mod JoinedLists
 pub mod KeptOrder

@@ -8,6 +8,7 @@ mod in_order;
 mod listing;
 mod named;
 mod places;
+mod resources;
 mod row;
 mod rows;
 mod table;

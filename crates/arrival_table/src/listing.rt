@@ -20,6 +20,8 @@ pub fn in_key_order<'a, K: Named, R: Row<K>>(
     ensures fault { Refuses result None }
     ensures ok { IfOk result (λ list. map (λ row. row.now) list.items
         ≡ sorted (by_name K.texts_of R.name_of) table.now) }
+    ensures order { IsTrue (are_in_order (by_name K.texts_of R.name_of)
+        (sorted (by_name K.texts_of R.name_of) table.now)) }
 {
     let mut list = borrow_rows(alloc, table.rows())?;
     sort_rows(&mut list)?;

@@ -1,5 +1,6 @@
 -- What each call is refused for, and which ids it gives.
-use Rattle.std.specs.Prelude.{Bool, false, true, not, List, [], ◌∷◌, map, Option, filter, is_none, bytes_eq, if◌then◌else◌}
+pub use Rattle.arrival_table.specs.Arrived.{kept}
+use Rattle.std.specs.Prelude.{Bool, false, true, not, List, [], ◌∷◌, map, Option, filter, is_none, bytes_eq}
 use Rattle.std.specs.Option.{option_map_or}
 use Rattle.meta_types.specs.Text.{Text}
 use Rattle.meta_types.specs.Labels.{is_label, has_room}
@@ -24,9 +25,3 @@ labelling_fault key value found =
 -- the ids of a namespace's leases, in their order (containerd leases service, List)
 abbrev pub ids_in : Text → List LeaseRow → List Text
 ids_in ns leases = map (λ row. row.id) (filter (λ row. bytes_eq ns row.ns) leases)
-
--- the rows whose places are marked (ours)
-abbrev pub kept : {Row : Type 0} → List Bool → List Row → List Row
-kept [] rows = []
-kept (stays ∷ marks) [] = []
-kept (stays ∷ marks) (row ∷ rows) = if stays then row ∷ kept marks rows else kept marks rows

@@ -1,12 +1,12 @@
 //! One lease.
-ghost use Rattle.std.specs.Prelude.{◌≡◌, [], None, IfOk, OnOk, OnErr, IsTrue, ◌++◌, ◌∷◌};
+ghost use Rattle.std.specs.Prelude.{◌≡◌, [], map, None, IfOk, OnOk, OnErr, IsTrue};
 ghost use Rattle.meta_types.specs.Keys.{are_in_order, has_row, remove_row};
 ghost use Rattle.meta_types.specs.Resources.{resource_key, held};
 ghost use Rattle.meta_types.specs.Labels.{put_label, takes_label};
 ghost use Rattle.meta_types.specs.Faults.{Refuses, unless};
 ghost use Rattle.meta_types.specs.declared.fault.Fault.TheVariants.{InvalidArgument};
 
-use crate::held;
+use arrival_table::{NamespaceRow, Row, Table, in_key_order};
 use meta_types::{Fault, Labels, Name, Resource, ShortName};
 use std::alloc::Global;
 use std::marker::Model;
@@ -17,21 +17,22 @@ pub struct Lease {
     ns: ShortName,
     id: Name,
     labels: Labels,
-    resources: Vec<Resource>,
+    resources: Table<Resource, Resource>,
 }
 
 impl Model for Lease {
-    ghost use Rattle.std.specs.Prelude.{IsTrue};
-    ghost use Rattle.meta_types.specs.Keys.{are_in_order};
     ghost use Rattle.meta_types.specs.Resources.{resource_key};
     ghost use Rattle.meta_types.specs.Rows.{LeaseRow};
+    ghost use Rattle.arrival_table.specs.Arrived.{sorted};
 
     ghost Value = { LeaseRow };
 
-    ghost view = { λ l.
-        record { ns = l.ns; id = l.id; labels = l.labels; resources = l.resources.items } };
-
-    ghost invariant = { λ l. IsTrue (are_in_order resource_key l.resources.items) };
+    ghost view = { λ l. record {
+      ns = l.ns;
+      id = l.id;
+      labels = l.labels;
+      resources = sorted resource_key l.resources;
+    } };
 }
 
 impl Lease {
@@ -43,7 +44,7 @@ impl Lease {
             ns,
             id,
             labels,
-            resources: Vec::new(alloc),
+            resources: Table::new(alloc),
         }
     }
 
@@ -69,17 +70,19 @@ impl Lease {
     }
 
     /// What it holds, in the order of types and ids.
-    pub fn resources(&self) -> &[Resource]
-        ensures resources { result.now ≡ self.now.resources }
+    pub fn resources(&self, alloc: Global) -> Result<Vec<&Resource>, Fault>
+        ensures fault { Refuses result None }
+        ensures ok { IfOk result (λ list. map (λ resource. resource.now) list.items
+            ≡ self.now.resources) }
         ensures order { IsTrue (are_in_order resource_key self.now.resources) }
     {
-        &self.resources
+        in_key_order(alloc, &self.resources)
     }
 
     pub(crate) fn holds(&self, resource: &Resource) -> bool
         ensures { result ≡ has_row resource_key (resource_key resource.now) self.now.resources }
     {
-        held::search(&self.resources, resource).is_ok()
+        self.resources.has(resource)
     }
 
     pub(crate) fn hold(&mut self, resource: Resource) -> Result<(), Fault>
@@ -88,7 +91,10 @@ impl Lease {
             ≡ record self.old { resources = held resource self.old.resources }) }
         ensures err { OnErr result (self.new ≡ self.old) }
     {
-        held::add(&mut self.resources, resource)
+        if !self.resources.has(&resource) {
+            self.resources.add(resource)?;
+        }
+        Ok(())
     }
 
     pub(crate) fn release(&mut self, resource: &Resource) -> bool
@@ -99,7 +105,7 @@ impl Lease {
               (resource_key resource.now) self.old.resources;
         } }
     {
-        held::remove(&mut self.resources, resource)
+        self.resources.take(resource).is_some()
     }
 
     pub(crate) fn relabel(&mut self, alloc: Global, key: &str, value: &str) -> Result<(), Fault>
@@ -119,7 +125,7 @@ impl Lease {
         let ns = self.ns.copy()?;
         let id = self.id.copy()?;
         let labels = self.labels.copy(alloc)?;
-        let resources = copies(alloc, &self.resources)?;
+        let resources = self.resources.copy(alloc)?;
         Ok(Lease {
             ns,
             id,
@@ -129,22 +135,26 @@ impl Lease {
     }
 }
 
-fn copies(alloc: Global, resources: &[Resource]) -> Result<Vec<Resource>, Fault>
-    ensures fault { Refuses result None }
-    ensures ok { IfOk result (λ copies. copies.items ≡ resources.now) }
-{
-    let mut copies = Vec::new(alloc);
-    for resource in resources {
-        push_copy(&mut copies, resource)?;
+impl Row<Name> for Lease {
+    ghost name_of = { λ row. row.id };
+
+    fn name(&self) -> &Name {
+        &self.id
     }
-    Ok(copies)
+
+    fn copy_row(&self, alloc: Global) -> Result<Lease, Fault> {
+        self.copy(alloc)
+    }
 }
 
-fn push_copy(copies: &mut Vec<Resource>, resource: &Resource) -> Result<(), Fault>
-    ensures fault { Refuses result None }
-    ensures ok { OnOk result (copies.new.items ≡ copies.old.items ++ resource.now ∷ []) }
-{
-    let copy = resource.copy()?;
-    copies.push(copy)?;
-    Ok(())
+impl NamespaceRow<Name> for Lease {
+    ghost ns_of = { λ row. row.ns };
+
+    fn ns(&self) -> &ShortName {
+        &self.ns
+    }
+
+    fn share_ns(&mut self, ns: ShortName) {
+        self.ns = ns;
+    }
 }

@@ -1,5 +1,5 @@
 //! All leases.
-ghost use Rattle.std.specs.Prelude.{◌≡◌, length, ◌∷◌, [], None, not, option_map, option_copied, OnOk, OnErr, IfOk, IsTrue};
+ghost use Rattle.std.specs.Prelude.{◌≡◌, length, ◌++◌, ◌∷◌, [], map, None, option_map, option_copied, OnOk, OnErr, IfOk, IsTrue};
 ghost use Rattle.meta_types.specs.Keys.{are_in_order, row_at, has_row, add_row, remove_row, change_row};
 ghost use Rattle.meta_types.specs.Labels.{put_label};
 ghost use Rattle.meta_types.specs.Rows.{lease_key};
@@ -7,28 +7,27 @@ ghost use Rattle.meta_types.specs.Changes.{holds_in, hold_in, drop_in, has_lease
 ghost use Rattle.meta_types.specs.Faults.{Refuses, OnlyRefuses};
 ghost use Rattle.lease_book.specs.Calls.{creating_fault, missing_fault, labelling_fault, ids_in, kept};
 
+use crate::edits::{Hold, OneLabel, Release};
 use crate::lease::Lease;
-use crate::rows;
+use arrival_table::ByNamespace;
 use meta_types::{Fault, Labels, Name, Resource, ShortName};
 use std::alloc::Global;
 use std::marker::Model;
 
 /// The leases of all namespaces, in the order of namespaces and ids (containerd leases service).
+/// Each is found by a hash of its id.
 #[derive(Drop)]
 pub struct Leases {
-    rows: Vec<Lease>,
+    rows: ByNamespace<Name, Lease>,
 }
 
 impl Model for Leases {
-    ghost use Rattle.std.specs.Prelude.{IsTrue, List};
-    ghost use Rattle.meta_types.specs.Keys.{are_in_order};
-    ghost use Rattle.meta_types.specs.Rows.{LeaseRow, lease_key};
+    ghost use Rattle.std.specs.Prelude.{List};
+    ghost use Rattle.meta_types.specs.Rows.{LeaseRow};
 
     ghost Value = { List LeaseRow };
 
-    ghost view = { λ l. l.rows.items };
-
-    ghost invariant = { λ l. IsTrue (are_in_order lease_key l.rows.items) };
+    ghost view = { λ l. l.rows };
 }
 
 impl Leases {
@@ -37,43 +36,58 @@ impl Leases {
         ensures { result ≡ [] }
     {
         Leases {
-            rows: Vec::new(alloc),
+            rows: ByNamespace::new(alloc),
         }
     }
 
+    /// How many leases there are.
+    pub fn len(&self) -> u128
+        ensures { result ≡ length self.now }
+    {
+        self.rows.len()
+    }
+
     /// All leases, in the order of namespaces and ids.
-    pub fn leases(&self) -> &[Lease]
-        ensures leases { result.now ≡ self.now }
+    pub fn leases(&self, alloc: Global) -> Result<Vec<&Lease>, Fault>
+        ensures fault { Refuses result None }
+        ensures ok { IfOk result (λ list. map (λ row. row.now) list.items ≡ self.now) }
         ensures order { IsTrue (are_in_order lease_key self.now) }
     {
-        &self.rows
+        self.rows.rows(alloc)
     }
 
     /// Whether the lease is there, expired or not.
     pub fn has(&self, ns: &ShortName, id: &Name) -> bool
         ensures { result ≡ has_row lease_key (ns.now ∷ id.now ∷ []) self.now }
     {
-        rows::search(&self.rows, ns, id).is_ok()
+        self.rows.has(ns, id)
     }
 
     /// Whether the lease holds the resource, which needn't be there.
     pub fn holds(&self, ns: &ShortName, id: &Name, resource: &Resource) -> bool
         ensures { result ≡ holds_in (ns.now ∷ id.now ∷ []) resource.now self.now }
     {
-        match rows::lease_at(&self.rows, ns, id) {
+        match self.rows.get(ns, id) {
             Some(lease) => lease.holds(resource),
             None => false,
         }
     }
 
     /// What a lease holds, in the order of types and ids.
-    pub fn resources(&self, ns: &ShortName, id: &Name) -> Option<&[Resource]>
-        ensures { option_map (λ r. r.now) result
-            ≡ option_map (λ row. row.resources) (row_at lease_key (ns.now ∷ id.now ∷ []) self.now) }
+    pub fn resources(
+        &self,
+        alloc: Global,
+        ns: &ShortName,
+        id: &Name,
+    ) -> Result<Option<Vec<&Resource>>, Fault>
+        ensures fault { Refuses result None }
+        ensures ok { IfOk result (λ found.
+            option_map (λ list. map (λ resource. resource.now) list.items) found
+            ≡ option_map (λ row. row.resources) (row_at lease_key (ns.now ∷ id.now ∷ []) self.now)) }
     {
-        match rows::lease_at(&self.rows, ns, id) {
-            Some(lease) => Some(lease.resources()),
-            None => None,
+        match self.rows.get(ns, id) {
+            Some(lease) => Ok(Some(lease.resources(alloc)?)),
+            None => Ok(None),
         }
     }
 
@@ -82,7 +96,7 @@ impl Leases {
         ensures { option_copied result
             ≡ option_map (λ row. row.labels) (row_at lease_key (ns.now ∷ id.now ∷ []) self.now) }
     {
-        match rows::lease_at(&self.rows, ns, id) {
+        match self.rows.get(ns, id) {
             Some(lease) => Some(lease.labels()),
             None => None,
         }
@@ -102,7 +116,12 @@ impl Leases {
             (record { ns = ns.now; id = id.now; labels = labels; resources = [] }) self.old) }
         ensures err { OnErr result (self.new ≡ self.old) }
     {
-        rows::create(&mut self.rows, alloc, ns, id, labels)
+        if self.has(ns, id) {
+            return Err(Fault::AlreadyExists);
+        }
+        let ns = ns.copy()?;
+        let id = id.copy()?;
+        self.rows.add(alloc, Lease::new(alloc, ns, id, labels))
     }
 
     /// Takes a lease away, with what it holds. It takes no memory.
@@ -112,7 +131,11 @@ impl Leases {
         ensures left { self.new ≡ remove_row lease_key (ns.now ∷ id.now ∷ []) self.old }
         ensures err { OnErr result (self.new ≡ self.old) }
     {
-        rows::remove(&mut self.rows, ns, id)
+        if self.rows.remove(ns, id) {
+            Ok(())
+        } else {
+            Err(Fault::NotFound)
+        }
     }
 
     /// Puts one label on a lease.
@@ -130,7 +153,12 @@ impl Leases {
             (λ row. record row { labels = put_label key.now value.now row.labels }) self.old) }
         ensures err { OnErr result (self.new ≡ self.old) }
     {
-        rows::relabel(&mut self.rows, alloc, ns, id, key, value)
+        match self.rows.change(ns, id, OneLabel { alloc, key, value }) {
+            Some(Ok(())) => Ok(()),
+            Some(Err(fault)) => Err(fault),
+            None if Labels::new(alloc).takes(key, value) => Err(Fault::NotFound),
+            None => Err(Fault::InvalidArgument),
+        }
     }
 
     /// Gives a lease a resource, which needn't be there; one that it holds already changes nothing.
@@ -146,7 +174,11 @@ impl Leases {
         ensures ok { OnOk result (self.new ≡ hold_in (ns.now ∷ id.now ∷ []) resource self.old) }
         ensures err { OnErr result (self.new ≡ self.old) }
     {
-        rows::hold(&mut self.rows, ns, id, resource)
+        match self.rows.change(ns, id, Hold { resource }) {
+            Some(Ok(())) => Ok(()),
+            Some(Err(_)) => Err(Fault::OutOfMemory),
+            None => Err(Fault::NotFound),
+        }
     }
 
     /// Takes a resource from a lease. It takes no memory.
@@ -161,10 +193,10 @@ impl Leases {
         ensures left { self.new ≡ drop_in (ns.now ∷ id.now ∷ []) resource.now self.old }
         ensures err { OnErr result (self.new ≡ self.old) }
     {
-        if rows::release(&mut self.rows, ns, id, resource) {
-            Ok(())
-        } else {
-            Err(Fault::NotFound)
+        match self.rows.change(ns, id, Release { resource }) {
+            Some(true) => Ok(()),
+            Some(false) => Err(Fault::NotFound),
+            None => Err(Fault::NotFound),
         }
     }
 
@@ -172,7 +204,7 @@ impl Leases {
     pub fn any_in(&self, ns: &ShortName) -> bool
         ensures { result ≡ has_lease_in self.now ns.now }
     {
-        !rows::of_namespace(&self.rows, ns).is_empty()
+        self.rows.any_in(ns)
     }
 
     /// The ids of a namespace's leases, in the order of their bytes.
@@ -180,7 +212,8 @@ impl Leases {
         ensures fault { Refuses result None }
         ensures ok { IfOk result (λ ids. ids.items ≡ ids_in ns.now self.now) }
     {
-        rows::ids_in(&self.rows, alloc, ns)
+        let rows = self.rows.rows_in(alloc, ns)?;
+        ids_of(alloc, &rows)
     }
 
     /// The same leases once more.
@@ -188,7 +221,7 @@ impl Leases {
         ensures fault { Refuses result None }
         ensures ok { IfOk result (λ leases. leases ≡ self.now) }
     {
-        let rows = rows::copies(&self.rows, alloc)?;
+        let rows = self.rows.copy(alloc)?;
         Ok(Leases { rows })
     }
 
@@ -197,6 +230,26 @@ impl Leases {
         requires { length marks.now ≡ length self.old }
         ensures { self.new ≡ kept marks.now self.old }
     {
-        rows::retain(&mut self.rows, marks)
+        self.rows.retain(marks);
     }
+}
+
+fn ids_of(alloc: Global, rows: &[&Lease]) -> Result<Vec<Name>, Fault>
+    ensures fault { Refuses result None }
+    ensures ok { IfOk result (λ ids. ids.items ≡ map (λ row. row.id) (map (λ row. row.now) rows.now)) }
+{
+    let mut ids = Vec::new(alloc);
+    for row in rows {
+        push_id(&mut ids, row.id())?;
+    }
+    Ok(ids)
+}
+
+fn push_id(ids: &mut Vec<Name>, id: &Name) -> Result<(), Fault>
+    ensures fault { Refuses result None }
+    ensures ok { OnOk result (ids.new.items ≡ ids.old.items ++ id.now ∷ []) }
+{
+    let id = id.copy()?;
+    ids.push(id)?;
+    Ok(())
 }

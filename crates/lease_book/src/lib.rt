@@ -1,10 +1,9 @@
 //! Leases, and what they hold.
 #![tactic(auto)]
 
-mod held;
+mod edits;
 mod lease;
 mod leases;
-mod rows;
 
 pub use lease::Lease;
 pub use leases::Leases;

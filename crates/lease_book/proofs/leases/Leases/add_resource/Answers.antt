@@ -1,10 +1,34 @@
-use Rattle.std.proofs.Common.{[], ◌∷◌}
-use Rattle.meta_types.specs.Resources.{held}
-use Rattle.meta_types.specs.Rows.{LeaseRow, lease_key}
-use Rattle.lease_book.proofs.Changed.{after_change}
-use Rattle.std.proofs.Common.{refl}
+use Rattle.std.proofs.Common.{[], ◌∷◌, ap, ◌∙◌}
+use Rattle.meta_types.specs.Keys.{change_row}
+use Rattle.meta_types.specs.Rows.{lease_key}
+use Rattle.arrival_table.proofs.ChangedThere.{became, stayed}
+use Rattle.lease_book.specs.Edits.{with_held}
+use Rattle.lease_book.proofs.leases.Leases.add_resource.Goals.{in-Some-Ok, in-Some-Err, in-None}
 use Rattle.lease_book.proofs.leases.Leases.add_resource.Goals as goal
 
--- what a lease holds is no part of its key
-pub invariant_of-self : goal.invariant_of-self
-invariant_of-self c = after_change lease_key (c.args.ns.now ∷ c.args.id.now ∷ []) (λ (row : LeaseRow). record row { resources = held c.args.resource row.resources }) (λ row. refl) c.self.inside.rows.items c.hold.new.rows.items c.hold.result c.self.invariant c.hold.ensures.ok c.hold.ensures.err
+-- the lease that was found holds the resource
+pub returns-clause-ok : goal.returns-clause-ok
+returns-clause-ok c =
+    let key = c.args.ns.now ∷ c.args.id.now ∷ [] in
+    let hold = with_held c.args.resource in
+    elim c.match-change.branch [
+      | in-Some-Ok w ↦ (
+          let done = w.in-Some-Ok.ensures.changed in
+          rw w.result-is (became lease_key key hold done.0 done.1 c.self.inside.rows c.change.new.self done.3 (rw w.in-Some-Ok.field-0-is at done.2.ok) ∙ ap (change_row lease_key key hold) c.self.view_is)
+          )
+      | in-Some-Err w ↦ rw w.result-is tt
+      | in-None w ↦ rw w.result-is tt
+    ]
+
+-- or there was no memory, or no lease, and all is as it was
+pub returns-clause-err : goal.returns-clause-err
+returns-clause-err c =
+    let key = c.args.ns.now ∷ c.args.id.now ∷ [] in
+    elim c.match-change.branch [
+      | in-Some-Ok w ↦ rw w.result-is tt
+      | in-Some-Err w ↦ (
+          let done = w.in-Some-Err.ensures.changed in
+          rw w.result-is (stayed lease_key key done.0 done.1 c.self.inside.rows c.change.new.self done.3 (rw w.in-Some-Err.field-0-is at done.2.err) ∙ c.self.view_is)
+          )
+      | in-None w ↦ rw w.result-is (w.in-None.ensures.same ∙ c.self.view_is)
+    ]

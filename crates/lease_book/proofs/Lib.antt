@@ -1,4 +1,0 @@
-pub mod Changed
-pub mod Created
-pub mod Retained
-pub mod Together

@@ -1,0 +1,62 @@
+//! What may be done to a lease in its place.
+ghost use Rattle.std.specs.Prelude.{None, refl};
+ghost use Rattle.std.proofs.Common.{ap};
+ghost use Rattle.lease_book.specs.Edits.{Edits, edits_keep, Releases, with_label, refuses_label, with_held};
+
+use crate::lease::Lease;
+use arrival_table::Change;
+use meta_types::{Fault, Name, Resource};
+use std::alloc::Global;
+
+/// One label more, or another value of one.
+#[derive(Drop)]
+pub(crate) struct OneLabel<'a> {
+    pub(crate) alloc: Global,
+    pub(crate) key: &'a str,
+    pub(crate) value: &'a str,
+}
+
+impl<'a> Change<Name, Lease, Result<(), Fault>> for OneLabel<'a> {
+    ghost changes = { λ c. Edits (refuses_label c.key.now c.value.now)
+        (with_label c.key.now c.value.now) };
+
+    ghost keeps_name = { λ c. edits_keep (refuses_label c.key.now c.value.now)
+        (with_label c.key.now c.value.now) (λ row. row.id) (λ row. refl) };
+
+    fn change(self, row: &mut Lease) -> Result<(), Fault> {
+        row.relabel(self.alloc, self.key, self.value)
+    }
+}
+
+/// One resource more.
+#[derive(Drop)]
+pub(crate) struct Hold {
+    pub(crate) resource: Resource,
+}
+
+impl Change<Name, Lease, Result<(), Fault>> for Hold {
+    ghost changes = { λ c. Edits (λ row. None) (with_held c.resource) };
+
+    ghost keeps_name = { λ c. edits_keep (λ row. None) (with_held c.resource) (λ row. row.id)
+        (λ row. refl) };
+
+    fn change(self, row: &mut Lease) -> Result<(), Fault> {
+        row.hold(self.resource)
+    }
+}
+
+/// One resource less; says whether the lease held it.
+#[derive(Drop)]
+pub(crate) struct Release<'a> {
+    pub(crate) resource: &'a Resource,
+}
+
+impl<'a> Change<Name, Lease, bool> for Release<'a> {
+    ghost changes = { λ c. Releases c.resource.now };
+
+    ghost keeps_name = { λ c old answer new is. ap (λ row. row.id) is.left };
+
+    fn change(self, row: &mut Lease) -> bool {
+        row.release(self.resource)
+    }
+}
