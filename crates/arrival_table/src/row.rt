@@ -36,17 +36,18 @@ pub trait Change<K: Named, R: Row<K>, A>: Drop {
         → R.name_of new ≡ R.name_of old };
 }
 
-/// A row of a namespace, found there by a name of its own.
-pub trait NamespaceRow<K: Named>: Row<K> {
-    /// Its namespace.
-    ghost ns_of: { Self → Text };
+/// A row of a group, found there by a name of its own. Its group is its namespace, or what it
+/// belongs to within its namespace.
+pub trait GroupedRow<K: Named>: Row<K> {
+    /// Its group.
+    ghost group_of: { Self → Text };
 
-    /// Its namespace.
-    fn ns(&self) -> &ShortName
-        ensures { result.now ≡ ns_of self.now };
+    /// Its group.
+    fn group(&self) -> &ShortName
+        ensures { result.now ≡ group_of self.now };
 
-    /// The same row, whose namespace shares this text.
-    fn share_ns(&mut self, ns: ShortName)
-        requires { ns ≡ ns_of self.old }
+    /// The same row, whose group shares this text.
+    fn share_group(&mut self, group: ShortName)
+        requires { group ≡ group_of self.old }
         ensures { self.new ≡ self.old };
 }

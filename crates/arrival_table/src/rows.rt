@@ -1,5 +1,5 @@
 //! The rows of a store, by their names.
-use crate::row::{NamespaceRow, Row};
+use crate::row::{GroupedRow, Row};
 use meta_types::{ContainerRow, ContentRow, Digest, Fault, ImageRow, IngestRow, Name, ShortName};
 use std::alloc::Global;
 
@@ -15,15 +15,15 @@ impl Row<Name> for ImageRow {
     }
 }
 
-impl NamespaceRow<Name> for ImageRow {
-    ghost ns_of = { λ row. row.ns };
+impl GroupedRow<Name> for ImageRow {
+    ghost group_of = { λ row. row.ns };
 
-    fn ns(&self) -> &ShortName {
+    fn group(&self) -> &ShortName {
         &self.ns
     }
 
-    fn share_ns(&mut self, ns: ShortName) {
-        self.ns = ns;
+    fn share_group(&mut self, group: ShortName) {
+        self.ns = group;
     }
 }
 
@@ -39,15 +39,15 @@ impl Row<Name> for ContainerRow {
     }
 }
 
-impl NamespaceRow<Name> for ContainerRow {
-    ghost ns_of = { λ row. row.ns };
+impl GroupedRow<Name> for ContainerRow {
+    ghost group_of = { λ row. row.ns };
 
-    fn ns(&self) -> &ShortName {
+    fn group(&self) -> &ShortName {
         &self.ns
     }
 
-    fn share_ns(&mut self, ns: ShortName) {
-        self.ns = ns;
+    fn share_group(&mut self, group: ShortName) {
+        self.ns = group;
     }
 }
 
@@ -63,15 +63,15 @@ impl Row<Digest> for ContentRow {
     }
 }
 
-impl NamespaceRow<Digest> for ContentRow {
-    ghost ns_of = { λ row. row.ns };
+impl GroupedRow<Digest> for ContentRow {
+    ghost group_of = { λ row. row.ns };
 
-    fn ns(&self) -> &ShortName {
+    fn group(&self) -> &ShortName {
         &self.ns
     }
 
-    fn share_ns(&mut self, ns: ShortName) {
-        self.ns = ns;
+    fn share_group(&mut self, group: ShortName) {
+        self.ns = group;
     }
 }
 
@@ -87,14 +87,14 @@ impl Row<Name> for IngestRow {
     }
 }
 
-impl NamespaceRow<Name> for IngestRow {
-    ghost ns_of = { λ row. row.ns };
+impl GroupedRow<Name> for IngestRow {
+    ghost group_of = { λ row. row.ns };
 
-    fn ns(&self) -> &ShortName {
+    fn group(&self) -> &ShortName {
         &self.ns
     }
 
-    fn share_ns(&mut self, ns: ShortName) {
-        self.ns = ns;
+    fn share_group(&mut self, group: ShortName) {
+        self.ns = group;
     }
 }

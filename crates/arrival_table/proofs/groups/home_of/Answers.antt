@@ -24,12 +24,12 @@ opened g c = c.in_ok-insert-in-Err.ensures.items ∙ ap (insert c.args.groups.no
 -- the namespace stands in its place, and has no row
 pub returns-in_ok-insert-in-Err-clause-home : goal.returns-in_ok-insert-in-Err-clause-home
 returns-in_ok-insert-in-Err-clause-home g c =
-    opened_home g.K.Named.texts_of g.R.Row.name_of g.R.NamespaceRow.ns_of c.args.ns.now c.in-Err.place c.args.groups.now.items c.insert.new.self.items c.requires (none g c) (place g c) (opened g c)
+    opened_home g.K.Named.texts_of g.R.Row.name_of g.R.GroupedRow.group_of c.args.ns.now c.in-Err.place c.args.groups.now.items c.insert.new.self.items c.requires (none g c) (place g c) (opened g c)
 
 pub returns-in_ok-insert-in-Err-clause-same : goal.returns-in_ok-insert-in-Err-clause-same
 returns-in_ok-insert-in-Err-clause-same g c =
-    same_rows g.K.Named.texts_of g.R.Row.name_of g.R.NamespaceRow.ns_of c.args.ns.now c.in-Err.place c.args.groups.now.items c.insert.new.self.items c.requires (none g c) (place g c) (opened g c)
+    same_rows g.K.Named.texts_of g.R.Row.name_of g.R.GroupedRow.group_of c.args.ns.now c.in-Err.place c.args.groups.now.items c.insert.new.self.items c.requires (none g c) (place g c) (opened g c)
 
 pub returns-in_ok-insert-in-Err-clause-groups : goal.returns-in_ok-insert-in-Err-clause-groups
 returns-in_ok-insert-in-Err-clause-groups g c =
-    opened_groups g.K.Named.texts_of g.R.Row.name_of g.R.NamespaceRow.ns_of c.args.ns.now c.in-Err.place c.args.groups.now.items c.insert.new.self.items c.requires (none g c) (place g c) (opened g c)
+    opened_groups g.K.Named.texts_of g.R.Row.name_of g.R.GroupedRow.group_of c.args.ns.now c.in-Err.place c.args.groups.now.items c.insert.new.self.items c.requires (none g c) (place g c) (opened g c)
