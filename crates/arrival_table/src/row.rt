@@ -51,3 +51,19 @@ pub trait GroupedRow<K: Named>: Row<K> {
         requires { group ≡ group_of self.old }
         ensures { self.new ≡ self.old };
 }
+
+/// A row of a snapshotter in a namespace, found there by a name of its own. Its group is its
+/// snapshotter.
+pub trait SnapshotterRow<K: Named>: GroupedRow<K> {
+    /// Its namespace.
+    ghost ns_of: { Self → Text };
+
+    /// Its namespace.
+    fn ns(&self) -> &ShortName
+        ensures { result.now ≡ ns_of self.now };
+
+    /// The same row, whose namespace shares this text.
+    fn share_ns(&mut self, ns: ShortName)
+        requires { ns ≡ ns_of self.old }
+        ensures { self.new ≡ self.old };
+}

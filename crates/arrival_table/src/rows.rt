@@ -1,6 +1,8 @@
 //! The rows of a store, by their names.
-use crate::row::{GroupedRow, Row};
-use meta_types::{ContainerRow, ContentRow, Digest, Fault, ImageRow, IngestRow, Name, ShortName};
+use crate::row::{GroupedRow, Row, SnapshotterRow};
+use meta_types::{
+    ContainerRow, ContentRow, Digest, Fault, ImageRow, IngestRow, Name, ShortName, SnapRow,
+};
 use std::alloc::Global;
 
 impl Row<Name> for ImageRow {
@@ -96,5 +98,41 @@ impl GroupedRow<Name> for IngestRow {
 
     fn share_group(&mut self, group: ShortName) {
         self.ns = group;
+    }
+}
+
+impl Row<Name> for SnapRow {
+    ghost name_of = { λ row. row.key.name };
+
+    fn name(&self) -> &Name {
+        &self.key.name
+    }
+
+    fn copy_row(&self, alloc: Global) -> Result<SnapRow, Fault> {
+        self.copy(alloc)
+    }
+}
+
+impl GroupedRow<Name> for SnapRow {
+    ghost group_of = { λ row. row.key.snapshotter };
+
+    fn group(&self) -> &ShortName {
+        &self.key.snapshotter
+    }
+
+    fn share_group(&mut self, group: ShortName) {
+        self.key.snapshotter = group;
+    }
+}
+
+impl SnapshotterRow<Name> for SnapRow {
+    ghost ns_of = { λ row. row.key.ns };
+
+    fn ns(&self) -> &ShortName {
+        &self.key.ns
+    }
+
+    fn share_ns(&mut self, ns: ShortName) {
+        self.key.ns = ns;
     }
 }
