@@ -1,7 +1,7 @@
 //! Rows of all namespaces, by snapshotter.
 ghost use Rattle.std.specs.Prelude.{◌≡◌, ◌∷◌, [], map, false, None, IfOk, IfSome, IfNone, OnOk, OnErr, IsTrue, length, filter, count_by, bytes_eq, ◌&&◌, option_copied};
 ghost use Rattle.std.specs.Bool.{OnFalse};
-ghost use Rattle.std.specs.List.{list_any};
+ghost use Rattle.std.specs.List.{list_any, list_all};
 ghost use Rattle.meta_types.specs.Keys.{are_in_order, row_at, has_row, add_row, remove_row};
 ghost use Rattle.meta_types.specs.Faults.{Refuses};
 ghost use Rattle.arrival_table.specs.Arrived.{kept, Becomes};
@@ -10,7 +10,7 @@ ghost use Rattle.arrival_table.specs.Namespaces.{layered_key};
 use crate::layer::Layer;
 use crate::layers;
 use crate::named::Named;
-use crate::row::{Change, SnapshotterRow};
+use crate::row::{Change, SnapshotterRow, Test};
 use meta_types::{Fault, ShortName};
 use std::alloc::Global;
 use std::marker::Model;
@@ -138,6 +138,13 @@ impl<K: Named, R: SnapshotterRow<K>> BySnapshotter<K, R> {
             (ns.now ∷ snapshotter.now ∷ K.texts_of name.now) row after self.old self.new) }
     {
         layers::change_row(&mut self.layers, ns, snapshotter, name, change)
+    }
+
+    /// Whether all rows pass the test. It takes no memory.
+    pub fn all<T: Test<R>>(&self, test: &T) -> bool
+        ensures { result ≡ list_all (T.passes test.now) self.now }
+    {
+        layers::all_pass(&self.layers, test)
     }
 
     /// Whether some row is in the namespace.

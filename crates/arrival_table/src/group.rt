@@ -1,12 +1,13 @@
 //! The rows of one namespace.
 ghost use Rattle.std.specs.Prelude.{◌≡◌, [], map, false, None, IfOk, IfSome, IfNone, OnOk, OnErr, length, option_copied};
+ghost use Rattle.std.specs.List.{list_all};
 ghost use Rattle.meta_types.specs.Keys.{row_at, has_row, add_row, remove_row};
 ghost use Rattle.meta_types.specs.Faults.{Refuses};
 ghost use Rattle.arrival_table.specs.Arrived.{by_name, kept, Becomes};
 
 use crate::in_order::InOrder;
 use crate::named::Named;
-use crate::row::{Change, GroupedRow};
+use crate::row::{Change, GroupedRow, Test};
 use meta_types::{Fault, ShortName};
 use std::alloc::Global;
 use std::marker::Model;
@@ -83,6 +84,12 @@ impl<K: Named, R: GroupedRow<K>> Group<K, R> {
         }
         self.rows.add(row)?;
         Ok(())
+    }
+
+    pub(crate) fn all<T: Test<R>>(&self, test: &T) -> bool
+        ensures { result ≡ list_all (T.passes test.now) self.now.1 }
+    {
+        self.rows.all(test)
     }
 
     pub(crate) fn take(&mut self, name: &K) -> Option<R>

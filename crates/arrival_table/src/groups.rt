@@ -1,6 +1,6 @@
 //! Rows by namespace: the namespaces stand in the order of their bytes, and are found by halving.
 ghost use Rattle.std.specs.Prelude.{◌≡◌, ◌∷◌, [], map, false, None, IfOk, IfErr, IfSome, IfNone, OnOk, OnErr, IsTrue, length, filter, bytes_eq, option_copied};
-ghost use Rattle.std.specs.List.{position_or_len, list_any};
+ghost use Rattle.std.specs.List.{position_or_len, list_any, list_all};
 ghost use Rattle.std.specs.Cmp.Lexicographic.{slice_cmp};
 ghost use Rattle.meta_types.specs.Text.{text_cmp};
 ghost use Rattle.meta_types.specs.Keys.{are_in_order, is_before, row_at, has_row, add_row, remove_row};
@@ -10,7 +10,7 @@ ghost use Rattle.arrival_table.specs.Namespaces.{full_key, group_key, all_rows, 
 
 use crate::group::Group;
 use crate::named::Named;
-use crate::row::{Change, GroupedRow};
+use crate::row::{Change, GroupedRow, Test};
 use meta_types::{Fault, ShortName};
 use std::alloc::Global;
 use std::cmp::Ordering;
@@ -188,6 +188,16 @@ pub(crate) fn any_in<K: Named, R: GroupedRow<K>>(groups: &[Group<K, R>], ns: &Sh
         Ok(place) => groups[place].len() != 0,
         Err(_) => false,
     }
+}
+
+/// Whether the rows of all namespaces pass the test.
+pub(crate) fn all_pass<K: Named, R: GroupedRow<K>, T: Test<R>>(
+    groups: &[Group<K, R>],
+    test: &T,
+) -> bool
+    ensures { result ≡ list_all (λ group. list_all (T.passes test.now) group.1) groups.now }
+{
+    groups.iter().all(|group| group.all(test))
 }
 
 /// How many rows there are.

@@ -1,5 +1,6 @@
 //! Rows that contracts see in the order of their keys.
 ghost use Rattle.std.specs.Prelude.{◌≡◌, [], map, false, None, IfOk, IfErr, IfSome, IfNone, OnOk, OnErr, length, option_copied};
+ghost use Rattle.std.specs.List.{list_all};
 ghost use Rattle.meta_types.specs.Keys.{row_at, has_row, add_row, remove_row};
 ghost use Rattle.meta_types.specs.Faults.{Refuses};
 ghost use Rattle.arrival_table.specs.Arrived.{sorted, by_name, kept, Becomes};
@@ -7,7 +8,7 @@ ghost use Rattle.arrival_table.specs.Arrived.{sorted, by_name, kept, Becomes};
 use crate::listing::in_key_order;
 use crate::named::Named;
 use crate::places::{list_places, mark_places, sort_places};
-use crate::row::{Change, Row};
+use crate::row::{Change, Row, Test};
 use crate::table::Table;
 use meta_types::Fault;
 use std::alloc::{AllocFailed, Global};
@@ -67,6 +68,13 @@ impl<K: Named, R: Row<K>> InOrder<K, R> {
             ≡ row_at (by_name K.texts_of R.name_of) (K.texts_of name.now) self.now }
     {
         self.rows.get(name)
+    }
+
+    /// Whether all rows pass the test. It takes no memory.
+    pub fn all<T: Test<R>>(&self, test: &T) -> bool
+        ensures { result ≡ list_all (T.passes test.now) self.now }
+    {
+        self.rows.all(test)
     }
 
     /// The rows as they came.

@@ -1,5 +1,6 @@
 //! The rows of one namespace, by snapshotter.
 ghost use Rattle.std.specs.Prelude.{◌≡◌, ◌∷◌, [], map, false, None, IfOk, IfSome, IfNone, OnOk, OnErr, length, filter, bytes_eq, option_copied};
+ghost use Rattle.std.specs.List.{list_all};
 ghost use Rattle.meta_types.specs.Keys.{row_at, has_row, add_row, remove_row};
 ghost use Rattle.meta_types.specs.Faults.{Refuses};
 ghost use Rattle.arrival_table.specs.Arrived.{kept, Becomes};
@@ -7,7 +8,7 @@ ghost use Rattle.arrival_table.specs.Namespaces.{full_key};
 
 use crate::by_namespace::ByNamespace;
 use crate::named::Named;
-use crate::row::{Change, SnapshotterRow};
+use crate::row::{Change, SnapshotterRow, Test};
 use meta_types::{Fault, ShortName};
 use std::alloc::Global;
 use std::marker::Model;
@@ -91,6 +92,12 @@ impl<K: Named, R: SnapshotterRow<K>> Layer<K, R> {
             row.share_ns(ns);
         }
         self.rows.add(alloc, row)
+    }
+
+    pub(crate) fn all<T: Test<R>>(&self, test: &T) -> bool
+        ensures { result ≡ list_all (T.passes test.now) self.now.1 }
+    {
+        self.rows.all(test)
     }
 
     pub(crate) fn take(&mut self, snapshotter: &ShortName, name: &K) -> Option<R>

@@ -1,7 +1,7 @@
 //! Rows by namespace and snapshotter: the namespaces stand in the order of their bytes, and are
 //! found by halving.
 ghost use Rattle.std.specs.Prelude.{◌≡◌, ◌≤◌, ◌∷◌, [], map, false, None, IfOk, IfErr, IfSome, IfNone, OnOk, OnErr, IsTrue, length, filter, bytes_eq, ◌&&◌, option_copied};
-ghost use Rattle.std.specs.List.{position_or_len, list_any};
+ghost use Rattle.std.specs.List.{position_or_len, list_any, list_all};
 ghost use Rattle.std.specs.Cmp.Lexicographic.{slice_cmp};
 ghost use Rattle.meta_types.specs.Text.{text_cmp};
 ghost use Rattle.meta_types.specs.Keys.{are_in_order, is_before, row_at, has_row, add_row, remove_row};
@@ -11,7 +11,7 @@ ghost use Rattle.arrival_table.specs.Namespaces.{layered_key, group_key, all_row
 
 use crate::layer::Layer;
 use crate::named::Named;
-use crate::row::{Change, SnapshotterRow};
+use crate::row::{Change, SnapshotterRow, Test};
 use meta_types::{Fault, ShortName};
 use std::alloc::Global;
 use std::cmp::Ordering;
@@ -214,6 +214,16 @@ pub(crate) fn any_in<K: Named, R: SnapshotterRow<K>>(layers: &[Layer<K, R>], ns:
         Ok(place) => layers[place].len() != 0,
         Err(_) => false,
     }
+}
+
+/// Whether the rows of all namespaces pass the test.
+pub(crate) fn all_pass<K: Named, R: SnapshotterRow<K>, T: Test<R>>(
+    layers: &[Layer<K, R>],
+    test: &T,
+) -> bool
+    ensures { result ≡ list_all (λ layer. list_all (T.passes test.now) layer.1) layers.now }
+{
+    layers.iter().all(|layer| layer.all(test))
 }
 
 /// All rows, in the order of their keys.

@@ -20,5 +20,5 @@ pub use by_snapshotter::BySnapshotter;
 pub use in_order::InOrder;
 pub use listing::in_key_order;
 pub use named::Named;
-pub use row::{Change, GroupedRow, Row, SnapshotterRow};
+pub use row::{Change, GroupedRow, Row, SnapshotterRow, Test};
 pub use table::Table;

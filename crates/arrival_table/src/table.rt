@@ -1,14 +1,14 @@
 //! Rows as they came.
 ghost use Rattle.std.specs.Prelude.{◌≡◌, ◌<◌, ◌≤◌, ◌^◌, ◌++◌, ◌∷◌, [], Bool, map, filter, false, None, Some, IfOk, IfErr, IfSome, IfNone, OnOk, OnErr, IsTrue, length, option_copied};
 ghost use Rattle.std.specs.Bool.{OnFalse};
-ghost use Rattle.std.specs.List.{IsDistinct};
+ghost use Rattle.std.specs.List.{IsDistinct, list_all};
 ghost use Rattle.meta_types.specs.Keys.{are_in_order, row_at, has_row, add_row, remove_row, change_row};
 ghost use Rattle.meta_types.specs.Faults.{Refuses};
 ghost use Rattle.indexmap.specs.IndexMap.{IsUnique};
 ghost use Rattle.arrival_table.specs.Arrived.{sorted, by_name, same_key, kept, Becomes};
 
 use crate::named::Named;
-use crate::row::{Change, Row};
+use crate::row::{Change, Row, Test};
 use indexmap::IndexMap;
 use meta_types::Fault;
 use std::alloc::{AllocFailed, Global};
@@ -75,6 +75,14 @@ impl<K: Named, R: Row<K>> Table<K, R> {
         ensures distinct { IsDistinct (same_key (by_name K.texts_of R.name_of)) self.now }
     {
         self.rows.values().as_slice()
+    }
+
+    /// Whether all rows pass the test. It takes no memory.
+    pub fn all<T: Test<R>>(&self, test: &T) -> bool
+        ensures { result ≡ list_all (T.passes test.now)
+            (sorted (by_name K.texts_of R.name_of) self.now) }
+    {
+        all_pass(self.rows(), test)
     }
 
     /// The row goes behind all others; where memory is refused, it comes back.
@@ -153,6 +161,12 @@ impl<K: Named, R: Row<K>> Table<K, R> {
     {
         retain_rows(&mut self.rows, marks);
     }
+}
+
+fn all_pass<R, T: Test<R>>(rows: &[R], test: &T) -> bool
+    ensures { result ≡ list_all (T.passes test.now) rows.now }
+{
+    rows.iter().all(|row| test.test(row))
 }
 
 fn copy_rows<K: Named, R: Row<K>>(rows: &[R], alloc: Global) -> Result<Table<K, R>, Fault>
