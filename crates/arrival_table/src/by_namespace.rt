@@ -1,16 +1,16 @@
 //! Rows of all namespaces.
 ghost use Rattle.std.specs.Prelude.{◌≡◌, ◌∷◌, [], map, false, None, IfOk, IfSome, IfNone, OnOk, OnErr, IsTrue, length, filter, bytes_eq, option_copied};
 ghost use Rattle.std.specs.Bool.{OnFalse};
-ghost use Rattle.std.specs.List.{list_any};
+ghost use Rattle.std.specs.List.{list_any, list_all};
 ghost use Rattle.meta_types.specs.Keys.{are_in_order, row_at, has_row, add_row, remove_row};
-ghost use Rattle.meta_types.specs.Faults.{Refuses};
+ghost use Rattle.meta_types.specs.Faults.{Refuses, least_of};
 ghost use Rattle.arrival_table.specs.Arrived.{kept, Becomes};
 ghost use Rattle.arrival_table.specs.Namespaces.{full_key};
 
 use crate::group::Group;
 use crate::groups;
 use crate::named::Named;
-use crate::row::{Change, GroupedRow};
+use crate::row::{Change, GroupedRow, Test};
 use meta_types::{Fault, ShortName};
 use std::alloc::Global;
 use std::marker::Model;
@@ -81,6 +81,19 @@ impl<K: Named, R: GroupedRow<K>> ByNamespace<K, R> {
         groups::add_row(&mut self.groups, alloc, row)
     }
 
+    /// A row more, where none has its key: one look finds whether one has. It takes the text of its
+    /// namespace that is there.
+    pub fn add_new(&mut self, alloc: Global, row: R) -> Result<(), Fault>
+        ensures fault { Refuses result (least_of false false
+            (has_row (full_key K.texts_of R.name_of R.group_of)
+            (full_key K.texts_of R.name_of R.group_of row) self.old) false) }
+        ensures ok { OnOk result (self.new
+            ≡ add_row (full_key K.texts_of R.name_of R.group_of) row self.old) }
+        ensures err { OnErr result (self.new ≡ self.old) }
+    {
+        groups::add_new_row(&mut self.groups, alloc, row)
+    }
+
     /// The row of a namespace and a name goes, to the caller. It takes no memory.
     pub fn take(&mut self, ns: &ShortName, name: &K) -> Option<R>
         ensures row { result ≡ row_at (full_key K.texts_of R.name_of R.group_of)
@@ -123,6 +136,13 @@ impl<K: Named, R: GroupedRow<K>> ByNamespace<K, R> {
             (ns.now ∷ K.texts_of name.now) row after self.old self.new) }
     {
         groups::change_row(&mut self.groups, ns, name, change)
+    }
+
+    /// Whether all rows pass the test. It takes no memory.
+    pub fn all<T: Test<R>>(&self, test: &T) -> bool
+        ensures { result ≡ list_all (T.passes test.now) self.now }
+    {
+        groups::all_pass(&self.groups, test)
     }
 
     /// Whether some row is in the namespace.

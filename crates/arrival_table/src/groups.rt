@@ -1,16 +1,16 @@
 //! Rows by namespace: the namespaces stand in the order of their bytes, and are found by halving.
 ghost use Rattle.std.specs.Prelude.{◌≡◌, ◌∷◌, [], map, false, None, IfOk, IfErr, IfSome, IfNone, OnOk, OnErr, IsTrue, length, filter, bytes_eq, option_copied};
-ghost use Rattle.std.specs.List.{position_or_len, list_any};
+ghost use Rattle.std.specs.List.{position_or_len, list_any, list_all};
 ghost use Rattle.std.specs.Cmp.Lexicographic.{slice_cmp};
 ghost use Rattle.meta_types.specs.Text.{text_cmp};
-ghost use Rattle.meta_types.specs.Keys.{are_in_order, is_before, row_at, has_row, add_row, remove_row};
-ghost use Rattle.meta_types.specs.Faults.{Refuses};
+ghost use Rattle.meta_types.specs.Keys.{Key, are_in_order, is_before, row_at, has_row, add_row, remove_row};
+ghost use Rattle.meta_types.specs.Faults.{Refuses, least_of};
 ghost use Rattle.arrival_table.specs.Arrived.{kept, Becomes};
 ghost use Rattle.arrival_table.specs.Namespaces.{full_key, group_key, all_rows, AreGroups, IsHome};
 
 use crate::group::Group;
 use crate::named::Named;
-use crate::row::{Change, GroupedRow};
+use crate::row::{Change, GroupedRow, Test};
 use meta_types::{Fault, ShortName};
 use std::alloc::Global;
 use std::cmp::Ordering;
@@ -84,6 +84,8 @@ fn home_of<K: Named, R: GroupedRow<K>>(
     requires { AreGroups (full_key K.texts_of R.name_of R.group_of) R.group_of groups.old.items }
     ensures fault { Refuses result None }
     ensures home { IfOk result (λ place. IsHome ns.now place groups.new.items) }
+    ensures absent { OnErr result ((name : Key) → has_row (full_key K.texts_of R.name_of R.group_of)
+        (ns.now ∷ name) (all_rows groups.old.items) ≡ false) }
     ensures same { all_rows groups.new.items ≡ all_rows groups.old.items }
     ensures groups { AreGroups (full_key K.texts_of R.name_of R.group_of) R.group_of groups.new.items }
 {
@@ -115,6 +117,25 @@ pub(crate) fn add_row<K: Named, R: GroupedRow<K>>(
 {
     let place = home_of(groups, alloc, row.group())?;
     groups[place].add(row)
+}
+
+/// A row more, where none has its key: one look in its namespace finds whether one has.
+pub(crate) fn add_new_row<K: Named, R: GroupedRow<K>>(
+    groups: &mut Vec<Group<K, R>>,
+    alloc: Global,
+    row: R,
+) -> Result<(), Fault>
+    requires { AreGroups (full_key K.texts_of R.name_of R.group_of) R.group_of groups.old.items }
+    ensures fault { Refuses result (least_of false false
+        (has_row (full_key K.texts_of R.name_of R.group_of)
+        (full_key K.texts_of R.name_of R.group_of row) (all_rows groups.old.items)) false) }
+    ensures ok { OnOk result (all_rows groups.new.items
+        ≡ add_row (full_key K.texts_of R.name_of R.group_of) row (all_rows groups.old.items)) }
+    ensures err { OnErr result (all_rows groups.new.items ≡ all_rows groups.old.items) }
+    ensures groups { AreGroups (full_key K.texts_of R.name_of R.group_of) R.group_of groups.new.items }
+{
+    let place = home_of(groups, alloc, row.group())?;
+    groups[place].add_new(row)
 }
 
 /// The row of a namespace and a name goes, to the caller.
@@ -188,6 +209,16 @@ pub(crate) fn any_in<K: Named, R: GroupedRow<K>>(groups: &[Group<K, R>], ns: &Sh
         Ok(place) => groups[place].len() != 0,
         Err(_) => false,
     }
+}
+
+/// Whether the rows of all namespaces pass the test.
+pub(crate) fn all_pass<K: Named, R: GroupedRow<K>, T: Test<R>>(
+    groups: &[Group<K, R>],
+    test: &T,
+) -> bool
+    ensures { result ≡ list_all (λ group. list_all (T.passes test.now) group.1) groups.now }
+{
+    groups.iter().all(|group| group.all(test))
 }
 
 /// How many rows there are.

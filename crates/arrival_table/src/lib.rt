@@ -16,5 +16,5 @@ pub use by_namespace::ByNamespace;
 pub use in_order::InOrder;
 pub use listing::in_key_order;
 pub use named::Named;
-pub use row::{Change, GroupedRow, Row};
+pub use row::{Change, GroupedRow, Row, Test};
 pub use table::Table;

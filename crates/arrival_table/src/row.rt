@@ -1,5 +1,5 @@
 //! Rows, and what may be done to one in its place.
-ghost use Rattle.std.specs.Prelude.{◌≡◌, None, IfOk};
+ghost use Rattle.std.specs.Prelude.{◌≡◌, Bool, None, IfOk};
 ghost use Rattle.meta_types.specs.Text.{Text};
 ghost use Rattle.meta_types.specs.Faults.{Refuses};
 
@@ -34,6 +34,16 @@ pub trait Change<K: Named, R: Row<K>, A>: Drop {
     /// The row is found by the name that it had.
     ghost keeps_name: { (c : Self) (old : R) (answer : A) (new : R) → changes c old answer new
         → R.name_of new ≡ R.name_of old };
+}
+
+/// A test of one row.
+pub trait Test<R> {
+    /// Whether the row passes.
+    ghost passes: { Self → R → Bool };
+
+    /// Whether the row passes.
+    fn test(&self, row: &R) -> bool
+        ensures { result ≡ passes self.now row.now };
 }
 
 /// A row of a group, found there by a name of its own. Its group is its namespace, or what it
