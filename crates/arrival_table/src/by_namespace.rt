@@ -3,7 +3,7 @@ ghost use Rattle.std.specs.Prelude.{◌≡◌, ◌∷◌, [], map, false, None, 
 ghost use Rattle.std.specs.Bool.{OnFalse};
 ghost use Rattle.std.specs.List.{list_any, list_all};
 ghost use Rattle.meta_types.specs.Keys.{are_in_order, row_at, has_row, add_row, remove_row};
-ghost use Rattle.meta_types.specs.Faults.{Refuses};
+ghost use Rattle.meta_types.specs.Faults.{Refuses, least_of};
 ghost use Rattle.arrival_table.specs.Arrived.{kept, Becomes};
 ghost use Rattle.arrival_table.specs.Namespaces.{full_key};
 
@@ -79,6 +79,19 @@ impl<K: Named, R: GroupedRow<K>> ByNamespace<K, R> {
         ensures err { OnErr result (self.new ≡ self.old) }
     {
         groups::add_row(&mut self.groups, alloc, row)
+    }
+
+    /// A row more, where none has its key: one look finds whether one has. It takes the text of its
+    /// namespace that is there.
+    pub fn add_new(&mut self, alloc: Global, row: R) -> Result<(), Fault>
+        ensures fault { Refuses result (least_of false false
+            (has_row (full_key K.texts_of R.name_of R.group_of)
+            (full_key K.texts_of R.name_of R.group_of row) self.old) false) }
+        ensures ok { OnOk result (self.new
+            ≡ add_row (full_key K.texts_of R.name_of R.group_of) row self.old) }
+        ensures err { OnErr result (self.new ≡ self.old) }
+    {
+        groups::add_new_row(&mut self.groups, alloc, row)
     }
 
     /// The row of a namespace and a name goes, to the caller. It takes no memory.

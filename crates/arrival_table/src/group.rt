@@ -2,7 +2,7 @@
 ghost use Rattle.std.specs.Prelude.{◌≡◌, [], map, false, None, IfOk, IfSome, IfNone, OnOk, OnErr, length, option_copied};
 ghost use Rattle.std.specs.List.{list_all};
 ghost use Rattle.meta_types.specs.Keys.{row_at, has_row, add_row, remove_row};
-ghost use Rattle.meta_types.specs.Faults.{Refuses};
+ghost use Rattle.meta_types.specs.Faults.{Refuses, least_of};
 ghost use Rattle.arrival_table.specs.Arrived.{by_name, kept, Becomes};
 
 use crate::in_order::InOrder;
@@ -90,6 +90,21 @@ impl<K: Named, R: GroupedRow<K>> Group<K, R> {
         ensures { result ≡ list_all (T.passes test.now) self.now.1 }
     {
         self.rows.all(test)
+    }
+
+    // As `add`, where the name isn't known to be free.
+    pub(crate) fn add_new(&mut self, mut row: R) -> Result<(), Fault>
+        requires { R.group_of row ≡ self.old.0 }
+        ensures fault { Refuses result (least_of false false (has_row
+            (by_name K.texts_of R.name_of) (K.texts_of (R.name_of row)) self.old.1) false) }
+        ensures ok { OnOk result (self.new
+            ≡ (self.old.0, add_row (by_name K.texts_of R.name_of) row self.old.1)) }
+        ensures err { OnErr result (self.new ≡ self.old) }
+    {
+        if let Ok(ns) = self.ns.copy() {
+            row.share_group(ns);
+        }
+        self.rows.add_new(row)
     }
 
     pub(crate) fn take(&mut self, name: &K) -> Option<R>

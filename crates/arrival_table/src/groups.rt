@@ -3,8 +3,8 @@ ghost use Rattle.std.specs.Prelude.{◌≡◌, ◌∷◌, [], map, false, None, 
 ghost use Rattle.std.specs.List.{position_or_len, list_any, list_all};
 ghost use Rattle.std.specs.Cmp.Lexicographic.{slice_cmp};
 ghost use Rattle.meta_types.specs.Text.{text_cmp};
-ghost use Rattle.meta_types.specs.Keys.{are_in_order, is_before, row_at, has_row, add_row, remove_row};
-ghost use Rattle.meta_types.specs.Faults.{Refuses};
+ghost use Rattle.meta_types.specs.Keys.{Key, are_in_order, is_before, row_at, has_row, add_row, remove_row};
+ghost use Rattle.meta_types.specs.Faults.{Refuses, least_of};
 ghost use Rattle.arrival_table.specs.Arrived.{kept, Becomes};
 ghost use Rattle.arrival_table.specs.Namespaces.{full_key, group_key, all_rows, AreGroups, IsHome};
 
@@ -84,6 +84,8 @@ fn home_of<K: Named, R: GroupedRow<K>>(
     requires { AreGroups (full_key K.texts_of R.name_of R.group_of) R.group_of groups.old.items }
     ensures fault { Refuses result None }
     ensures home { IfOk result (λ place. IsHome ns.now place groups.new.items) }
+    ensures absent { OnErr result ((name : Key) → has_row (full_key K.texts_of R.name_of R.group_of)
+        (ns.now ∷ name) (all_rows groups.old.items) ≡ false) }
     ensures same { all_rows groups.new.items ≡ all_rows groups.old.items }
     ensures groups { AreGroups (full_key K.texts_of R.name_of R.group_of) R.group_of groups.new.items }
 {
@@ -115,6 +117,25 @@ pub(crate) fn add_row<K: Named, R: GroupedRow<K>>(
 {
     let place = home_of(groups, alloc, row.group())?;
     groups[place].add(row)
+}
+
+/// A row more, where none has its key: one look in its namespace finds whether one has.
+pub(crate) fn add_new_row<K: Named, R: GroupedRow<K>>(
+    groups: &mut Vec<Group<K, R>>,
+    alloc: Global,
+    row: R,
+) -> Result<(), Fault>
+    requires { AreGroups (full_key K.texts_of R.name_of R.group_of) R.group_of groups.old.items }
+    ensures fault { Refuses result (least_of false false
+        (has_row (full_key K.texts_of R.name_of R.group_of)
+        (full_key K.texts_of R.name_of R.group_of row) (all_rows groups.old.items)) false) }
+    ensures ok { OnOk result (all_rows groups.new.items
+        ≡ add_row (full_key K.texts_of R.name_of R.group_of) row (all_rows groups.old.items)) }
+    ensures err { OnErr result (all_rows groups.new.items ≡ all_rows groups.old.items) }
+    ensures groups { AreGroups (full_key K.texts_of R.name_of R.group_of) R.group_of groups.new.items }
+{
+    let place = home_of(groups, alloc, row.group())?;
+    groups[place].add_new(row)
 }
 
 /// The row of a namespace and a name goes, to the caller.
