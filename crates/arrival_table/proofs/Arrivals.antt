@@ -1,13 +1,13 @@
 -- What a change of the rows, as they came, does to the list of them in the order of their keys.
 use Rattle.std.proofs.Common.{◌≡◌, Bool, true, false, List, [], ◌∷◌, ◌++◌, length, refl, sym, ap, ◌∙◌, subst, arith, ◌⊎◌, inl, inr, ℕ, ◌+◌, suc}
-use Rattle.std.specs.Prelude.{IfNone, if◌then◌else◌, Contains, filter, find, Option, Some, None, is_some, slice_get}
+use Rattle.std.specs.Prelude.{◌&&◌, IfNone, if◌then◌else◌, Contains, filter, find, Option, Some, None, is_some, slice_get}
 use Rattle.std.specs.Cmp.{on_equiv}
 use Rattle.std.proofs.Common.{◌<◌, get_or, take, map}
 use Rattle.std.proofs.lemmas.Grind.{common_steps}
 use Rattle.indexmap.specs.IndexSet.{insert_all, insert_key}
 use Rattle.indexmap.proofs.SetLemmas.{set_all_push}
 use Rattle.std.specs.Bool.{OnFalse}
-use Rattle.std.specs.List.{swap_remove, IsDistinct, AllByRecursion, list_any}
+use Rattle.std.specs.List.{swap_remove, IsDistinct, AllByRecursion, list_any, list_all}
 use Rattle.std.specs.List.Sorted.{IsPermutation}
 use Rattle.std.proofs.lemmas.Bool.{cases_Bool, and_parts}
 use Rattle.std.proofs.lemmas.List.Elements.{All-contains}
@@ -277,6 +277,26 @@ module _ {Row : Type 0} (key_of : Row → Key) where
   pub length_sorted : (rows : List Row) → length (sorted key_of rows) ≡ length rows
   length_sorted [] = refl
   length_sorted (row ∷ rows) = length_added row (sorted key_of rows) ∙ ap suc (length_sorted rows)
+
+  -- ---- a test of all rows
+
+  all_added : (p : Row → Bool) (row : Row) (rows : List Row) → list_all p (add_row key_of row rows) ≡ (p row && list_all p rows)
+  all_added p row [] = refl
+  all_added p row (next ∷ rows) = elim (cases_Bool (is_before (key_of row) (key_of next))) [
+    | inl t ↦ rw t refl
+    | inr f ↦ rw f (ap (λ b. p next && b) (all_added p row rows) ∙ swapped (p next) (p row) (list_all p rows))
+  ]
+    where
+      swapped : (a b c : Bool) → (a && (b && c)) ≡ (b && (a && c))
+      swapped true true c = refl
+      swapped true false c = refl
+      swapped false true c = refl
+      swapped false false c = refl
+
+  -- passes whatever their order is
+  pub all_sorted : (p : Row → Bool) (rows : List Row) → list_all p (sorted key_of rows) ≡ list_all p rows
+  all_sorted p [] = refl
+  all_sorted p (row ∷ rows) = all_added p row (sorted key_of rows) ∙ ap (λ b. p row && b) (all_sorted p rows)
 
 -- where nothing was taken all is as it was
 pub same_taken : {Row : Type 0} (found : Option Row) (old new : List Row) (some : Bool) → some ≡ is_some found → IfNone found (new ≡ old) → OnFalse some (new ≡ old)

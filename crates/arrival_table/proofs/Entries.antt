@@ -13,10 +13,23 @@ use Rattle.std.proofs.lemmas.List.{get_or-set_same, length-set}
 use Rattle.std.proofs.lemmas.Option.{slice_get_within, get_or_from_slice_get}
 use Rattle.indexmap.specs.IndexMap.{insert_entry, set_value_at}
 use Rattle.indexmap.proofs.MapLemmas.{distinct_permutation}
+use Rattle.meta_types.specs.Faults.{Refuses, least_of}
+use Rattle.meta_types.specs.declared.fault.Fault.{Fault}
 use Rattle.meta_types.specs.Keys.{Key, is_key, row_at, has_row, add_row, remove_row, change_row}
 use Rattle.meta_types.proofs.Found.{found_is, row_is_found, no_none, some_is}
 use Rattle.arrival_table.specs.Arrived.{sorted, by_name, same_key, keys_equiv, kept, AreNamed, Becomes}
 use Rattle.arrival_table.proofs.Arrivals.{moved_out, went, row_sorted, has_sorted, arrived, one_order, change_added, same_absent, head_absent}
+
+-- a name under which a row was added was free
+pub was_free : (r : Result (Unit {0}) Fault) (there : Bool) → Refuses r (least_of false false there false) → OnOk r (there ≡ false)
+was_free (Ok u) true h = absurd (cc h)
+was_free (Ok u) false h = refl
+was_free (Err e) there h = tt
+
+-- what holds, holds where a call is refused
+pub on_err : {A B : Type 0} (r : Result A B) (P : Type 0) → P → OnErr r P
+on_err (Ok x) P p = tt
+on_err (Err e) P p = p
 
 all_one : {X : Type 0} (P : X → Type 0) (x : X) → P x → All P (x ∷ [])
 all_one P x h zero d lt = h
@@ -124,6 +137,43 @@ module _ {K Row : Type 0} (eq : K → K → Bool) (texts_of : K → Key) (name_o
         let e = last_row new is in
         ap (sorted key_of) e ∙ arrived key_of row (values_of old) (sym (has_sorted key_of (key_of row) (values_of old)) ∙ free) (rows_apart old are)
         (subst (IsDistinct (same_key key_of)) e (rows_apart new are_new))
+
+  -- the row that is there, under its own name
+  pub same_entry : (k : K) (v : Row) (es : List (K × Row)) → lookup (eq k) es ≡ Some v → insert_entry eq es k v ≡ es
+  same_entry k v [] h = no_none v h
+  same_entry k v (e ∷ es) h = elim (cases_Bool (eq k e.0)) [
+    | inl t ↦ rw t (ap (λ w. (e.0, w) ∷ es) (sym (some_is e.1 v (rw t at h))))
+    | inr f ↦ rw f (ap (λ rest. e ∷ rest) (same_entry k v es (rw f at h)))
+  ]
+
+  -- ---- a row more, where none has its name
+
+  module _ (k : K) (row : Row) (old : List (K × Row)) (own : k ≡ name_of row) (are : AreNamed eq name_of old) where
+    pub is_taken : is_some (lookup (eq k) old) ≡ has_row (by_name texts_of name_of) (texts_of (name_of row)) (sorted (by_name texts_of name_of) (values_of old))
+    is_taken = ap is_some (get_sorted k old are) ∙ ap (λ n. has_row (by_name texts_of name_of) (texts_of n) (sorted (by_name texts_of name_of) (values_of old))) own
+
+    module _ (r : Result (Unit {0}) Fault) (new : List (K × Row)) (once : IsDistinct eq (keys_of new))
+        (fault : Refuses r (least_of false false (is_some (lookup (eq k) old)) false)) (ok : OnOk r (new ≡ insert_entry eq old k row)) where
+      pub named_new : OnErr r (new ≡ old) → AreNamed eq name_of new
+      named_new err = go r (was_free r (is_some (lookup (eq k) old)) fault) ok err
+        where
+          go : (r : Result (Unit {0}) Fault) → OnOk r (is_some (lookup (eq k) old) ≡ false) → OnOk r (new ≡ insert_entry eq old k row) → OnErr r (new ≡ old) → AreNamed eq name_of new
+          go (Ok u) free ok err = named_more k row old own are (sym is_taken ∙ free) {A = Unit {0}} {B = Fault} (Ok u) new once ok err
+          go (Err e) free ok err = subst (AreNamed eq name_of) (sym err) are
+
+      pub last_new : OnOk r (values_of new ≡ values_of old ++ row ∷ [])
+      last_new = go r (was_free r (is_some (lookup (eq k) old)) fault) ok
+        where
+          go : (r : Result (Unit {0}) Fault) → OnOk r (is_some (lookup (eq k) old) ≡ false) → OnOk r (new ≡ insert_entry eq old k row) → OnOk r (values_of new ≡ values_of old ++ row ∷ [])
+          go (Ok u) free ok = last_row k row old own are (sym is_taken ∙ free) new ok
+          go (Err e) free ok = tt
+
+      pub added_new : OnOk r (sorted (by_name texts_of name_of) (values_of new) ≡ add_row (by_name texts_of name_of) row (sorted (by_name texts_of name_of) (values_of old)))
+      added_new = go r (was_free r (is_some (lookup (eq k) old)) fault) ok
+        where
+          go : (r : Result (Unit {0}) Fault) → OnOk r (is_some (lookup (eq k) old) ≡ false) → OnOk r (new ≡ insert_entry eq old k row) → OnOk r (sorted (by_name texts_of name_of) (values_of new) ≡ add_row (by_name texts_of name_of) row (sorted (by_name texts_of name_of) (values_of old)))
+          go (Ok u) free ok = added_entry k row old own are (sym is_taken ∙ free) new ok once
+          go (Err e) free ok = tt
 
   -- ---- a row that becomes another
 

@@ -10,3 +10,4 @@ pub mod NamespaceLists
 pub mod NamespaceRows
 pub mod PlacesSorted
 pub mod Retained
+pub mod SnapshotterRows

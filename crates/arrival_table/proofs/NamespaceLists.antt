@@ -1,7 +1,7 @@
 -- Namespaces with their rows, as lists: the place of one, what a search tells, one more.
 use Rattle.std.proofs.Common.{◌≡◌, ℕ, ◌<◌, ◌≤◌, zero, suc, Bool, true, false, List, [], ◌∷◌, ◌++◌, length, get_or, take, map, Some, refl, sym, ap, ◌∙◌, subst, arith, inl, inr}
-use Rattle.std.specs.Prelude.{All, Result, Ok, Err, IfOk, IfErr, is_ok, slice_get, slice_set, bytes_eq, if◌then◌else◌}
-use Rattle.std.specs.List.{insert, position, position_or_len}
+use Rattle.std.specs.Prelude.{All, Result, Ok, Err, IfOk, IfErr, is_ok, slice_get, slice_set, bytes_eq, if◌then◌else◌, ◌&&◌}
+use Rattle.std.specs.List.{insert, position, position_or_len, list_all}
 use Rattle.std.specs.Cmp.Lexicographic.{slice_cmp, bytes_decides, pointwise}
 use Rattle.std.specs.Ordering.{is_lt, ordering_then}
 use Rattle.std.specs.declared.cmp.Ordering.{Ordering}
@@ -111,6 +111,18 @@ module _ {Row : Type 0} where
   pub rows_append : (gs hs : List (Text × List Row)) → all_rows (gs ++ hs) ≡ all_rows gs ++ all_rows hs
   rows_append [] hs = refl
   rows_append (g ∷ gs) hs = ap (λ rows. g.1 ++ rows) (rows_append gs hs) ∙ sym (append_assoc g.1 (all_rows gs) (all_rows hs))
+
+  -- a test of all rows
+  all_append : (p : Row → Bool) (xs ys : List Row) → list_all p (xs ++ ys) ≡ (list_all p xs && list_all p ys)
+  all_append p [] ys = refl
+  all_append p (x ∷ xs) ys = elim (cases_Bool (p x)) [
+    | inl t ↦ rw t (all_append p xs ys)
+    | inr f ↦ rw f refl
+  ]
+
+  pub all_joined : (p : Row → Bool) (gs : List (Text × List Row)) → list_all (λ group. list_all p group.1) gs ≡ list_all p (all_rows gs)
+  all_joined p [] = refl
+  all_joined p (g ∷ gs) = ap (λ b. list_all p g.1 && b) (all_joined p gs) ∙ sym (all_append p g.1 (all_rows gs))
 
   pub rows_more : (gs : List (Text × List Row)) (i : ℕ) (g : Text × List Row) → i < length gs → g ≡ get_or gs i g → all_rows (take (i + 1) gs) ≡ all_rows (take i gs) ++ g.1
   rows_more gs i g lt is = ap all_rows (take_more gs i g lt) ∙ rows_append (take i gs) (get_or gs i g ∷ [])

@@ -162,8 +162,11 @@ module _ {K Row : Type 0} (texts_of : K → Key) (name_of : Row → K) (ns_of : 
 
     -- ---- a row more
 
+    has_in : (row : Row) → ns_of row ≡ ns → has_row own (own row) rows ≡ has_row full (full row) (all_rows gs)
+    has_in row e = ap is_some (sym (found_in (own row)) ∙ ap (λ m. row_at full (m ∷ own row) (all_rows gs)) (sym e))
+
     pub free_in : (row : Row) → ns_of row ≡ ns → has_row full (full row) (all_rows gs) ≡ false → has_row own (own row) rows ≡ false
-    free_in row e free = ap is_some (sym (found_in (own row)) ∙ ap (λ m. row_at full (m ∷ own row) (all_rows gs)) (sym e)) ∙ free
+    free_in row e free = has_in row e ∙ free
 
     pub added_in : (row : Row) → ns_of row ≡ ns → (new : List Row) → new ≡ add_row own row rows → all_rows (slice_set gs i (ns, new)) ≡ add_row full row (all_rows gs)
     added_in row e new is = after_set new
@@ -224,6 +227,14 @@ module _ {K Row : Type 0} (texts_of : K → Key) (name_of : Row → K) (ns_of : 
         pub add_rows : {A B : Type 0} (r : Result A B) → OnOk r (new ≡ (group.0, add_row own row group.1)) → OnOk r (all_rows (slice_set gs i new) ≡ add_row full row (all_rows gs))
         add_rows (Ok x) made = ap (λ y. all_rows (slice_set gs i y)) (add_is made) ∙ added_in row e (add_row own row rows) refl
         add_rows (Err x) made = tt
+
+        pub has_there : has_row own (own row) group.1 ≡ has_row full (full row) (all_rows gs)
+        has_there = ap (λ (x : Text × List Row). has_row own (own row) x.1) group_is ∙ has_in row e
+
+        -- or refused, where one of its key is there
+        pub add_new_groups : {A B : Type 0} (r : Result A B) → OnOk r (has_row full (full row) (all_rows gs) ≡ false) → OnOk r (new ≡ (group.0, add_row own row group.1)) → OnErr r (new ≡ group) → AreGroups full ns_of (slice_set gs i new)
+        add_new_groups (Ok x) free made same = subst (λ y. AreGroups full ns_of (slice_set gs i y)) (sym (add_is made)) (added_groups row e free (add_row own row rows) refl)
+        add_new_groups (Err x) free made same = subst (AreGroups full ns_of) (sym (same_set new same)) are
 
         pub add_groups : {A B : Type 0} (r : Result A B) → has_row full (full row) (all_rows gs) ≡ false → OnOk r (new ≡ (group.0, add_row own row group.1)) → OnErr r (new ≡ group) → AreGroups full ns_of (slice_set gs i new)
         add_groups (Ok x) free made same = subst (λ y. AreGroups full ns_of (slice_set gs i y)) (sym (add_is made)) (added_groups row e free (add_row own row rows) refl)

@@ -8,6 +8,8 @@ use Rattle.std.specs.declared.cmp.Ordering.TheVariants.{Less, Equal, Greater}
 use Rattle.std.specs.List.{IsDistinct}
 use Rattle.std.specs.Map.{keys_of}
 use Rattle.meta_types.specs.Text.{Text, text_cmp}
+use Rattle.meta_types.specs.declared.fault.Fault.{Fault}
+use Rattle.meta_types.specs.declared.fault.Fault.TheVariants.{AlreadyExists, OutOfMemory}
 use Rattle.meta_types.specs.Keys.{Key, is_key, is_before, in_order, row_at, change_row}
 
 -- a name that is one text (ours)
@@ -39,6 +41,10 @@ by_name texts_of name_of row = texts_of (name_of row)
 pub record AreNamed {K Row : Type 0} (same : K → K → Bool) (name_of : Row → K) (entries : List (K × Row)) : Type 0 where
   pub own : All (λ e. name_of e.1 ≡ e.0) entries
   pub once : IsDistinct same (keys_of entries)
+
+-- why no row is added where memory was refused: one has its name already, or for that alone (ours)
+abbrev pub without_memory : Bool → Fault
+without_memory there = if there then AlreadyExists else OutOfMemory
 
 -- the rows whose places are marked (ours)
 abbrev pub kept : {Row : Type 0} → List Bool → List Row → List Row

@@ -1,11 +1,19 @@
 -- Rows by namespace.
-use Rattle.std.specs.Prelude.{◌≡◌, ℕ, List, [], ◌∷◌, ◌++◌, map, All, Some, slice_get, IsTrue}
+use Rattle.std.specs.Prelude.{◌≡◌, ℕ, List, [], ◌∷◌, ◌++◌, map, All, Some, slice_get, IsTrue, length}
 use Rattle.meta_types.specs.Text.{Text}
 use Rattle.meta_types.specs.Keys.{Key, are_in_order}
 
 -- a row's key: its namespace, then the texts of its name (ours)
 abbrev pub full_key : {K Row : Type 0} → (K → Key) → (Row → K) → (Row → Text) → Row → Key
 full_key texts_of name_of ns_of row = ns_of row ∷ texts_of (name_of row)
+
+-- texts that are a key as they are (ours)
+abbrev pub own_texts : Key → Key
+own_texts key = key
+
+-- a row's key: its namespace, its snapshotter, then the texts of its name (ours)
+abbrev pub layered_key : {K Row : Type 0} → (K → Key) → (Row → K) → (Row → Text) → (Row → Text) → Row → Key
+layered_key texts_of name_of group_of ns_of row = full_key own_texts (full_key texts_of name_of group_of) ns_of row
 
 -- lists, one behind the other (ours)
 abbrev pub joined : {X : Type 0} → List (List X) → List X
@@ -30,3 +38,8 @@ module _ {Row : Type 0} where
     pub order : IsTrue (are_in_order group_key groups)
     pub own : All (λ group. All (λ row. ns_of row ≡ group.0) group.1) groups
     pub rows : IsTrue (are_in_order key_of (all_rows groups))
+
+  -- namespaces stand so, and so many rows they have (ours)
+  pub record AreLayers (key_of : Row → Key) (ns_of : Row → Text) (layers : List (Text × List Row)) (count : ℕ) : Type 0 where
+    pub groups : AreGroups key_of ns_of layers
+    pub counted : count ≡ length (all_rows layers)

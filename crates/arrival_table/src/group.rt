@@ -1,24 +1,25 @@
 //! The rows of one namespace.
 ghost use Rattle.std.specs.Prelude.{◌≡◌, [], map, false, None, IfOk, IfSome, IfNone, OnOk, OnErr, length, option_copied};
+ghost use Rattle.std.specs.List.{list_all};
 ghost use Rattle.meta_types.specs.Keys.{row_at, has_row, add_row, remove_row};
-ghost use Rattle.meta_types.specs.Faults.{Refuses};
+ghost use Rattle.meta_types.specs.Faults.{Refuses, least_of};
 ghost use Rattle.arrival_table.specs.Arrived.{by_name, kept, Becomes};
 
 use crate::in_order::InOrder;
 use crate::named::Named;
-use crate::row::{Change, NamespaceRow};
+use crate::row::{Change, GroupedRow, Test};
 use meta_types::{Fault, ShortName};
 use std::alloc::Global;
 use std::marker::Model;
 
 /// A namespace, and its rows.
 #[derive(Drop)]
-pub(crate) struct Group<K: Named, R: NamespaceRow<K>> {
+pub(crate) struct Group<K: Named, R: GroupedRow<K>> {
     ns: ShortName,
     rows: InOrder<K, R>,
 }
 
-impl<K: Named, R: NamespaceRow<K>> Model for Group<K, R> {
+impl<K: Named, R: GroupedRow<K>> Model for Group<K, R> {
     ghost use Rattle.std.specs.Prelude.{List};
     ghost use Rattle.meta_types.specs.Text.{Text};
 
@@ -27,7 +28,7 @@ impl<K: Named, R: NamespaceRow<K>> Model for Group<K, R> {
     ghost view = { λ g. (g.ns, g.rows) };
 }
 
-impl<K: Named, R: NamespaceRow<K>> Group<K, R> {
+impl<K: Named, R: GroupedRow<K>> Group<K, R> {
     pub(crate) fn new(alloc: Global, ns: ShortName) -> Group<K, R>
         ensures { result ≡ (ns, []) }
     {
@@ -70,7 +71,7 @@ impl<K: Named, R: NamespaceRow<K>> Group<K, R> {
 
     // The row takes the namespace's own text, where that may be shared once more.
     pub(crate) fn add(&mut self, mut row: R) -> Result<(), Fault>
-        requires own { R.ns_of row ≡ self.old.0 }
+        requires own { R.group_of row ≡ self.old.0 }
         requires free { has_row (by_name K.texts_of R.name_of) (K.texts_of (R.name_of row))
             self.old.1 ≡ false }
         ensures fault { Refuses result None }
@@ -79,10 +80,31 @@ impl<K: Named, R: NamespaceRow<K>> Group<K, R> {
         ensures err { OnErr result (self.new ≡ self.old) }
     {
         if let Ok(ns) = self.ns.copy() {
-            row.share_ns(ns);
+            row.share_group(ns);
         }
         self.rows.add(row)?;
         Ok(())
+    }
+
+    pub(crate) fn all<T: Test<R>>(&self, test: &T) -> bool
+        ensures { result ≡ list_all (T.passes test.now) self.now.1 }
+    {
+        self.rows.all(test)
+    }
+
+    // As `add`, where the name isn't known to be free.
+    pub(crate) fn add_new(&mut self, mut row: R) -> Result<(), Fault>
+        requires { R.group_of row ≡ self.old.0 }
+        ensures fault { Refuses result (least_of false false (has_row
+            (by_name K.texts_of R.name_of) (K.texts_of (R.name_of row)) self.old.1) false) }
+        ensures ok { OnOk result (self.new
+            ≡ (self.old.0, add_row (by_name K.texts_of R.name_of) row self.old.1)) }
+        ensures err { OnErr result (self.new ≡ self.old) }
+    {
+        if let Ok(ns) = self.ns.copy() {
+            row.share_group(ns);
+        }
+        self.rows.add_new(row)
     }
 
     pub(crate) fn take(&mut self, name: &K) -> Option<R>

@@ -1,13 +1,14 @@
 //! Rows that contracts see in the order of their keys.
 ghost use Rattle.std.specs.Prelude.{◌≡◌, [], map, false, None, IfOk, IfErr, IfSome, IfNone, OnOk, OnErr, length, option_copied};
+ghost use Rattle.std.specs.List.{list_all};
 ghost use Rattle.meta_types.specs.Keys.{row_at, has_row, add_row, remove_row};
-ghost use Rattle.meta_types.specs.Faults.{Refuses};
+ghost use Rattle.meta_types.specs.Faults.{Refuses, least_of};
 ghost use Rattle.arrival_table.specs.Arrived.{sorted, by_name, kept, Becomes};
 
 use crate::listing::in_key_order;
 use crate::named::Named;
 use crate::places::{list_places, mark_places, sort_places};
-use crate::row::{Change, Row};
+use crate::row::{Change, Row, Test};
 use crate::table::Table;
 use meta_types::Fault;
 use std::alloc::{AllocFailed, Global};
@@ -69,6 +70,13 @@ impl<K: Named, R: Row<K>> InOrder<K, R> {
         self.rows.get(name)
     }
 
+    /// Whether all rows pass the test. It takes no memory.
+    pub fn all<T: Test<R>>(&self, test: &T) -> bool
+        ensures { result ≡ list_all (T.passes test.now) self.now }
+    {
+        self.rows.all(test)
+    }
+
     /// The rows as they came.
     pub fn arrived(&self) -> &Table<K, R>
         ensures { sorted (by_name K.texts_of R.name_of) result.now ≡ self.now }
@@ -98,6 +106,21 @@ impl<K: Named, R: Row<K>> InOrder<K, R> {
             return Err(AllocFailed { value: row });
         }
         self.rows.add(row)
+    }
+
+    /// A row more, where none has its name: one look finds whether one has.
+    pub fn add_new(&mut self, row: R) -> Result<(), Fault>
+        ensures fault { Refuses result (least_of false false (has_row
+            (by_name K.texts_of R.name_of) (K.texts_of (R.name_of row)) self.old) false) }
+        ensures ok { OnOk result (self.new
+            ≡ add_row (by_name K.texts_of R.name_of) row self.old) }
+        ensures err { OnErr result (self.new ≡ self.old) }
+    {
+        let more = self.rows.len() + 1;
+        if self.places.reserve(more).is_err() || self.marks.reserve(more).is_err() {
+            return Err(self.rows.refusal(row.name()));
+        }
+        self.rows.add_new(row)
     }
 
     /// The row of a name goes, to the caller. It takes no memory.

@@ -2,9 +2,12 @@
 #![tactic(auto)]
 
 mod by_namespace;
+mod by_snapshotter;
 mod group;
 mod groups;
 mod in_order;
+mod layer;
+mod layers;
 mod listing;
 mod named;
 mod places;
@@ -14,8 +17,9 @@ mod rows;
 mod table;
 
 pub use by_namespace::ByNamespace;
+pub use by_snapshotter::BySnapshotter;
 pub use in_order::InOrder;
 pub use listing::in_key_order;
 pub use named::Named;
-pub use row::{Change, NamespaceRow, Row};
+pub use row::{Change, GroupedRow, Row, SnapshotterRow, Test};
 pub use table::Table;

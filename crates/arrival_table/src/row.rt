@@ -1,5 +1,5 @@
 //! Rows, and what may be done to one in its place.
-ghost use Rattle.std.specs.Prelude.{◌≡◌, None, IfOk};
+ghost use Rattle.std.specs.Prelude.{◌≡◌, Bool, None, IfOk};
 ghost use Rattle.meta_types.specs.Text.{Text};
 ghost use Rattle.meta_types.specs.Faults.{Refuses};
 
@@ -36,8 +36,35 @@ pub trait Change<K: Named, R: Row<K>, A>: Drop {
         → R.name_of new ≡ R.name_of old };
 }
 
-/// A row of a namespace, found there by a name of its own.
-pub trait NamespaceRow<K: Named>: Row<K> {
+/// A test of one row.
+pub trait Test<R> {
+    /// Whether the row passes.
+    ghost passes: { Self → R → Bool };
+
+    /// Whether the row passes.
+    fn test(&self, row: &R) -> bool
+        ensures { result ≡ passes self.now row.now };
+}
+
+/// A row of a group, found there by a name of its own. Its group is its namespace, or what it
+/// belongs to within its namespace.
+pub trait GroupedRow<K: Named>: Row<K> {
+    /// Its group.
+    ghost group_of: { Self → Text };
+
+    /// Its group.
+    fn group(&self) -> &ShortName
+        ensures { result.now ≡ group_of self.now };
+
+    /// The same row, whose group shares this text.
+    fn share_group(&mut self, group: ShortName)
+        requires { group ≡ group_of self.old }
+        ensures { self.new ≡ self.old };
+}
+
+/// A row of a snapshotter in a namespace, found there by a name of its own. Its group is its
+/// snapshotter.
+pub trait SnapshotterRow<K: Named>: GroupedRow<K> {
     /// Its namespace.
     ghost ns_of: { Self → Text };
 

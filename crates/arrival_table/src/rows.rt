@@ -1,6 +1,8 @@
 //! The rows of a store, by their names.
-use crate::row::{NamespaceRow, Row};
-use meta_types::{ContainerRow, ContentRow, Digest, Fault, ImageRow, IngestRow, Name, ShortName};
+use crate::row::{GroupedRow, Row, SnapshotterRow};
+use meta_types::{
+    ContainerRow, ContentRow, Digest, Fault, ImageRow, IngestRow, Name, ShortName, SnapRow,
+};
 use std::alloc::Global;
 
 impl Row<Name> for ImageRow {
@@ -15,15 +17,15 @@ impl Row<Name> for ImageRow {
     }
 }
 
-impl NamespaceRow<Name> for ImageRow {
-    ghost ns_of = { λ row. row.ns };
+impl GroupedRow<Name> for ImageRow {
+    ghost group_of = { λ row. row.ns };
 
-    fn ns(&self) -> &ShortName {
+    fn group(&self) -> &ShortName {
         &self.ns
     }
 
-    fn share_ns(&mut self, ns: ShortName) {
-        self.ns = ns;
+    fn share_group(&mut self, group: ShortName) {
+        self.ns = group;
     }
 }
 
@@ -39,15 +41,15 @@ impl Row<Name> for ContainerRow {
     }
 }
 
-impl NamespaceRow<Name> for ContainerRow {
-    ghost ns_of = { λ row. row.ns };
+impl GroupedRow<Name> for ContainerRow {
+    ghost group_of = { λ row. row.ns };
 
-    fn ns(&self) -> &ShortName {
+    fn group(&self) -> &ShortName {
         &self.ns
     }
 
-    fn share_ns(&mut self, ns: ShortName) {
-        self.ns = ns;
+    fn share_group(&mut self, group: ShortName) {
+        self.ns = group;
     }
 }
 
@@ -63,15 +65,15 @@ impl Row<Digest> for ContentRow {
     }
 }
 
-impl NamespaceRow<Digest> for ContentRow {
-    ghost ns_of = { λ row. row.ns };
+impl GroupedRow<Digest> for ContentRow {
+    ghost group_of = { λ row. row.ns };
 
-    fn ns(&self) -> &ShortName {
+    fn group(&self) -> &ShortName {
         &self.ns
     }
 
-    fn share_ns(&mut self, ns: ShortName) {
-        self.ns = ns;
+    fn share_group(&mut self, group: ShortName) {
+        self.ns = group;
     }
 }
 
@@ -87,14 +89,50 @@ impl Row<Name> for IngestRow {
     }
 }
 
-impl NamespaceRow<Name> for IngestRow {
-    ghost ns_of = { λ row. row.ns };
+impl GroupedRow<Name> for IngestRow {
+    ghost group_of = { λ row. row.ns };
 
-    fn ns(&self) -> &ShortName {
+    fn group(&self) -> &ShortName {
         &self.ns
     }
 
+    fn share_group(&mut self, group: ShortName) {
+        self.ns = group;
+    }
+}
+
+impl Row<Name> for SnapRow {
+    ghost name_of = { λ row. row.key.name };
+
+    fn name(&self) -> &Name {
+        &self.key.name
+    }
+
+    fn copy_row(&self, alloc: Global) -> Result<SnapRow, Fault> {
+        self.copy(alloc)
+    }
+}
+
+impl GroupedRow<Name> for SnapRow {
+    ghost group_of = { λ row. row.key.snapshotter };
+
+    fn group(&self) -> &ShortName {
+        &self.key.snapshotter
+    }
+
+    fn share_group(&mut self, group: ShortName) {
+        self.key.snapshotter = group;
+    }
+}
+
+impl SnapshotterRow<Name> for SnapRow {
+    ghost ns_of = { λ row. row.key.ns };
+
+    fn ns(&self) -> &ShortName {
+        &self.key.ns
+    }
+
     fn share_ns(&mut self, ns: ShortName) {
-        self.ns = ns;
+        self.key.ns = ns;
     }
 }

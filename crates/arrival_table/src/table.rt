@@ -1,15 +1,16 @@
 //! Rows as they came.
-ghost use Rattle.std.specs.Prelude.{◌≡◌, ◌<◌, ◌≤◌, ◌^◌, ◌++◌, ◌∷◌, [], Bool, map, filter, false, None, Some, IfOk, IfErr, IfSome, IfNone, OnOk, OnErr, IsTrue, length, option_copied};
+ghost use Rattle.std.specs.Prelude.{◌≡◌, ◌<◌, ◌≤◌, ◌^◌, ◌++◌, ◌∷◌, [], Bool, map, filter, false, None, Some, IfOk, IfErr, IfSome, IfNone, OnOk, OnErr, IsTrue, length, is_some, option_copied};
 ghost use Rattle.std.specs.Bool.{OnFalse};
-ghost use Rattle.std.specs.List.{IsDistinct};
+ghost use Rattle.std.specs.List.{IsDistinct, list_all};
 ghost use Rattle.meta_types.specs.Keys.{are_in_order, row_at, has_row, add_row, remove_row, change_row};
-ghost use Rattle.meta_types.specs.Faults.{Refuses};
-ghost use Rattle.indexmap.specs.IndexMap.{IsUnique};
-ghost use Rattle.arrival_table.specs.Arrived.{sorted, by_name, same_key, kept, Becomes};
+ghost use Rattle.meta_types.specs.Faults.{Refuses, least_of};
+ghost use Rattle.indexmap.specs.IndexMap.{IsUnique, get, insert_entry};
+ghost use Rattle.arrival_table.specs.Arrived.{sorted, by_name, same_key, kept, without_memory, Becomes};
 
 use crate::named::Named;
-use crate::row::{Change, Row};
+use crate::row::{Change, Row, Test};
 use indexmap::IndexMap;
+use indexmap::map::Entry;
 use meta_types::Fault;
 use std::alloc::{AllocFailed, Global};
 use std::marker::Model;
@@ -77,6 +78,14 @@ impl<K: Named, R: Row<K>> Table<K, R> {
         self.rows.values().as_slice()
     }
 
+    /// Whether all rows pass the test. It takes no memory.
+    pub fn all<T: Test<R>>(&self, test: &T) -> bool
+        ensures { result ≡ list_all (T.passes test.now)
+            (sorted (by_name K.texts_of R.name_of) self.now) }
+    {
+        all_pass(self.rows(), test)
+    }
+
     /// The row goes behind all others; where memory is refused, it comes back.
     pub fn add(&mut self, row: R) -> Result<(), AllocFailed<R>>
         requires { has_row (by_name K.texts_of R.name_of) (K.texts_of (R.name_of row)) (sorted
@@ -95,6 +104,34 @@ impl<K: Named, R: Row<K>> Table<K, R> {
             Err(refused) => Err(AllocFailed {
                 value: refused.value.1,
             }),
+        }
+    }
+
+    /// The row goes behind all others, where none has its name: one look finds whether one has.
+    pub fn add_new(&mut self, row: R) -> Result<(), Fault>
+        ensures fault { Refuses result (least_of false false (has_row
+            (by_name K.texts_of R.name_of) (K.texts_of (R.name_of row)) (sorted
+            (by_name K.texts_of R.name_of) self.old)) false) }
+        ensures ok { OnOk result (sorted (by_name K.texts_of R.name_of) self.new ≡ add_row
+            (by_name K.texts_of R.name_of) row (sorted (by_name K.texts_of R.name_of) self.old)) }
+        ensures last { OnOk result (self.new ≡ self.old ++ row ∷ []) }
+        ensures err { OnErr result (self.new ≡ self.old) }
+    {
+        let Ok(name) = row.name().copy_name() else {
+            return Err(self.refusal(row.name()));
+        };
+        insert_new(&mut self.rows, name, row)
+    }
+
+    /// Why no row of the name is added, where memory was refused.
+    pub(crate) fn refusal(&self, name: &K) -> Fault
+        ensures { result ≡ without_memory (has_row (by_name K.texts_of R.name_of)
+            (K.texts_of name.now) (sorted (by_name K.texts_of R.name_of) self.now)) }
+    {
+        if self.has(name) {
+            Fault::AlreadyExists
+        } else {
+            Fault::OutOfMemory
         }
     }
 
@@ -153,6 +190,33 @@ impl<K: Named, R: Row<K>> Table<K, R> {
     {
         retain_rows(&mut self.rows, marks);
     }
+}
+
+// One look for the name gives its row's place, or the one where a row goes.
+fn insert_new<K: Named, R: Row<K>>(rows: &mut IndexMap<K, R>, name: K, row: R) -> Result<(), Fault>
+    ensures fault { Refuses result (least_of false false (is_some (get K.eq rows.old name)) false) }
+    ensures ok { OnOk result (rows.new.entries ≡ insert_entry K.eq rows.old.entries name row) }
+    ensures err { OnErr result (rows.new.entries ≡ rows.old.entries) }
+    ensures unique { IsUnique K.eq rows.new }
+{
+    match rows.entry(name) {
+        Ok(Entry::Vacant(place)) => {
+            place.insert(row);
+            Ok(())
+        }
+        Ok(Entry::Occupied(there)) => {
+            // Lends the row that is there, so that the proof sees the map again.
+            let _ = there.into_mut();
+            Err(Fault::AlreadyExists)
+        }
+        Err(_) => Err(Fault::OutOfMemory),
+    }
+}
+
+fn all_pass<R, T: Test<R>>(rows: &[R], test: &T) -> bool
+    ensures { result ≡ list_all (T.passes test.now) rows.now }
+{
+    rows.iter().all(|row| test.test(row))
 }
 
 fn copy_rows<K: Named, R: Row<K>>(rows: &[R], alloc: Global) -> Result<Table<K, R>, Fault>

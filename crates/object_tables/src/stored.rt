@@ -11,12 +11,12 @@ ghost use Rattle.object_tables.specs.Calls.{labelling_fault};
 ghost use Rattle.object_tables.specs.Edits.{Relabels, relabels_keep};
 
 use crate::table::is_label;
-use arrival_table::{ByNamespace, Change, Named, NamespaceRow};
+use arrival_table::{ByNamespace, Change, Named, GroupedRow};
 use meta_types::{ContainerRow, ContentRow, Digest, Fault, ImageRow, Listing, Name, ShortName};
 use std::alloc::Global;
 
 /// A row with labels, which is listed by its name.
-pub(crate) trait StoredRow<K: Named>: NamespaceRow<K> {
+pub(crate) trait StoredRow<K: Named>: GroupedRow<K> {
     /// The name that the row is listed by.
     ghost listed_as: { Self → Text };
 
@@ -43,9 +43,9 @@ pub(crate) trait StoredRow<K: Named>: NamespaceRow<K> {
     ghost keeps_name: { (labels : LabelList) (row : Self) →
         Self.name_of (with_labels labels row) ≡ Self.name_of row };
 
-    /// Nor of a namespace.
-    ghost keeps_ns: { (labels : LabelList) (row : Self) →
-        Self.ns_of (with_labels labels row) ≡ Self.ns_of row };
+    /// Nor of a group.
+    ghost keeps_group: { (labels : LabelList) (row : Self) →
+        Self.group_of (with_labels labels row) ≡ Self.group_of row };
 }
 
 /// One label more, or another value of one.
@@ -77,9 +77,9 @@ pub(crate) fn relabel<K: Named, R: StoredRow<K>>(
     value: &str,
 ) -> Result<(), Fault>
     ensures fault { Refuses result (labelling_fault R.labels_in key.now value.now
-        (row_at (full_key K.texts_of R.name_of R.ns_of) (ns.now ∷ K.texts_of name.now)
+        (row_at (full_key K.texts_of R.name_of R.group_of) (ns.now ∷ K.texts_of name.now)
         table.old)) }
-    ensures ok { OnOk result (table.new ≡ change_row (full_key K.texts_of R.name_of R.ns_of)
+    ensures ok { OnOk result (table.new ≡ change_row (full_key K.texts_of R.name_of R.group_of)
         (ns.now ∷ K.texts_of name.now)
         (λ row. R.with_labels (put_label key.now value.now (R.labels_in row)) row) table.old) }
     ensures err { OnErr result (table.new ≡ table.old) }
@@ -99,7 +99,7 @@ pub(crate) fn names_in<K: Named, R: StoredRow<K>>(
     ns: &ShortName,
 ) -> Result<Listing, Fault>
     ensures fault { Refuses result None }
-    ensures ok { IfOk result (λ names. names ≡ names_in R.ns_of R.listed_as ns.now table.now) }
+    ensures ok { IfOk result (λ names. names ≡ names_in R.group_of R.listed_as ns.now table.now) }
 {
     let rows = table.rows_in(alloc, ns)?;
     names_of(alloc, &rows)
@@ -133,7 +133,7 @@ impl StoredRow<Name> for ImageRow {
 
     ghost keeps_name = { λ _ _. refl };
 
-    ghost keeps_ns = { λ _ _. refl };
+    ghost keeps_group = { λ _ _. refl };
 }
 
 impl StoredRow<Name> for ContainerRow {
@@ -153,7 +153,7 @@ impl StoredRow<Name> for ContainerRow {
 
     ghost keeps_name = { λ _ _. refl };
 
-    ghost keeps_ns = { λ _ _. refl };
+    ghost keeps_group = { λ _ _. refl };
 }
 
 impl StoredRow<Digest> for ContentRow {
@@ -173,5 +173,5 @@ impl StoredRow<Digest> for ContentRow {
 
     ghost keeps_name = { λ _ _. refl };
 
-    ghost keeps_ns = { λ _ _. refl };
+    ghost keeps_group = { λ _ _. refl };
 }

@@ -8,11 +8,11 @@ use Rattle.arrival_table.proofs.groups.any_in.Goals as goal
 pub returns-in-Ok : goal.returns-in-Ok
 returns-in-Ok g c =
     let home = c.in-Ok.ensures.found in
-    ap (λ n. not (n == 0)) (c.len.ensures ∙ ap (λ x. length x.1) (group_is g.K.Named.texts_of g.R.Row.name_of g.R.NamespaceRow.ns_of c.args.ns.now c.in-Ok.place home.0 c.args.groups.now home.1 c.requires c.index-groups-place.result c.index-groups-place.is))
-    ∙ sym (any_pass (λ row. bytes_eq c.args.ns.now (g.R.NamespaceRow.ns_of row)) (all_rows c.args.groups.now)
-    ∙ ap (λ rows. not (length rows == 0)) (rows_of_it g.K.Named.texts_of g.R.Row.name_of g.R.NamespaceRow.ns_of c.args.ns.now c.args.groups.now c.in-Ok.place home.0 c.requires.order c.requires.own home.1))
+    ap (λ n. not (n == 0)) (c.len.ensures ∙ ap (λ x. length x.1) (group_is g.K.Named.texts_of g.R.Row.name_of g.R.GroupedRow.group_of c.args.ns.now c.in-Ok.place home.0 c.args.groups.now home.1 c.requires c.index-groups-place.result c.index-groups-place.is))
+    ∙ sym (any_pass (λ row. bytes_eq c.args.ns.now (g.R.GroupedRow.group_of row)) (all_rows c.args.groups.now)
+    ∙ ap (λ rows. not (length rows == 0)) (rows_of_it g.K.Named.texts_of g.R.Row.name_of g.R.GroupedRow.group_of c.args.ns.now c.args.groups.now c.in-Ok.place home.0 c.requires.order c.requires.own home.1))
 
 pub returns-in-Err : goal.returns-in-Err
 returns-in-Err g c =
-    sym (any_pass (λ row. bytes_eq c.args.ns.now (g.R.NamespaceRow.ns_of row)) (all_rows c.args.groups.now)
-    ∙ ap (λ rows. not (length rows == 0)) (none_of_it g.K.Named.texts_of g.R.Row.name_of g.R.NamespaceRow.ns_of c.args.ns.now c.args.groups.now c.in-Err.ensures.none c.requires.own))
+    sym (any_pass (λ row. bytes_eq c.args.ns.now (g.R.GroupedRow.group_of row)) (all_rows c.args.groups.now)
+    ∙ ap (λ rows. not (length rows == 0)) (none_of_it g.K.Named.texts_of g.R.Row.name_of g.R.GroupedRow.group_of c.args.ns.now c.args.groups.now c.in-Err.ensures.none c.requires.own))

@@ -12,22 +12,22 @@ pub returns-in-Ok-clause-absent : goal.returns-in-Ok-clause-absent
 returns-in-Ok-clause-absent g c =
     let at = home g c in
     subst (λ b. IfNone c.change.result (b ≡ false))
-    (ap is_some (read_in g.K.Named.texts_of g.R.Row.name_of g.R.NamespaceRow.ns_of c.args.ns.now c.in-Ok.place at.0 c.args.groups.now.items at.1 c.requires.groups c.index_mut.result.now c.index_mut.ensures.value (g.K.Named.texts_of c.args.name.now)))
+    (ap is_some (read_in g.K.Named.texts_of g.R.Row.name_of g.R.GroupedRow.group_of c.args.ns.now c.in-Ok.place at.0 c.args.groups.now.items at.1 c.requires.groups c.index_mut.result.now c.index_mut.ensures.value (g.K.Named.texts_of c.args.name.now)))
     c.change.ensures.absent
 
 pub returns-in-Ok-clause-changed : goal.returns-in-Ok-clause-changed
 returns-in-Ok-clause-changed g c =
     let at = home g c in
-    changed_some g.K.Named.texts_of g.R.Row.name_of g.R.NamespaceRow.ns_of c.args.ns.now c.in-Ok.place at.0 c.args.groups.now.items at.1 c.requires.groups c.index_mut.result.now c.index_mut.ensures.value (g.K.Named.texts_of c.args.name.now) c.change.new.self c.change.ensures.ns
+    changed_some g.K.Named.texts_of g.R.Row.name_of g.R.GroupedRow.group_of c.args.ns.now c.in-Ok.place at.0 c.args.groups.now.items at.1 c.requires.groups c.index_mut.result.now c.index_mut.ensures.value (g.K.Named.texts_of c.args.name.now) c.change.new.self c.change.ensures.ns
     (g.C.Change.changes c.args.change) (g.met.C.Change.keeps_name c.args.change) c.requires.keeps_ns c.change.result c.change.ensures.changed
 
 pub returns-in-Ok-clause-groups : goal.returns-in-Ok-clause-groups
 returns-in-Ok-clause-groups g c =
     let at = home g c in
-    changed_groups g.K.Named.texts_of g.R.Row.name_of g.R.NamespaceRow.ns_of c.args.ns.now c.in-Ok.place at.0 c.args.groups.now.items at.1 c.requires.groups c.index_mut.result.now c.index_mut.ensures.value (g.K.Named.texts_of c.args.name.now) c.change.new.self c.change.ensures.ns
+    changed_groups g.K.Named.texts_of g.R.Row.name_of g.R.GroupedRow.group_of c.args.ns.now c.in-Ok.place at.0 c.args.groups.now.items at.1 c.requires.groups c.index_mut.result.now c.index_mut.ensures.value (g.K.Named.texts_of c.args.name.now) c.change.new.self c.change.ensures.ns
     (g.C.Change.changes c.args.change) (g.met.C.Change.keeps_name c.args.change) c.requires.keeps_ns c.change.result c.change.ensures.changed c.change.ensures.same
 
 -- no row is in a namespace that isn't there
 pub returns-in-Err-clause-absent : goal.returns-in-Err-clause-absent
 returns-in-Err-clause-absent g c =
-    ap is_some (none_there g.K.Named.texts_of g.R.Row.name_of g.R.NamespaceRow.ns_of c.args.ns.now (g.K.Named.texts_of c.args.name.now) c.args.groups.now.items (ap (has_row group_key (c.args.ns.now ∷ [])) (sym c.deref.ensures.value) ∙ c.in-Err.ensures.none) c.requires.groups.own)
+    ap is_some (none_there g.K.Named.texts_of g.R.Row.name_of g.R.GroupedRow.group_of c.args.ns.now (g.K.Named.texts_of c.args.name.now) c.args.groups.now.items (ap (has_row group_key (c.args.ns.now ∷ [])) (sym c.deref.ensures.value) ∙ c.in-Err.ensures.none) c.requires.groups.own)

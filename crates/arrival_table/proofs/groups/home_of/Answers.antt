@@ -1,10 +1,12 @@
 use Rattle.std.proofs.Common.{◌≡◌, ◌∷◌, [], false, List, ap, ◌∙◌, sym, arith}
 use Rattle.std.specs.List.{insert, position_or_len}
-use Rattle.meta_types.specs.Keys.{is_before, has_row}
+use Rattle.std.specs.Prelude.{is_some}
+use Rattle.meta_types.specs.Keys.{Key, is_before, has_row}
 use Rattle.meta_types.specs.Text.{Text}
-use Rattle.arrival_table.specs.Namespaces.{group_key}
+use Rattle.arrival_table.specs.Namespaces.{group_key, all_rows}
+use Rattle.arrival_table.proofs.Entries.{on_err}
 use Rattle.arrival_table.proofs.NamespaceLists.{place_within}
-use Rattle.arrival_table.proofs.NamespaceRows.{same_rows, opened_groups, opened_home}
+use Rattle.arrival_table.proofs.NamespaceRows.{full, same_rows, opened_groups, opened_home, none_there}
 use Rattle.arrival_table.proofs.groups.home_of.Goals as goal
 
 pub insert-requires : goal.insert-requires
@@ -24,12 +26,23 @@ opened g c = c.in_ok-insert-in-Err.ensures.items ∙ ap (insert c.args.groups.no
 -- the namespace stands in its place, and has no row
 pub returns-in_ok-insert-in-Err-clause-home : goal.returns-in_ok-insert-in-Err-clause-home
 returns-in_ok-insert-in-Err-clause-home g c =
-    opened_home g.K.Named.texts_of g.R.Row.name_of g.R.NamespaceRow.ns_of c.args.ns.now c.in-Err.place c.args.groups.now.items c.insert.new.self.items c.requires (none g c) (place g c) (opened g c)
+    opened_home g.K.Named.texts_of g.R.Row.name_of g.R.GroupedRow.group_of c.args.ns.now c.in-Err.place c.args.groups.now.items c.insert.new.self.items c.requires (none g c) (place g c) (opened g c)
 
 pub returns-in_ok-insert-in-Err-clause-same : goal.returns-in_ok-insert-in-Err-clause-same
 returns-in_ok-insert-in-Err-clause-same g c =
-    same_rows g.K.Named.texts_of g.R.Row.name_of g.R.NamespaceRow.ns_of c.args.ns.now c.in-Err.place c.args.groups.now.items c.insert.new.self.items c.requires (none g c) (place g c) (opened g c)
+    same_rows g.K.Named.texts_of g.R.Row.name_of g.R.GroupedRow.group_of c.args.ns.now c.in-Err.place c.args.groups.now.items c.insert.new.self.items c.requires (none g c) (place g c) (opened g c)
 
 pub returns-in_ok-insert-in-Err-clause-groups : goal.returns-in_ok-insert-in-Err-clause-groups
 returns-in_ok-insert-in-Err-clause-groups g c =
-    opened_groups g.K.Named.texts_of g.R.Row.name_of g.R.NamespaceRow.ns_of c.args.ns.now c.in-Err.place c.args.groups.now.items c.insert.new.self.items c.requires (none g c) (place g c) (opened g c)
+    opened_groups g.K.Named.texts_of g.R.Row.name_of g.R.GroupedRow.group_of c.args.ns.now c.in-Err.place c.args.groups.now.items c.insert.new.self.items c.requires (none g c) (place g c) (opened g c)
+
+-- where there is no such namespace, no row is in it
+pub returns-in_err-ns-in-Err-clause-absent : goal.returns-in_err-ns-in-Err-clause-absent
+returns-in_err-ns-in-Err-clause-absent g c =
+    on_err c.from_residual.result ((name : Key) → has_row (full g.K.Named.texts_of g.R.Row.name_of g.R.GroupedRow.group_of) (c.args.ns.now ∷ name) (all_rows c.args.groups.now.items) ≡ false)
+    (λ name. ap is_some (none_there g.K.Named.texts_of g.R.Row.name_of g.R.GroupedRow.group_of c.args.ns.now name c.args.groups.now.items (ap (has_row group_key (c.args.ns.now ∷ [])) (sym c.deref.ensures.value) ∙ c.in-Err.ensures.none) c.requires.own))
+
+pub returns-in_err-insert-in-Err-clause-absent : goal.returns-in_err-insert-in-Err-clause-absent
+returns-in_err-insert-in-Err-clause-absent g c =
+    on_err c.from_residual-in_err-insert-in-Err.result ((name : Key) → has_row (full g.K.Named.texts_of g.R.Row.name_of g.R.GroupedRow.group_of) (c.args.ns.now ∷ name) (all_rows c.args.groups.now.items) ≡ false)
+    (λ name. ap is_some (none_there g.K.Named.texts_of g.R.Row.name_of g.R.GroupedRow.group_of c.args.ns.now name c.args.groups.now.items (ap (has_row group_key (c.args.ns.now ∷ [])) (sym c.deref.ensures.value) ∙ c.in-Err.ensures.none) c.requires.own))

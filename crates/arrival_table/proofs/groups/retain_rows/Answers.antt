@@ -33,7 +33,7 @@ loop-group-preserved g c =
     let within : i < length gs = omega (arith, c.loop-group.auto.groups, c.loop-group-test.true) in
     let lt : i < length (map (λ (x : Text × List g.row.R.Denot). x.1) gs) = omega (arith, within, length_map (λ (x : Text × List g.row.R.Denot). x.1) gs) in
     let made : new ≡ (item.0, kept c.split_at.result.0.now item.1) = c.retain.ensures ∙ ap (λ x. (x.0, kept c.split_at.result.0.now x.1)) (sym c.group-item.is) in
-    let all : All (λ row. g.R.NamespaceRow.ns_of row ≡ item.0) item.1 = subst (IsOwn g.K.Named.texts_of g.R.Row.name_of g.R.NamespaceRow.ns_of) (sym c.group-item.is) (c.loop-group.invariant.own i item within) in
+    let all : All (λ row. g.R.GroupedRow.group_of row ≡ item.0) item.1 = subst (IsOwn g.K.Named.texts_of g.R.Row.name_of g.R.GroupedRow.group_of) (sym c.group-item.is) (c.loop-group.invariant.own i item within) in
     record {
       rows = subst (λ l. Retains (kept c.args.marks.now (all_rows c.args.groups.now)) l (i + 1) c.split_at.result.1.now) (sym (lists_set gs i new))
           (retains_more (kept c.args.marks.now (all_rows c.args.groups.now)) (map (λ (x : Text × List g.row.R.Denot). x.1) gs) i c.loop-group.rest.now c.loop-group.invariant.rows lt item.1
@@ -43,8 +43,8 @@ loop-group-preserved g c =
           (c.split_at.ensures.back ∙ ap (λ n. drop n c.loop-group.rest.now) (c.len.ensures ∙ ap (λ x. length x.1) (sym c.group-item.is)))
           (ap (λ x. x.1) made));
       names = names_kept gs i item new c.group-item.is (ap (λ x. x.0) made) ∙ c.loop-group.invariant.names;
-      own = All-set (IsOwn g.K.Named.texts_of g.R.Row.name_of g.R.NamespaceRow.ns_of) gs i new
-          (subst (IsOwn g.K.Named.texts_of g.R.Row.name_of g.R.NamespaceRow.ns_of) (sym made) (all_kept (λ row. g.R.NamespaceRow.ns_of row ≡ item.0) c.split_at.result.0.now item.1 all)) c.loop-group.invariant.own;
+      own = All-set (IsOwn g.K.Named.texts_of g.R.Row.name_of g.R.GroupedRow.group_of) gs i new
+          (subst (IsOwn g.K.Named.texts_of g.R.Row.name_of g.R.GroupedRow.group_of) (sym made) (all_kept (λ row. g.R.GroupedRow.group_of row ≡ item.0) c.split_at.result.0.now item.1 all)) c.loop-group.invariant.own;
     }
 
 -- each namespace has its own rows still
@@ -52,6 +52,6 @@ pub returns-clause-groups : goal.returns-clause-groups
 returns-clause-groups g c = record {
   order = order_of_names c.loop-group.groups c.args.groups.now c.loop-group.invariant.names ∙ c.requires.groups.order;
   own = c.loop-group.invariant.own;
-  rows = ap (are_in_order (full g.K.Named.texts_of g.R.Row.name_of g.R.NamespaceRow.ns_of)) (retains_all (kept c.args.marks.now (all_rows c.args.groups.now)) (map (λ (x : Text × List g.row.R.Denot). x.1) c.loop-group.groups) c.loop-group.group-index c.loop-group.rest.now c.loop-group.invariant.rows
-      (omega (arith, c.loop-group.auto.groups, c.loop-group-test.false, length_map (λ (x : Text × List g.row.R.Denot). x.1) c.loop-group.groups))) ∙ order_kept (full g.K.Named.texts_of g.R.Row.name_of g.R.NamespaceRow.ns_of) c.args.marks.now (all_rows c.args.groups.now) c.requires.groups.rows;
+  rows = ap (are_in_order (full g.K.Named.texts_of g.R.Row.name_of g.R.GroupedRow.group_of)) (retains_all (kept c.args.marks.now (all_rows c.args.groups.now)) (map (λ (x : Text × List g.row.R.Denot). x.1) c.loop-group.groups) c.loop-group.group-index c.loop-group.rest.now c.loop-group.invariant.rows
+      (omega (arith, c.loop-group.auto.groups, c.loop-group-test.false, length_map (λ (x : Text × List g.row.R.Denot). x.1) c.loop-group.groups))) ∙ order_kept (full g.K.Named.texts_of g.R.Row.name_of g.R.GroupedRow.group_of) c.args.marks.now (all_rows c.args.groups.now) c.requires.groups.rows;
 }

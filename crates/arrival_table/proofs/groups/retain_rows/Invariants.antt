@@ -10,5 +10,5 @@ abbrev pub invariant-loop-group : goal.invariant-loop-group
 invariant-loop-group g l = record {
   rows : Retains (kept l.marks (all_rows l.initial.groups)) (map (λ group. group.1) l.groups) l.group-index l.rest;
   names : map (λ group. group.0) l.groups ≡ map (λ group. group.0) l.initial.groups;
-  own : All (λ group. All (λ row. g.R.NamespaceRow.ns_of row ≡ group.0) group.1) l.groups;
+  own : All (λ group. All (λ row. g.R.GroupedRow.group_of row ≡ group.0) group.1) l.groups;
 }

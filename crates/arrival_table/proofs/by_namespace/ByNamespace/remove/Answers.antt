@@ -6,4 +6,4 @@ use Rattle.arrival_table.proofs.by_namespace.ByNamespace.remove.Goals as goal
 
 -- what isn't there doesn't go
 pub returns-in-None-clause-same : goal.returns-in-None-clause-same
-returns-in-None-clause-same g c = c.take.ensures.left ∙ remove_absent (full_key g.K.Named.texts_of g.R.Row.name_of g.R.NamespaceRow.ns_of) (c.args.ns.now ∷ g.K.Named.texts_of c.args.name.now) c.args.self.now (ap is_some (sym c.in-None.ensures.row))
+returns-in-None-clause-same g c = c.take.ensures.left ∙ remove_absent (full_key g.K.Named.texts_of g.R.Row.name_of g.R.GroupedRow.group_of) (c.args.ns.now ∷ g.K.Named.texts_of c.args.name.now) c.args.self.now (ap is_some (sym c.in-None.ensures.row))
