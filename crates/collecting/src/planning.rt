@@ -66,13 +66,14 @@ pub fn plan_store<R: Threads + Wait + Sync, G: Gate>(
     check(records, workers)?;
     let images = records.tables.image_rows(alloc)?;
     let containers = records.tables.container_rows(alloc)?;
+    let leases = records.leases.leases(alloc)?;
     let ingests = records.tables.ingest_rows(alloc)?;
     let content = records.tables.content_rows(alloc)?;
     let snapshots = records.tables.snap_rows(alloc)?;
     let rows = StoreRows {
         images: &images,
         containers: &containers,
-        leases: records.leases.leases(),
+        leases: &leases,
         ingests: &ingests,
         content: &content,
         snapshots: &snapshots,

@@ -18,13 +18,14 @@ fn graph_of(
     let _there = tables.has_ns(&ShortName::read(alloc, "x")?);
     let images = tables.image_rows(alloc)?;
     let containers = tables.container_rows(alloc)?;
+    let held = leases.leases(alloc)?;
     let ingests = tables.ingest_rows(alloc)?;
     let content = tables.content_rows(alloc)?;
     let snapshots = tables.snap_rows(alloc)?;
     let rows = StoreRows {
         images: &images,
         containers: &containers,
-        leases: leases.leases(),
+        leases: &held,
         ingests: &ingests,
         content: &content,
         snapshots: &snapshots,

@@ -5,7 +5,7 @@ use Rattle.std.proofs.lemmas.List.{map-append, length-map}
 use Rattle.std.proofs.lemmas.List.Elements.{filter-append}
 use Rattle.std.proofs.lemmas.Grind.{flat_map-append}
 use Rattle.meta_types.specs.Labels.{is_marked_root}
-use Rattle.meta_types.specs.Rows.{Records}
+use Rattle.meta_types.specs.Rows.{Records, LeaseRow}
 use Rattle.meta_types.specs.Paths.{Thing, image, container, lease, ingest, content, snapshot, is_root, ingest_holds_itself}
 use Rattle.meta_types.specs.declared.rows.ImageRow.{ImageRow}
 use Rattle.meta_types.specs.declared.rows.ContainerRow.{ContainerRow}
@@ -121,7 +121,7 @@ module _ (stored : StoreRows) (at : ℤ) (book : List Node) (graph : Graph) wher
   abbrev Rooted : Type 0
   Rooted = graph.roots.items ≡ flat_map (λ row. root_targets profile at book (image row.now)) stored.images.now
       ++ flat_map (λ row. targets_in book (container row.now)) stored.containers.now
-      ++ flat_map (λ row. root_targets profile at book (lease row)) stored.leases.now
+      ++ flat_map (λ row. root_targets profile at book (lease row.now)) stored.leases.now
       ++ places (λ row. ingest_holds_itself at row.now) 0 ingests
       ++ places (λ row. is_marked_root row.now.labels) (length ingests) contents
       ++ places (λ row. is_marked_root row.now.labels) (length ingests + 2 * length contents) snaps
@@ -129,7 +129,7 @@ module _ (stored : StoreRows) (at : ℤ) (book : List Node) (graph : Graph) wher
   -- images, containers and leases
   thing_roots : flat_map (λ row. root_targets profile at book (image row.now)) stored.images.now
       ++ flat_map (λ row. targets_in book (container row.now)) stored.containers.now
-      ++ flat_map (λ row. root_targets profile at book (lease row)) stored.leases.now
+      ++ flat_map (λ row. root_targets profile at book (lease row.now)) stored.leases.now
       ≡ flat_map (targets_in book) (filter (is_root profile at) (root_things records))
   thing_roots =
       let xs = map image records.tables.images in
@@ -137,7 +137,7 @@ module _ (stored : StoreRows) (at : ℤ) (book : List Node) (graph : Graph) wher
       let zs = map lease records.leases in
       (λ j. rooted profile at book image (λ (row : Bor ImageRow). row.now) stored.images.now j
       ++ rooted profile at book container (λ (row : Bor ContainerRow). row.now) stored.containers.now j
-      ++ root_targets_of profile at book lease stored.leases.now j)
+      ++ rooted profile at book lease (λ (row : Bor LeaseRow). row.now) stored.leases.now j)
       ∙ ap (λ l. l ++ flat_map (targets_in book) (filter (is_root profile at) zs)) (sym (rooted-append profile at book xs ys))
       ∙ sym (rooted-append profile at book (xs ++ ys) zs)
 
@@ -177,7 +177,7 @@ module _ (stored : StoreRows) (at : ℤ) (book : List Node) (graph : Graph) wher
         roots = rooted_all
             ∙ assoc6 (flat_map (λ row. root_targets profile at book (image row.now)) stored.images.now)
             (flat_map (λ row. targets_in book (container row.now)) stored.containers.now)
-            (flat_map (λ row. root_targets profile at book (lease row)) stored.leases.now)
+            (flat_map (λ row. root_targets profile at book (lease row.now)) stored.leases.now)
             (places (λ row. ingest_holds_itself at row.now) 0 ingests)
             (places (λ row. is_marked_root row.now.labels) (length ingests) contents)
             (places (λ row. is_marked_root row.now.labels) (length ingests + 2 * length contents) snaps)

@@ -14,7 +14,7 @@ records_of rows = record {
     ingests = map (λ row. row.now) rows.ingests.now;
     snapshots = map (λ row. row.now) rows.snapshots.now;
   };
-  leases = rows.leases.now;
+  leases = map (λ row. row.now) rows.leases.now;
   next = 1;
   profile = rows.profile;
 }

@@ -32,10 +32,14 @@ fn push_lease(row: &Lease, names: &mut Vec<(ShortName, Name)>) -> Result<(), Fau
 }
 
 // The leases whose expiry can't be read.
-pub(crate) fn ignored_leases(alloc: Global, rows: &[Lease]) -> Result<Vec<(ShortName, Name)>, Fault>
+pub(crate) fn ignored_leases(
+    alloc: Global,
+    rows: &[&Lease],
+) -> Result<Vec<(ShortName, Name)>, Fault>
     ensures fault { Refuses result None }
     ensures ok { IfOk result (λ names. names.items ≡ flat_map
-        (λ row. if is_unreadable row.labels then (row.ns, row.id) ∷ [] else []) rows.now) }
+        (λ row. if is_unreadable row.now.labels then (row.now.ns, row.now.id) ∷ [] else [])
+        rows.now) }
 {
     let mut names = Vec::new(alloc);
     for row in rows {

@@ -1,5 +1,5 @@
 //! Where the walks begin.
-ghost use Rattle.std.specs.Prelude.{◌≡◌, ◌+◌, ◌≤◌, ◌++◌, ◌∷◌, [], length, if◌then◌else◌, OnOk, None, IfOk};
+ghost use Rattle.std.specs.Prelude.{◌≡◌, ◌+◌, ◌≤◌, ◌++◌, ◌∷◌, [], map, length, if◌then◌else◌, OnOk, None, IfOk};
 ghost use Rattle.std.specs.List.{flat_map};
 ghost use Rattle.meta_types.specs.Faults.{Refuses};
 ghost use Rattle.meta_types.specs.Labels.{is_marked_root};
@@ -162,12 +162,12 @@ fn push_resources(
     book: &NodeBook,
     ns: &ShortName,
     mode: Mode,
-    resources: &[Resource],
+    resources: &[&Resource],
     roots: &mut Vec<u32>,
 ) -> Result<(), Fault>
     ensures fault { Refuses result None }
-    ensures ok { OnOk result (roots.new.items
-        ≡ roots.old.items ++ numbers_in book.now (resource_targets ns.now mode resources.now)) }
+    ensures ok { OnOk result (roots.new.items ≡ roots.old.items ++ numbers_in book.now
+        (resource_targets ns.now mode (map (λ resource. resource.now) resources.now))) }
 {
     for resource in resources {
         push_resource(book, ns, mode, resource, roots)?;
@@ -186,6 +186,7 @@ fn lease_mode(row: &Lease) -> Mode
 }
 
 fn push_lease_root(
+    alloc: Global,
     book: &NodeBook,
     row: &Lease,
     profile: u8,
@@ -199,7 +200,8 @@ fn push_lease_root(
     // The profile is named by the clauses alone.
     let _profile = profile;
     if lease_stays(row, at) {
-        push_resources(book, row.ns(), lease_mode(row), row.resources(), roots)
+        let resources = row.resources(alloc)?;
+        push_resources(book, row.ns(), lease_mode(row), &resources, roots)
     } else {
         Ok(())
     }
@@ -207,18 +209,19 @@ fn push_lease_root(
 
 // Adds the numbers of what leases hold that haven't ended.
 pub(crate) fn push_leases(
+    alloc: Global,
     book: &NodeBook,
-    rows: &[Lease],
+    rows: &[&Lease],
     profile: u8,
     at: Instant,
     roots: &mut Vec<u32>,
 ) -> Result<(), Fault>
     ensures fault { Refuses result None }
     ensures ok { OnOk result (roots.new.items ≡ roots.old.items
-        ++ flat_map (λ row. root_targets profile at.0 book.now (lease row)) rows.now) }
+        ++ flat_map (λ row. root_targets profile at.0 book.now (lease row.now)) rows.now) }
 {
     for row in rows {
-        push_lease_root(book, row, profile, at, roots)?;
+        push_lease_root(alloc, book, row, profile, at, roots)?;
     }
     Ok(())
 }

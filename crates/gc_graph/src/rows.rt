@@ -8,7 +8,7 @@ use meta_types::{ContainerRow, ContentRow, ImageRow, IngestRow, SnapRow};
 pub struct StoreRows<'a> {
     pub images: &'a [&'a ImageRow],
     pub containers: &'a [&'a ContainerRow],
-    pub leases: &'a [Lease],
+    pub leases: &'a [&'a Lease],
     pub ingests: &'a [&'a IngestRow],
     pub content: &'a [&'a ContentRow],
     pub snapshots: &'a [&'a SnapRow],

@@ -94,7 +94,7 @@ fn roots_of(
         ≡ flat_map (λ row. root_targets rows.now.profile at.0 book.now (image row.now))
         rows.now.images.now
         ++ flat_map (λ row. targets_in book.now (container row.now)) rows.now.containers.now
-        ++ flat_map (λ row. root_targets rows.now.profile at.0 book.now (lease row))
+        ++ flat_map (λ row. root_targets rows.now.profile at.0 book.now (lease row.now))
         rows.now.leases.now
         ++ places (λ row. ingest_holds_itself at.0 row.now) 0 rows.now.ingests.now
         ++ places (λ row. is_marked_root row.now.labels) (length rows.now.ingests.now)
@@ -105,7 +105,7 @@ fn roots_of(
     let mut roots = Vec::new(alloc);
     push_images(alloc, book, rows.images, rows.profile, at, &mut roots)?;
     push_containers(alloc, book, rows.containers, &mut roots)?;
-    push_leases(book, rows.leases, rows.profile, at, &mut roots)?;
+    push_leases(alloc, book, rows.leases, rows.profile, at, &mut roots)?;
     let content = rows.ingests.len() as u32;
     let snapshots = content + 2 * (rows.content.len() as u32);
     push_own_ingests(0, rows.ingests, at, &mut roots)?;

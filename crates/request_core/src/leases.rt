@@ -132,9 +132,9 @@ impl<S: SnapBackend, B: BlobBackend, I: IngestBackend> State<S, B, I> {
         ensures { AnswersExactly self.old (R.LeaseResources ns.now id.now) result self.new }
     {
         let (ns, id) = read_object(alloc, ns, id)?;
-        match self.records.leases.resources(&ns, &id) {
+        match self.records.leases.resources(alloc, &ns, &id)? {
             Some(resources) => {
-                let held = copies(alloc, resources)?;
+                let held = copies(alloc, &resources)?;
                 Ok(Reply::Resources(Holdings::new(held)))
             }
             None => Err(Refusal::By(Fault::NotFound)),

@@ -1,5 +1,5 @@
 //! Lists that replies show.
-ghost use Rattle.std.specs.Prelude.{◌≡◌, None, IfOk};
+ghost use Rattle.std.specs.Prelude.{◌≡◌, map, None, IfOk};
 ghost use Rattle.meta_types.specs.Faults.{Refuses};
 
 use meta_types::{Fault, Listing, Name, Resource};
@@ -18,9 +18,9 @@ pub(crate) fn listing_of(alloc: Global, names: &[Name]) -> Result<Listing, Fault
 }
 
 /// The same resources once more.
-pub(crate) fn copies(alloc: Global, resources: &[Resource]) -> Result<Vec<Resource>, Fault>
+pub(crate) fn copies(alloc: Global, resources: &[&Resource]) -> Result<Vec<Resource>, Fault>
     ensures fault { Refuses result None }
-    ensures ok { IfOk result (λ copies. copies.items ≡ resources.now) }
+    ensures ok { IfOk result (λ copies. copies.items ≡ map (λ resource. resource.now) resources.now) }
 {
     let mut copies = Vec::new(alloc);
     for resource in resources {

@@ -47,7 +47,7 @@ impl<S: SnapBackend, B: BlobBackend, I: IngestBackend> State<S, B, I> {
             && counts.content == 0
             && counts.ingests == 0
             && counts.snapshots == 0
-            && self.records.leases.leases().is_empty()
+            && self.records.leases.len() == 0
     }
 
     pub(crate) fn profile(&mut self, v: &u64) -> Result<Reply, Refusal>

@@ -4,6 +4,7 @@ use Rattle.meta_types.specs.declared.rows.ContainerRow.{ContainerRow}
 use Rattle.meta_types.specs.declared.rows.ContentRow.{ContentRow}
 use Rattle.meta_types.specs.declared.rows.IngestRow.{IngestRow}
 use Rattle.meta_types.specs.declared.rows.SnapRow.{SnapRow}
+use Rattle.meta_types.specs.Rows.{LeaseRow}
 use Rattle.collecting.specs.Stores.{records_in}
 use Rattle.collecting.proofs.Bridges.{plan_as}
 use Rattle.collecting.proofs.planning.plan_store.Goals as goal
@@ -14,10 +15,10 @@ returns-clause-ok g c =
     (record {
       images = ap (map (λ (row : Bor ImageRow). row.now)) c.deref.ensures.value ∙ c.in_ok-images.ensures.ok;
       containers = ap (map (λ (row : Bor ContainerRow). row.now)) c.deref-2.ensures.value ∙ c.in_ok-containers.ensures.ok;
-      content = ap (map (λ (row : Bor ContentRow). row.now)) c.deref-4.ensures.value ∙ c.in_ok-content.ensures.ok;
-      ingests = ap (map (λ (row : Bor IngestRow). row.now)) c.deref-3.ensures.value ∙ c.in_ok-ingests.ensures.ok;
-      snapshots = ap (map (λ (row : Bor SnapRow). row.now)) c.deref-5.ensures.value ∙ c.in_ok-snapshots.ensures.ok;
-      leases = c.leases.ensures.leases;
+      content = ap (map (λ (row : Bor ContentRow). row.now)) c.deref-5.ensures.value ∙ c.in_ok-content.ensures.ok;
+      ingests = ap (map (λ (row : Bor IngestRow). row.now)) c.deref-4.ensures.value ∙ c.in_ok-ingests.ensures.ok;
+      snapshots = ap (map (λ (row : Bor SnapRow). row.now)) c.deref-6.ensures.value ∙ c.in_ok-snapshots.ensures.ok;
+      leases = ap (map (λ (row : Bor LeaseRow). row.now)) c.deref-3.ensures.value ∙ c.in_ok-leases.ensures.ok;
       profile = refl;
     })
     c.count_ns-namespaces.ensures

@@ -6,4 +6,4 @@ use Rattle.gc_graph.proofs.ignored.ignored_leases.Given as goal
 -- the names of the rows so far are there
 abbrev pub invariant-loop-row : goal.invariant-loop-row
 invariant-loop-row l = l.names.items
-    ≡ flat_map (λ row. if is_unreadable row.labels then (row.ns, row.id) ∷ [] else []) (take l.row-index l.rows)
+    ≡ flat_map (λ row. if is_unreadable row.now.labels then (row.now.ns, row.now.id) ∷ [] else []) (take l.row-index l.rows)

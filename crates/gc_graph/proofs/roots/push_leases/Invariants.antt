@@ -6,4 +6,4 @@ use Rattle.gc_graph.proofs.roots.push_leases.Given as goal
 
 -- what the rows so far give is there
 abbrev pub invariant-loop-row : goal.invariant-loop-row
-invariant-loop-row l = l.roots.items ≡ l.fn.roots.items ++ flat_map (λ row. root_targets l.profile l.at.0 l.book (lease row)) (take l.row-index l.rows)
+invariant-loop-row l = l.roots.items ≡ l.fn.roots.items ++ flat_map (λ row. root_targets l.profile l.at.0 l.book (lease row.now)) (take l.row-index l.rows)

@@ -4,12 +4,12 @@ use Rattle.meta_types.specs.Rows.{LeaseRow}
 use Rattle.meta_types.specs.Labels.{is_unreadable}
 use Rattle.meta_types.specs.Paths.{images_expire}
 use Rattle.meta_types.specs.declared.rows.ImageRow.{ImageRow}
-use Rattle.gc_graph.proofs.Places.{held_names, held_names_of}
+use Rattle.gc_graph.proofs.Places.{held_names_of}
 use Rattle.gc_graph.proofs.whole.ignored_of.Goals as goal
 
 pub returns-clause-leases : goal.returns-clause-leases
 returns-clause-leases c = c.in_ok-ignored.ensures.ok
-    ∙ held_names (λ (row : LeaseRow). is_unreadable row.labels) (λ row. (row.ns, row.id)) c.args.rows.now.leases.now
+    ∙ held_names_of (λ (row : Bor LeaseRow). row.now) (λ (row : LeaseRow). is_unreadable row.labels) (λ row. (row.ns, row.id)) c.args.rows.now.leases.now
 
 pub returns-clause-images : goal.returns-clause-images
 returns-clause-images c = c.in_ok-ignored_images.ensures.ok
