@@ -6,7 +6,7 @@ ghost use Rattle.meta_types.specs.Labels.{put_label, takes_label};
 ghost use Rattle.meta_types.specs.Faults.{Refuses, unless};
 ghost use Rattle.meta_types.specs.declared.fault.Fault.TheVariants.{InvalidArgument};
 
-use arrival_table::{NamespaceRow, Row, Table, in_key_order};
+use arrival_table::{GroupedRow, Row, Table, in_key_order};
 use meta_types::{Fault, Labels, Name, Resource, ShortName};
 use std::alloc::Global;
 use std::marker::Model;
@@ -147,14 +147,14 @@ impl Row<Name> for Lease {
     }
 }
 
-impl NamespaceRow<Name> for Lease {
-    ghost ns_of = { λ row. row.ns };
+impl GroupedRow<Name> for Lease {
+    ghost group_of = { λ row. row.ns };
 
-    fn ns(&self) -> &ShortName {
+    fn group(&self) -> &ShortName {
         &self.ns
     }
 
-    fn share_ns(&mut self, ns: ShortName) {
-        self.ns = ns;
+    fn share_group(&mut self, group: ShortName) {
+        self.ns = group;
     }
 }
