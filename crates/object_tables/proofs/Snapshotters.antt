@@ -1,5 +1,5 @@
 -- The snapshotters of rows, one row at a time.
-use Rattle.std.proofs.Common.{◌≡◌, ◌++◌, ◌+◌, ◌<◌, ℕ, take, length, get_or, Bool, true, false, List, [], ◌∷◌, Option, None, Some, map, refl, ap, sym, ◌∙◌, inl, inr}
+use Rattle.std.proofs.Common.{Bor, ℕ, zero, suc, ◌≡◌, ◌++◌, ◌+◌, ◌<◌, take, length, get_or, Bool, true, false, List, [], ◌∷◌, Option, None, Some, map, refl, ap, sym, ◌∙◌, inl, inr, subst}
 use Rattle.std.specs.Prelude.{bytes_eq, not, if◌then◌else◌}
 use Rattle.std.specs.List.{dedup, dedup_from, last_or}
 use Rattle.std.specs.Option.{option_map_or}
@@ -8,6 +8,8 @@ use Rattle.std.proofs.lemmas.List.{take_more}
 use mathlib.Core.List.{map-append}
 use Rattle.meta_types.specs.Text.{Text}
 use Rattle.meta_types.specs.declared.rows.SnapRow.{SnapRow}
+use Rattle.arrival_table.proofs.ListLoops.{at_map}
+use Rattle.arrival_table.proofs.PlacesSorted.{length_map}
 
 module _ {X : Type 0} (same : X → X → Bool) where
   -- one item in front doesn't change which is the last
@@ -70,3 +72,27 @@ is_listed rows i row lt is next = listed_more rows i row lt is ∙ ap (λ b. if 
 pub is_passed : (rows : List SnapRow) (i : ℕ) (row : SnapRow) → i < length rows → row ≡ get_or rows i row → is_next (take i rows) row ≡ false
     → snapshotters_of (take (i + 1) rows) ≡ snapshotters_of (take i rows)
 is_passed rows i row lt is next = listed_more rows i row lt is ∙ ap (λ b. if b then snapshotters_of (take i rows) ++ row.key.snapshotter ∷ [] else snapshotters_of (take i rows)) next
+
+-- ---- rows that are borrowed
+
+mapped_take : {X Y : Type 0} (f : X → Y) (i : ℕ) (xs : List X) → map f (take i xs) ≡ take i (map f xs)
+mapped_take f zero xs = refl
+mapped_take f (suc i) [] = refl
+mapped_take f (suc i) (x ∷ xs) = ap (λ rest. f x ∷ rest) (mapped_take f i xs)
+
+module _ (rows : List (Bor SnapRow)) (i : ℕ) (row : Bor SnapRow) (lt : i < length rows) (is : row ≡ get_or rows i row) where
+  abbrev lent : Bor SnapRow → SnapRow
+  lent r = r.now
+
+  within : i < length (map lent rows)
+  within = subst (λ n. i < n) (sym (length_map lent rows)) lt
+
+  pub lent_listed : is_next (map lent (take i rows)) row.now ≡ true → snapshotters_of (map lent (take (i + 1) rows)) ≡ snapshotters_of (map lent (take i rows)) ++ row.now.key.snapshotter ∷ []
+  lent_listed next = ap snapshotters_of (mapped_take lent (i + 1) rows)
+      ∙ is_listed (map lent rows) i row.now within (at_map lent rows i row is) (ap (λ l. is_next l row.now) (sym (mapped_take lent i rows)) ∙ next)
+      ∙ ap (λ l. snapshotters_of l ++ row.now.key.snapshotter ∷ []) (sym (mapped_take lent i rows))
+
+  pub lent_passed : is_next (map lent (take i rows)) row.now ≡ false → snapshotters_of (map lent (take (i + 1) rows)) ≡ snapshotters_of (map lent (take i rows))
+  lent_passed next = ap snapshotters_of (mapped_take lent (i + 1) rows)
+      ∙ is_passed (map lent rows) i row.now within (at_map lent rows i row is) (ap (λ l. is_next l row.now) (sym (mapped_take lent i rows)) ∙ next)
+      ∙ ap snapshotters_of (sym (mapped_take lent i rows))

@@ -11,7 +11,9 @@ ghost use Rattle.object_tables.specs.Calls.{children_of, labelling_fault, kept};
 ghost use Rattle.object_tables.specs.Children.{child_key, child_of, key_of_child};
 
 use crate::keyed::{Keyed, order_first, order_texts};
+use crate::stored::relabel_snap;
 use crate::table::Table;
+use arrival_table::BySnapshotter;
 use meta_types::{Fault, Listing, Name, ShortName, SnapKey, SnapRow};
 use std::alloc::Global;
 use std::cmp::Ordering;
@@ -91,7 +93,7 @@ impl Keyed for ChildRow {
 /// The snapshots, with an index from each parent to its children.
 #[derive(Drop)]
 pub(crate) struct Snapshots {
-    rows: Table<SnapRow>,
+    rows: BySnapshotter<Name, SnapRow>,
     index: Table<ChildRow>,
 }
 
@@ -112,7 +114,7 @@ impl Snapshots {
         ensures { result ≡ [] }
     {
         Snapshots {
-            rows: Table::new(alloc),
+            rows: BySnapshotter::new(alloc),
             index: Table::new(alloc),
         }
     }
@@ -127,41 +129,42 @@ impl Snapshots {
     }
 
     /// The rows themselves, for what needs no index.
-    pub(crate) fn table(&self) -> &Table<SnapRow>
+    pub(crate) fn table(&self) -> &BySnapshotter<Name, SnapRow>
         ensures { result.now ≡ self.now }
     {
         &self.rows
     }
 
     /// Where memory is wanting, the row is taken out again.
-    pub(crate) fn add(&mut self, row: SnapRow) -> Result<(), Fault>
+    pub(crate) fn add(&mut self, alloc: Global, row: SnapRow) -> Result<(), Fault>
         requires { has_row snap_key (snap_key row) self.old ≡ false }
         ensures fault { Refuses result None }
         ensures ok { OnOk result (self.new ≡ add_row snap_key row self.old) }
         ensures err { OnErr result (self.new ≡ self.old) }
     {
         let Some(child) = child_of(&row)? else {
-            return self.rows.add(row);
+            return self.rows.add(alloc, row);
         };
         let key = row.key.copy()?;
-        self.rows.add(row)?;
+        self.rows.add(alloc, row)?;
         match self.index.add(child) {
             Ok(()) => Ok(()),
             Err(fault) => {
-                self.rows
-                    .remove(&[key.ns.text(), key.snapshotter.text(), key.name.text()]);
+                self.rows.remove(&key.ns, &key.snapshotter, &key.name);
                 Err(fault)
             }
         }
     }
 
-    pub(crate) fn remove(&mut self, key: &[&str]) -> bool
-        ensures found { result ≡ has_row snap_key (map (λ s. s.now) key.now) self.old }
-        ensures left { self.new ≡ remove_row snap_key (map (λ s. s.now) key.now) self.old }
+    pub(crate) fn remove(&mut self, key: &SnapKey) -> bool
+        ensures found { result ≡ has_row snap_key (key.now.ns ∷ key.now.snapshotter
+            ∷ key.now.name ∷ []) self.old }
+        ensures left { self.new ≡ remove_row snap_key (key.now.ns ∷ key.now.snapshotter
+            ∷ key.now.name ∷ []) self.old }
         ensures same { OnFalse result (self.new ≡ self.old) }
     {
-        let _ = self.rows.rows();
-        let Some(row) = self.rows.take(key) else {
+        let _ = self.rows.len();
+        let Some(row) = self.rows.take(&key.ns, &key.snapshotter, &key.name) else {
             return false;
         };
         if let Some(parent) = &row.parent {
@@ -178,17 +181,18 @@ impl Snapshots {
     pub(crate) fn relabel(
         &mut self,
         alloc: Global,
-        at: &[&str],
+        at: &SnapKey,
         key: &str,
         value: &str,
     ) -> Result<(), Fault>
         ensures fault { Refuses result (labelling_fault (λ row. row.labels) key.now value.now
-            (row_at snap_key (map (λ s. s.now) at.now) self.old)) }
-        ensures ok { OnOk result (self.new ≡ change_row snap_key (map (λ s. s.now) at.now)
+            (row_at snap_key (at.now.ns ∷ at.now.snapshotter ∷ at.now.name ∷ []) self.old)) }
+        ensures ok { OnOk result (self.new ≡ change_row snap_key (at.now.ns
+            ∷ at.now.snapshotter ∷ at.now.name ∷ [])
             (λ row. record row { labels = put_label key.now value.now row.labels }) self.old) }
         ensures err { OnErr result (self.new ≡ self.old) }
     {
-        self.rows.relabel(alloc, at, key, value)
+        relabel_snap(&mut self.rows, alloc, at, key, value)
     }
 
     /// Leaves the rows whose places are marked.
@@ -196,7 +200,7 @@ impl Snapshots {
         requires { length keep.now ≡ length self.old }
         ensures { self.new ≡ kept keep.now self.old }
     {
-        let _ = self.rows.rows();
+        let _ = self.rows.len();
         self.rows.retain(keep);
         self.index.retain_children(&self.rows);
     }
@@ -205,7 +209,7 @@ impl Snapshots {
         ensures { result ≡ list_any (is_child_of key.now.ns key.now.snapshotter key.now.name)
             self.now }
     {
-        let _ = self.rows.rows();
+        let _ = self.rows.len();
         !self.index.under(key).is_empty()
     }
 
@@ -215,7 +219,7 @@ impl Snapshots {
         ensures ok { IfOk result (λ keys. keys.items
             ≡ children_of key.now.ns key.now.snapshotter key.now.name self.now) }
     {
-        let _ = self.rows.rows();
+        let _ = self.rows.len();
         keys_of(self.index.under(key), alloc)
     }
 }

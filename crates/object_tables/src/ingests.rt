@@ -10,6 +10,12 @@ use crate::tables::Tables;
 use meta_types::{Fault, IngestRow, Name, ShortName};
 use std::alloc::Global;
 
+/// Whether an ingest's backend number is below this one.
+#[derive(Drop)]
+pub(crate) struct Below {
+    pub(crate) number: u64,
+}
+
 impl Tables {
     /// The row of an ingest.
     pub fn get_ingest(&self, ns: &ShortName, name: &Name) -> Option<&IngestRow>

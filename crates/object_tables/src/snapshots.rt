@@ -1,5 +1,5 @@
 //! Snapshots, each over a committed parent or none.
-ghost use Rattle.std.specs.Prelude.{◌≡◌, ◌∷◌, [], map, false, None, IfOk, OnOk, OnErr, option_copied, option_map, length, IsTrue, bytes_eq, not, filter};
+ghost use Rattle.std.specs.Prelude.{◌≡◌, ◌∷◌, [], map, false, None, IfOk, OnOk, OnErr, option_copied, option_map, length, IsTrue, bytes_eq, not, filter, nat_lt};
 ghost use Rattle.std.specs.Option.{option_map_or};
 ghost use Rattle.std.specs.List.{list_any, dedup};
 ghost use Rattle.std.specs.List.Sorted.{IsStrictlySortedBy};
@@ -14,10 +14,20 @@ ghost use Rattle.meta_types.specs.Changes.{has_namespace};
 ghost use Rattle.meta_types.specs.declared.rows.SnapKind.TheVariants.{Committed};
 ghost use Rattle.object_tables.specs.Calls.{adding_snap_fault, removing_snap_fault, committing_fault, without_snap, labelling_fault, missing_fault, children_of, kept, snapshotters_in};
 
-use crate::table::all_names_of;
+use crate::ingests::Below;
+use crate::stored::names_of;
 use crate::tables::Tables;
+use arrival_table::Test;
 use meta_types::{Fault, Labels, Listing, Name, ShortName, SnapKey, SnapKind, SnapRow};
 use std::alloc::Global;
+
+impl Test<SnapRow> for Below {
+    ghost passes = { λ t row. nat_lt row.number t.number };
+
+    fn test(&self, row: &SnapRow) -> bool {
+        row.number < self.number
+    }
+}
 
 impl Tables {
     /// The row of a snapshot.
@@ -27,7 +37,7 @@ impl Tables {
     {
         self.snapshots
             .table()
-            .get(&[key.ns.text(), key.snapshotter.text(), key.name.text()])
+            .get(&key.ns, &key.snapshotter, &key.name)
     }
 
     /// Whether the snapshot is there.
@@ -37,7 +47,7 @@ impl Tables {
     {
         self.snapshots
             .table()
-            .has(&[key.ns.text(), key.snapshotter.text(), key.name.text()])
+            .has(&key.ns, &key.snapshotter, &key.name)
     }
 
     /// The rows, in the order of their keys.
@@ -45,7 +55,7 @@ impl Tables {
         ensures fault { Refuses result None }
         ensures ok { IfOk result (λ rows. map (λ row. row.now) rows.items ≡ self.now.snapshots) }
     {
-        self.snapshots.table().borrowed(alloc)
+        self.snapshots.table().rows(alloc)
     }
 
     /// Puts one label on a snapshot.
@@ -66,17 +76,12 @@ impl Tables {
         }) }
         ensures err { OnErr result (self.new ≡ self.old) }
     {
-        self.snapshots.relabel(
-            alloc,
-            &[at.ns.text(), at.snapshotter.text(), at.name.text()],
-            key,
-            value,
-        )
+        self.snapshots.relabel(alloc, at, key, value)
     }
 
     /// Adds a snapshot's row, with the backend number that the caller chose: one that no ingest and
     /// no other snapshot has, above its parent's.
-    pub fn add_snap(&mut self, _alloc: Global, row: SnapRow) -> Result<(), Fault>
+    pub fn add_snap(&mut self, alloc: Global, row: SnapRow) -> Result<(), Fault>
         requires numbered { adding_snap_fault self.old row ≡ None
             → AreNumbered (add_row snap_key row self.old.snapshots) self.old.ingests }
         ensures fault { Refuses result (adding_snap_fault self.old row) }
@@ -85,7 +90,7 @@ impl Tables {
         ensures err { OnErr result (self.new ≡ self.old) }
     {
         self.check_add(&row)?;
-        self.snapshots.add(row)
+        self.snapshots.add(alloc, row)
     }
 
     /// What would refuse a snapshot, but memory.
@@ -99,8 +104,8 @@ impl Tables {
         }
         let committed = match &row.parent {
             Some(parent) => {
-                let key = &[row.key.ns.text(), row.key.snapshotter.text(), parent.text()];
-                match self.snapshots.table().get(key) {
+                let rows = self.snapshots.table();
+                match rows.get(&row.key.ns, &row.key.snapshotter, parent) {
                     Some(above) => above.kind == SnapKind::Committed,
                     None => return Err(Fault::NotFound),
                 }
@@ -123,8 +128,8 @@ impl Tables {
     {
         match &row.parent {
             Some(parent) => {
-                let key = &[row.key.ns.text(), row.key.snapshotter.text(), parent.text()];
-                match self.snapshots.table().get(key) {
+                let rows = self.snapshots.table();
+                match rows.get(&row.key.ns, &row.key.snapshotter, parent) {
                     Some(above) => Some(above.number),
                     None => None,
                 }
@@ -142,12 +147,12 @@ impl Tables {
             ∷ []) self.now.snapshots ≡ false) }
         ensures order { IsTrue (are_in_order snap_key self.now.snapshots) }
     {
-        let _ = self.snapshots.table().rows();
+        let _ = self.snapshots.table().len();
         let Some(row) = self.get_snap(key) else {
             return Err(Fault::NotFound);
         };
-        let place = &[key.ns.text(), key.snapshotter.text(), name.text()];
-        if self.snapshots.table().has(place) {
+        let rows = self.snapshots.table();
+        if rows.has(&key.ns, &key.snapshotter, name) {
             return Err(Fault::AlreadyExists);
         }
         if row.kind != SnapKind::Active {
@@ -172,15 +177,14 @@ impl Tables {
         if self.snapshots.is_parent(key) {
             return Err(Fault::FailedPrecondition);
         }
-        self.snapshots
-            .remove(&[key.ns.text(), key.snapshotter.text(), key.name.text()]);
+        self.snapshots.remove(key);
         Ok(())
     }
 
     /// Commits an active snapshot under a name that none has, with its parent and its number.
     pub fn commit_snap(
         &mut self,
-        _alloc: Global,
+        alloc: Global,
         key: &SnapKey,
         name: Name,
         labels: Labels,
@@ -198,9 +202,8 @@ impl Tables {
             return Err(Fault::NotFound);
         };
         let row = committed_row(row, key, name, labels)?;
-        self.snapshots.add(row)?;
-        self.snapshots
-            .remove(&[key.ns.text(), key.snapshotter.text(), key.name.text()]);
+        self.snapshots.add(alloc, row)?;
+        self.snapshots.remove(key);
         Ok(())
     }
 
@@ -227,7 +230,8 @@ impl Tables {
         if !self.has_ns(ns) {
             return Err(Fault::NotFound);
         }
-        all_names_of(self.snapshots.table().rows_of(ns, snapshotter), alloc)
+        let rows = self.snapshots.table().rows_of(alloc, ns, snapshotter)?;
+        names_of(alloc, &rows)
     }
 
     /// The snapshotters that have a snapshot in a namespace, each once, by their bytes.
@@ -239,7 +243,8 @@ impl Tables {
         if !self.has_ns(ns) {
             return Err(Fault::NotFound);
         }
-        snapshotters_of(self.snapshots.table().rows_in(ns), alloc)
+        let rows = self.snapshots.table().rows_in(alloc, ns)?;
+        snapshotters_of(alloc, &rows)
     }
 
     /// Leaves the rows whose places are marked, the parent of each with it. It takes no memory.
@@ -252,10 +257,10 @@ impl Tables {
     }
 }
 
-fn snapshotters_of(rows: &[SnapRow], alloc: Global) -> Result<Listing, Fault>
+fn snapshotters_of(alloc: Global, rows: &[&SnapRow]) -> Result<Listing, Fault>
     ensures fault { Refuses result None }
     ensures ok { IfOk result (λ names. names
-        ≡ dedup bytes_eq (map (λ row. row.key.snapshotter) rows.now)) }
+        ≡ dedup bytes_eq (map (λ row. row.key.snapshotter) (map (λ row. row.now) rows.now))) }
 {
     let mut names = Listing::new(alloc);
     let mut last = None;

@@ -1,15 +1,14 @@
 //! Rows whose keys begin alike stand side by side, and are found by halving.
-ghost use Rattle.std.specs.Prelude.{◌≡◌, ◌∷◌, [], ◌&&◌, map, take, length, filter, bytes_eq, IsTrue};
+ghost use Rattle.std.specs.Prelude.{◌≡◌, ◌∷◌, [], map, take, length, filter, bytes_eq, IsTrue};
 ghost use Rattle.std.specs.Cmp.Lexicographic.{slice_cmp};
 ghost use Rattle.std.specs.Ordering.{is_lt, is_le};
 ghost use Rattle.meta_types.specs.Text.{text_cmp};
 ghost use Rattle.meta_types.specs.Keys.{is_key, are_in_order};
-ghost use Rattle.meta_types.specs.Rows.{snap_key};
 ghost use Rattle.object_tables.specs.Children.{child_key, is_under};
 
 use crate::children::ChildRow;
 use crate::keyed::Keyed;
-use meta_types::{ShortName, SnapKey, SnapRow};
+use meta_types::{ShortName, SnapKey};
 
 /// The rows of a namespace.
 pub(crate) fn in_namespace<'a, R: Keyed>(rows: &'a [R], ns: &ShortName) -> &'a [R]
@@ -17,19 +16,6 @@ pub(crate) fn in_namespace<'a, R: Keyed>(rows: &'a [R], ns: &ShortName) -> &'a [
     ensures { result.now ≡ filter (λ row. bytes_eq ns.now (R.ns_of row)) rows.now }
 {
     begin_with(rows, &[ns.text()])
-}
-
-/// The snapshots of a snapshotter in a namespace.
-pub(crate) fn of_snapshotter<'a>(
-    rows: &'a [SnapRow],
-    ns: &ShortName,
-    snapshotter: &ShortName,
-) -> &'a [SnapRow]
-    requires { IsTrue (are_in_order snap_key rows.now) }
-    ensures { result.now ≡ filter (λ row. bytes_eq ns.now row.key.ns
-        && bytes_eq snapshotter.now row.key.snapshotter) rows.now }
-{
-    begin_with(rows, &[ns.text(), snapshotter.text()])
 }
 
 /// The children of a snapshot.

@@ -3,6 +3,7 @@ ghost use Rattle.std.specs.Prelude.{◌≡◌, ◌∷◌, [], ◌++◌, map, Non
 ghost use Rattle.meta_types.specs.Text.{Text};
 ghost use Rattle.meta_types.specs.Keys.{row_at, change_row};
 ghost use Rattle.meta_types.specs.Labels.{LabelList, put_label, takes_label};
+ghost use Rattle.meta_types.specs.Rows.{snap_key};
 ghost use Rattle.meta_types.specs.Faults.{Refuses, unless};
 ghost use Rattle.meta_types.specs.Outcomes.{names_in};
 ghost use Rattle.meta_types.specs.declared.fault.Fault.TheVariants.{InvalidArgument};
@@ -11,8 +12,10 @@ ghost use Rattle.object_tables.specs.Calls.{labelling_fault};
 ghost use Rattle.object_tables.specs.Edits.{Relabels, relabels_keep};
 
 use crate::table::is_label;
-use arrival_table::{ByNamespace, Change, Named, GroupedRow};
-use meta_types::{ContainerRow, ContentRow, Digest, Fault, ImageRow, Listing, Name, ShortName};
+use arrival_table::{ByNamespace, BySnapshotter, Change, GroupedRow, Named};
+use meta_types::{
+    ContainerRow, ContentRow, Digest, Fault, ImageRow, Listing, Name, ShortName, SnapKey, SnapRow,
+};
 use std::alloc::Global;
 
 /// A row with labels, which is listed by its name.
@@ -92,6 +95,34 @@ pub(crate) fn relabel<K: Named, R: StoredRow<K>>(
     }
 }
 
+/// Puts one label on a snapshot.
+pub(crate) fn relabel_snap(
+    table: &mut BySnapshotter<Name, SnapRow>,
+    alloc: Global,
+    at: &SnapKey,
+    key: &str,
+    value: &str,
+) -> Result<(), Fault>
+    ensures fault { Refuses result (labelling_fault (λ row. row.labels) key.now value.now
+        (row_at snap_key (at.now.ns ∷ at.now.snapshotter ∷ at.now.name ∷ []) table.old)) }
+    ensures ok { OnOk result (table.new ≡ change_row snap_key (at.now.ns
+        ∷ at.now.snapshotter ∷ at.now.name ∷ [])
+        (λ row. record row { labels = put_label key.now value.now row.labels }) table.old) }
+    ensures err { OnErr result (table.new ≡ table.old) }
+{
+    match table.change(
+        &at.ns,
+        &at.snapshotter,
+        &at.name,
+        OneLabel { alloc, key, value },
+    ) {
+        Some(Ok(())) => Ok(()),
+        Some(Err(fault)) => Err(fault),
+        None if !is_label(key, value) => Err(Fault::InvalidArgument),
+        None => Err(Fault::NotFound),
+    }
+}
+
 /// The names of a namespace's rows, by their bytes.
 pub(crate) fn names_in<K: Named, R: StoredRow<K>>(
     table: &ByNamespace<K, R>,
@@ -105,7 +136,11 @@ pub(crate) fn names_in<K: Named, R: StoredRow<K>>(
     names_of(alloc, &rows)
 }
 
-fn names_of<K: Named, R: StoredRow<K>>(alloc: Global, rows: &[&R]) -> Result<Listing, Fault>
+/// The names of rows, as they stand.
+pub(crate) fn names_of<K: Named, R: StoredRow<K>>(
+    alloc: Global,
+    rows: &[&R],
+) -> Result<Listing, Fault>
     ensures fault { Refuses result None }
     ensures ok { IfOk result (λ names. names ≡ map R.listed_as (map (λ row. row.now) rows.now)) }
 {
@@ -165,6 +200,26 @@ impl StoredRow<Digest> for ContentRow {
 
     fn list_in(&self, names: &mut Listing) -> Result<(), Fault> {
         names.push_digest(&self.digest)
+    }
+
+    fn put_label(&mut self, alloc: Global, key: &str, value: &str) -> Result<(), Fault> {
+        self.labels.put(alloc, key, value)
+    }
+
+    ghost keeps_name = { λ _ _. refl };
+
+    ghost keeps_group = { λ _ _. refl };
+}
+
+impl StoredRow<Name> for SnapRow {
+    ghost listed_as = { λ row. row.key.name };
+
+    ghost labels_in = { λ row. row.labels };
+
+    ghost with_labels = { λ labels row. record row { labels = labels } };
+
+    fn list_in(&self, names: &mut Listing) -> Result<(), Fault> {
+        names.push_name(&self.key.name)
     }
 
     fn put_label(&mut self, alloc: Global, key: &str, value: &str) -> Result<(), Fault> {

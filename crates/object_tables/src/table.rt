@@ -13,9 +13,10 @@ ghost use Rattle.object_tables.specs.Calls.{labelling_fault, kept};
 ghost use Rattle.object_tables.specs.Children.{is_under};
 
 use crate::children::ChildRow;
-use crate::keyed::{Keyed, Labelled};
-use crate::span::{in_namespace, of_snapshotter, under_parent};
-use meta_types::{Fault, Listing, ShortName, SnapKey, SnapRow};
+use crate::keyed::Keyed;
+use crate::span::{in_namespace, under_parent};
+use arrival_table::BySnapshotter;
+use meta_types::{Fault, Listing, Name, ShortName, SnapKey, SnapRow};
 use std::alloc::Global;
 use std::cmp::Ordering;
 use std::marker::Model;
@@ -117,14 +118,6 @@ impl<R: Keyed> Table<R> {
         all_names_of(in_namespace(&self.rows, ns), alloc)
     }
 
-    /// The rows of a namespace.
-    pub(crate) fn rows_in(&self, ns: &ShortName) -> &[R]
-        ensures rows { result.now ≡ filter (λ row. bytes_eq ns.now (R.ns_of row)) self.now }
-        ensures order { IsTrue (are_in_order R.key_of self.now) }
-    {
-        in_namespace(&self.rows, ns)
-    }
-
     pub(crate) fn all_names(&self, alloc: Global) -> Result<Listing, Fault>
         ensures fault { Refuses result None }
         ensures ok { IfOk result (λ names. names ≡ map R.name_of self.now) }
@@ -148,34 +141,6 @@ impl<R: Keyed> Table<R> {
     }
 }
 
-impl<R: Labelled> Table<R> {
-    pub(crate) fn relabel(
-        &mut self,
-        alloc: Global,
-        at: &[&str],
-        key: &str,
-        value: &str,
-    ) -> Result<(), Fault>
-        ensures fault { Refuses result (labelling_fault R.labels_in key.now value.now
-            (row_at R.key_of (map (λ s. s.now) at.now) self.old)) }
-        ensures ok { OnOk result (self.new ≡ change_row R.key_of (map (λ s. s.now) at.now)
-            (λ row. R.with_labels (put_label key.now value.now (R.labels_in row)) row) self.old) }
-        ensures err { OnErr result (self.new ≡ self.old) }
-    {
-        relabel_row(&mut self.rows, alloc, at, key, value)
-    }
-}
-
-impl Table<SnapRow> {
-    /// The rows of a snapshotter in a namespace.
-    pub(crate) fn rows_of(&self, ns: &ShortName, snapshotter: &ShortName) -> &[SnapRow]
-        ensures { result.now ≡ filter (λ row. bytes_eq ns.now row.key.ns
-            && bytes_eq snapshotter.now row.key.snapshotter) self.now }
-    {
-        of_snapshotter(&self.rows, ns, snapshotter)
-    }
-}
-
 impl Table<ChildRow> {
     /// The rows under a parent.
     pub(crate) fn under(&self, parent: &SnapKey) -> &[ChildRow]
@@ -186,7 +151,7 @@ impl Table<ChildRow> {
     }
 
     /// Leaves the children whose own rows are there.
-    pub(crate) fn retain_children(&mut self, snapshots: &Table<SnapRow>)
+    pub(crate) fn retain_children(&mut self, snapshots: &BySnapshotter<Name, SnapRow>)
         ensures { self.new ≡ filter (λ row. has_row snap_key
             (row.ns ∷ row.snapshotter ∷ row.name ∷ []) snapshots.now) self.old }
     {
@@ -194,7 +159,7 @@ impl Table<ChildRow> {
             |row: &ChildRow| -> bool
                 ensures { result ≡ has_row snap_key (row.now.ns ∷ row.now.snapshotter
                     ∷ row.now.name ∷ []) snapshots.entry.now }
-            { snapshots.has(&[row.ns.text(), row.snapshotter.text(), row.name.text()]) },
+            { snapshots.has(&row.ns, &row.snapshotter, &row.name) },
         );
     }
 }
@@ -323,27 +288,6 @@ fn retain_rows<R: Keyed>(rows: &mut Vec<R>, keep: &[bool])
         }
     }
     rows.truncate(next);
-}
-
-fn relabel_row<R: Labelled>(
-    rows: &mut Vec<R>,
-    alloc: Global,
-    at: &[&str],
-    key: &str,
-    value: &str,
-) -> Result<(), Fault>
-    requires { IsTrue (are_in_order R.key_of rows.old.items) }
-    ensures fault { Refuses result (labelling_fault R.labels_in key.now value.now
-        (row_at R.key_of (map (λ s. s.now) at.now) rows.old.items)) }
-    ensures ok { OnOk result (rows.new.items ≡ change_row R.key_of (map (λ s. s.now) at.now)
-        (λ row. R.with_labels (put_label key.now value.now (R.labels_in row)) row) rows.old.items) }
-    ensures err { OnErr result (rows.new.items ≡ rows.old.items) }
-{
-    match search(rows, at) {
-        Ok(place) => rows[place].relabel(alloc, key, value),
-        Err(_) if !is_label(key, value) => Err(Fault::InvalidArgument),
-        Err(_) => Err(Fault::NotFound),
-    }
 }
 
 pub(crate) fn is_label(key: &str, value: &str) -> bool

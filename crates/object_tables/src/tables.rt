@@ -9,12 +9,12 @@ ghost use Rattle.object_tables.specs.Calls.{AreInOrder, is_above, missing_fault,
 ghost use Rattle.meta_types.specs.Sound.{AreTables};
 
 use crate::children::Snapshots;
+use crate::ingests::Below;
 use crate::stored::names_in;
 use crate::table::Table;
 use arrival_table::ByNamespace;
 use meta_types::{
     ContainerRow, ContentRow, Digest, Fault, ImageRow, IngestRow, Kind, Listing, Name, ShortName,
-    SnapRow,
 };
 use std::alloc::Global;
 use std::marker::Model;
@@ -124,7 +124,7 @@ impl Tables {
             containers: self.containers.len(),
             content: self.content.len(),
             ingests: self.ingests.len() as u128,
-            snapshots: self.snapshots.table().len() as u128,
+            snapshots: self.snapshots.table().len(),
         }
     }
 
@@ -150,7 +150,7 @@ impl Tables {
         ensures above { result ≡ is_above self.now number }
         ensures sound { AreTables self.now }
     {
-        are_snapshots_below(self.snapshots.table().rows(), number)
+        self.snapshots.table().all(&Below { number })
             && are_ingests_below(self.ingests.rows(), number)
     }
 
@@ -226,12 +226,6 @@ impl Tables {
             Kind::Ingest => self.ingests.names(alloc, ns),
         }
     }
-}
-
-fn are_snapshots_below(rows: &[SnapRow], number: u64) -> bool
-    ensures { result ≡ list_all (λ row. nat_lt row.number number) rows.now }
-{
-    rows.iter().all(|row| row.number < number)
 }
 
 fn are_ingests_below(rows: &[IngestRow], number: u64) -> bool

@@ -32,8 +32,7 @@ returns-in-Ok-clause-ok c = c.in_ok-add.ensures.ok ∙ ap (add_row snap_key c.ar
 -- where memory is wanting the row is taken out again
 removed : (c : goal.After-remove) → c.remove.new.self ≡ c.self.inside.rows
 removed c =
-    (rw (c.text.ensures.text, c.text-in-Err.ensures.text, c.text-in-Err-2.ensures.text) at
-    c.remove.ensures.left)
+    c.remove.ensures.left
     ∙ ap (λ (k : SnapKey). remove_row snap_key
     (k.ns ∷ k.snapshotter ∷ k.name ∷ []) c.add-2.new.self) c.in_ok-key.ensures.ok
     ∙ ap (remove_row snap_key (snap_key c.args.row)) c.in_ok-add.ensures.ok

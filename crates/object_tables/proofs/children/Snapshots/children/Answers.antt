@@ -14,6 +14,6 @@ returns-clause-ok c =
     subst (λ (those : List SnapKey). IfOk c.keys_of.result (λ keys. keys.items ≡ those))
     (ap (map key_of_child) (c.under.ensures.rows
     ∙ ap (filter (is_under key.ns key.snapshotter key.name)) c.self.invariant)
-    ∙ index_children key.ns key.snapshotter key.name c.self.inside.rows c.rows.ensures.order
+    ∙ index_children key.ns key.snapshotter key.name c.self.inside.rows c.len.ensures.order
     ∙ ap (λ (rows : List SnapRow). children_of key.ns key.snapshotter key.name rows) c.self.view_is)
     c.keys_of.ensures.ok

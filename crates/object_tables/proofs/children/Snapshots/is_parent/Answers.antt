@@ -15,6 +15,6 @@ returns c =
     ap not c.is_empty.ensures ∙ ap (λ (rows : List ChildRow). not (length rows == 0))
     (c.under.ensures.rows ∙ ap (filter (is_under key.ns key.snapshotter key.name))
     c.self.invariant)
-    ∙ sym (index_any key.ns key.snapshotter key.name c.self.inside.rows c.rows.ensures.order)
+    ∙ sym (index_any key.ns key.snapshotter key.name c.self.inside.rows c.len.ensures.order)
     ∙ ap (λ (rows : List SnapRow). list_any (is_child_of key.ns key.snapshotter key.name) rows)
     c.self.view_is

@@ -43,8 +43,7 @@ returns-clause-ok c =
     (commit_steps key.ns key.snapshotter key.name c.args.name c.args.labels c.self.inside.snapshots
     c.in-Some.row.now c.in_ok-row.row c.add.new.self c.remove.new.self
     c.in_ok-row.ensures.ok c.in_ok-add.ensures.ok
-    (rw (c.text.ensures.text, c.text-2.ensures.text, c.text-3.ensures.text) at
-    c.remove.ensures.left)
+    c.remove.ensures.left
     (subst (λ (t : Tables). IsTrue (are_in_order snap_key t.snapshots)) (sym c.self.view_is)
     c.check_commit.ensures.order)
     (subst (λ (t : Tables). Some c.in-Some.row.now
@@ -74,8 +73,7 @@ invariant_of-self-2 c =
     rw (commit_steps key.ns key.snapshotter key.name c.args.name c.args.labels rows
     c.in-Some.row.now c.in_ok-row.row c.add.new.self c.remove.new.self c.in_ok-row.ensures.ok
     c.in_ok-add.ensures.ok
-    (rw (c.text.ensures.text, c.text-2.ensures.text, c.text-3.ensures.text) at
-    c.remove.ensures.left)
+    c.remove.ensures.left
     c.self.invariant.snapshots.in_order (sym found) free)
     (snap_committed _ c.self.invariant key.ns key.snapshotter key.name c.args.name c.args.labels
     c.in-Some.row.now found

@@ -12,10 +12,10 @@ pub invariant_of-self : goal.invariant_of-self
 invariant_of-self c =
     other_snapshots _ c.self.invariant _
     (labelled snap_key (λ (row : SnapRow). row.key.ns) _ _ _ c.self.invariant.snapshots
-    (c.text.result.now ∷ c.text-2.result.now ∷ c.text-3.result.now ∷ [])
+    (c.args.at.now.ns ∷ c.args.at.now.snapshotter ∷ c.args.at.now.name ∷ [])
     (λ row. record row { labels = put_label c.args.key.now c.args.value.now row.labels })
     (λ row. refl) (λ row. refl) c.relabel.result c.relabel.ensures.ok c.relabel.ensures.err)
     (relabelled _ _ _ c.self.invariant.numbered
-    (c.text.result.now ∷ c.text-2.result.now ∷ c.text-3.result.now ∷ [])
+    (c.args.at.now.ns ∷ c.args.at.now.snapshotter ∷ c.args.at.now.name ∷ [])
     (λ row. put_label c.args.key.now c.args.value.now row.labels) c.relabel.result
     c.relabel.ensures.ok c.relabel.ensures.err)

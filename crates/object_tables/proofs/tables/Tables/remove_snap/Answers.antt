@@ -20,9 +20,8 @@ pub invariant_of-self : goal.invariant_of-self
 invariant_of-self c =
     other_snapshots _ c.self.invariant _
     (removed snap_key (λ (row : SnapRow). row.key.ns) _ _ _ c.self.invariant.snapshots
-    (c.text.result.now ∷ c.text-2.result.now ∷ c.text-3.result.now ∷ [])
+    (c.args.key.now.ns ∷ c.args.key.now.snapshotter ∷ c.args.key.now.name ∷ [])
     c.remove.ensures.left)
     (unstacked _ _ _ c.self.invariant.numbered c.args.key.now.ns c.args.key.now.snapshotter
     c.args.key.now.name (search rules)
-    (rw (c.text.ensures.text, c.text-2.ensures.text, c.text-3.ensures.text) at
-    c.remove.ensures.left))
+    c.remove.ensures.left)
