@@ -8,7 +8,6 @@ ghost use Rattle.meta_types.specs.Keys.{is_key, is_before, row_at, has_row, add_
 ghost use Rattle.meta_types.specs.Labels.{is_label, put_label};
 ghost use Rattle.meta_types.specs.Rows.{snap_key};
 ghost use Rattle.meta_types.specs.Faults.{Refuses};
-ghost use Rattle.meta_types.specs.Outcomes.{names_in};
 ghost use Rattle.object_tables.specs.Calls.{labelling_fault, kept};
 ghost use Rattle.object_tables.specs.Children.{is_under};
 
@@ -108,13 +107,6 @@ impl<R: Keyed> Table<R> {
         ensures { result ≡ list_any (λ row. bytes_eq ns.now (R.ns_of row)) self.now }
     {
         !in_namespace(&self.rows, ns).is_empty()
-    }
-
-    pub(crate) fn names(&self, alloc: Global, ns: &ShortName) -> Result<Listing, Fault>
-        ensures fault { Refuses result None }
-        ensures ok { IfOk result (λ names. names ≡ names_in R.ns_of R.name_of ns.now self.now) }
-    {
-        all_names_of(in_namespace(&self.rows, ns), alloc)
     }
 
     /// The rows of a namespace.

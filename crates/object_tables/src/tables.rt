@@ -9,6 +9,7 @@ ghost use Rattle.object_tables.specs.Calls.{AreInOrder, is_above, missing_fault,
 ghost use Rattle.meta_types.specs.Sound.{AreTables};
 
 use crate::children::Snapshots;
+use crate::ingests::Below;
 use crate::stored::names_in;
 use crate::table::Table;
 use arrival_table::ByNamespace;
@@ -26,7 +27,7 @@ pub struct Tables {
     pub(crate) images: ByNamespace<Name, ImageRow>,
     pub(crate) containers: ByNamespace<Name, ContainerRow>,
     pub(crate) content: ByNamespace<Digest, ContentRow>,
-    pub(crate) ingests: Table<IngestRow>,
+    pub(crate) ingests: ByNamespace<Name, IngestRow>,
     pub(crate) snapshots: Snapshots,
 }
 
@@ -83,7 +84,7 @@ impl Tables {
             images: ByNamespace::new(alloc),
             containers: ByNamespace::new(alloc),
             content: ByNamespace::new(alloc),
-            ingests: Table::new(alloc),
+            ingests: ByNamespace::new(alloc),
             snapshots: Snapshots::new(alloc),
         }
     }
@@ -123,7 +124,7 @@ impl Tables {
             images: self.images.len(),
             containers: self.containers.len(),
             content: self.content.len(),
-            ingests: self.ingests.len() as u128,
+            ingests: self.ingests.len(),
             snapshots: self.snapshots.table().len() as u128,
         }
     }
@@ -151,7 +152,7 @@ impl Tables {
         ensures sound { AreTables self.now }
     {
         are_snapshots_below(self.snapshots.table().rows(), number)
-            && are_ingests_below(self.ingests.rows(), number)
+            && self.ingests.all(&Below { number })
     }
 
     /// The namespaces, by their bytes.
@@ -223,18 +224,12 @@ impl Tables {
             Kind::Image => names_in(&self.images, alloc, ns),
             Kind::Container => names_in(&self.containers, alloc, ns),
             Kind::Content => names_in(&self.content, alloc, ns),
-            Kind::Ingest => self.ingests.names(alloc, ns),
+            Kind::Ingest => names_in(&self.ingests, alloc, ns),
         }
     }
 }
 
 fn are_snapshots_below(rows: &[SnapRow], number: u64) -> bool
-    ensures { result ≡ list_all (λ row. nat_lt row.number number) rows.now }
-{
-    rows.iter().all(|row| row.number < number)
-}
-
-fn are_ingests_below(rows: &[IngestRow], number: u64) -> bool
     ensures { result ≡ list_all (λ row. nat_lt row.number number) rows.now }
 {
     rows.iter().all(|row| row.number < number)

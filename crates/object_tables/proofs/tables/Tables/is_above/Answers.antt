@@ -12,5 +12,4 @@ returns-then-are_snapshots_below-clause-above c =
     ap (list_all (λ (row : SnapRow). nat_lt row.number number))
     (sym (c.rows.ensures.rows ∙ c.table.ensures)) ∙ sym c.are_snapshots_below.ensures
     ∙ c.if-are_snapshots_below.true in
-    rw (← c.self.view_is, first, ← c.rows-then-are_snapshots_below.ensures.rows)
-    c.are_ingests_below.ensures
+    rw (← c.self.view_is, first) c.all.ensures
