@@ -3,14 +3,16 @@ use Rattle.std.proofs.Common.{◌≡◌, Bool, false, List, [], ◌∷◌, sym, 
 use Rattle.std.specs.Prelude.{Result, Ok, Err, OnOk, OnErr}
 use Rattle.std.specs.List.{list_any}
 use Rattle.meta_types.specs.Text.{Text}
-use Rattle.meta_types.specs.Keys.{Key, add_row, remove_row, change_row}
+use Rattle.meta_types.specs.Keys.{Key, has_row, add_row, remove_row, change_row}
 use Rattle.meta_types.specs.Labels.{LabelList}
 use Rattle.meta_types.specs.Rows.{ingest_key, snap_key}
 use Rattle.meta_types.specs.SnapshotOps.{is_child_of}
+use Rattle.meta_types.specs.Faults.{Refuses, least_of}
 use Rattle.meta_types.specs.Sound.{AreNumbered}
 use Rattle.meta_types.specs.declared.fault.Fault.{Fault}
 use Rattle.meta_types.specs.declared.rows.IngestRow.{IngestRow}
 use Rattle.meta_types.specs.declared.rows.SnapRow.{SnapRow}
+use Rattle.arrival_table.proofs.Entries.{was_free}
 use Rattle.object_tables.specs.Calls.{kept}
 use Rattle.object_tables.proofs.ParentsKept.{relabel}
 use Rattle.object_tables.proofs.NumbersKept.{numbered_ingest_removed, numbered_snap_removed, numbered_snap_relabelled}
@@ -25,13 +27,16 @@ either P old more new (Err e) p q ok err = subst P (sym err) p
 -- ---- ingests
 
 module _ (snapshots : List SnapRow) (old new : List IngestRow) (s : AreNumbered snapshots old) where
-  -- one more, or as before
-  pub begun_grown : (row : IngestRow) (r : Result (Unit {0}) Fault)
-      → AreNumbered snapshots (add_row ingest_key row old)
+  -- one more, where none has its key, or as before
+  pub begun_new : (row : IngestRow) (r : Result (Unit {0}) Fault)
+      → (has_row ingest_key (ingest_key row) old ≡ false
+      → AreNumbered snapshots (add_row ingest_key row old))
+      → Refuses r (least_of false false (has_row ingest_key (ingest_key row) old) false)
       → OnOk r (new ≡ add_row ingest_key row old) → OnErr r (new ≡ old)
       → AreNumbered snapshots new
-  begun_grown row r more ok err =
-      either (AreNumbered snapshots) old (add_row ingest_key row old) new r s more ok err
+  begun_new row (Ok u) more fault ok err = subst (AreNumbered snapshots) (sym ok)
+      (more (was_free (Ok u) (has_row ingest_key (ingest_key row) old) fault))
+  begun_new row (Err e) more fault ok err = subst (AreNumbered snapshots) (sym err) s
 
   pub begun_removed : (key : Key) → new ≡ remove_row ingest_key key old
       → AreNumbered snapshots new

@@ -46,10 +46,7 @@ impl Tables {
         if !self.has_ns(&row.ns) {
             return Err(Fault::NotFound);
         }
-        if self.has_container(&row.ns, &row.name) {
-            return Err(Fault::AlreadyExists);
-        }
-        self.containers.add(alloc, row)
+        self.containers.add_new(alloc, row)
     }
 
     /// Removes a container's row. It takes no memory.

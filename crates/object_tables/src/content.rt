@@ -46,10 +46,7 @@ impl Tables {
         if !self.has_ns(&row.ns) {
             return Err(Fault::NotFound);
         }
-        if self.has_content(&row.ns, &row.digest) {
-            return Err(Fault::AlreadyExists);
-        }
-        self.content.add(alloc, row)
+        self.content.add_new(alloc, row)
     }
 
     /// Removes a row of content. It takes no memory.

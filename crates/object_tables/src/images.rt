@@ -65,10 +65,7 @@ impl Tables {
         if !self.has_ns(&row.ns) {
             return Err(Fault::NotFound);
         }
-        if self.has_image(&row.ns, &row.name) {
-            return Err(Fault::AlreadyExists);
-        }
-        self.images.add(alloc, row)
+        self.images.add_new(alloc, row)
     }
 
     /// Removes an image's row. It takes no memory.

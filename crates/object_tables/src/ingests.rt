@@ -1,5 +1,5 @@
 //! Ingests: content that is being written.
-ghost use Rattle.std.specs.Prelude.{◌≡◌, ◌∷◌, [], map, None, IfOk, OnOk, OnErr, option_copied, length};
+ghost use Rattle.std.specs.Prelude.{◌≡◌, ◌∷◌, [], map, None, IfOk, OnOk, OnErr, option_copied, length, nat_lt};
 ghost use Rattle.meta_types.specs.Keys.{row_at, has_row, add_row, remove_row};
 ghost use Rattle.meta_types.specs.Rows.{ingest_key};
 ghost use Rattle.meta_types.specs.Faults.{Refuses, OnlyRefuses};
@@ -7,13 +7,22 @@ ghost use Rattle.meta_types.specs.Sound.{AreNumbered};
 ghost use Rattle.object_tables.specs.Calls.{adding_fault, missing_fault, kept};
 
 use crate::tables::Tables;
+use arrival_table::Test;
 use meta_types::{Fault, IngestRow, Name, ShortName};
 use std::alloc::Global;
 
-/// Whether an ingest's backend number is below this one.
+/// Whether a row's backend number is below this one.
 #[derive(Drop)]
 pub(crate) struct Below {
     pub(crate) number: u64,
+}
+
+impl Test<IngestRow> for Below {
+    ghost passes = { λ t row. nat_lt row.number t.number };
+
+    fn test(&self, row: &IngestRow) -> bool {
+        row.number < self.number
+    }
 }
 
 impl Tables {
@@ -22,14 +31,14 @@ impl Tables {
         ensures { option_copied result ≡ row_at ingest_key (ns.now ∷ name.now
             ∷ []) self.now.ingests }
     {
-        self.ingests.get(&[ns.text(), name.text()])
+        self.ingests.get(ns, name)
     }
 
     /// Whether the ingest is there.
     pub fn has_ingest(&self, ns: &ShortName, name: &Name) -> bool
         ensures { result ≡ has_row ingest_key (ns.now ∷ name.now ∷ []) self.now.ingests }
     {
-        self.ingests.has(&[ns.text(), name.text()])
+        self.ingests.has(ns, name)
     }
 
     /// The rows, in the order of their keys.
@@ -37,12 +46,12 @@ impl Tables {
         ensures fault { Refuses result None }
         ensures ok { IfOk result (λ rows. map (λ row. row.now) rows.items ≡ self.now.ingests) }
     {
-        self.ingests.borrowed(alloc)
+        self.ingests.rows(alloc)
     }
 
     /// Adds an ingest's row, with the backend number that the caller chose: one that no snapshot
     /// and no other ingest has.
-    pub fn add_ingest(&mut self, _alloc: Global, row: IngestRow) -> Result<(), Fault>
+    pub fn add_ingest(&mut self, alloc: Global, row: IngestRow) -> Result<(), Fault>
         requires numbered { adding_fault self.old row.ns (has_row ingest_key (ingest_key row)
             self.old.ingests) ≡ None → AreNumbered self.old.snapshots (add_row ingest_key row
             self.old.ingests) }
@@ -55,10 +64,7 @@ impl Tables {
         if !self.has_ns(&row.ns) {
             return Err(Fault::NotFound);
         }
-        if self.has_ingest(&row.ns, &row.name) {
-            return Err(Fault::AlreadyExists);
-        }
-        self.ingests.add(row)
+        self.ingests.add_new(alloc, row)
     }
 
     /// Removes an ingest's row. It takes no memory.
@@ -71,7 +77,7 @@ impl Tables {
         } }
         ensures err { OnErr result (self.new ≡ self.old) }
     {
-        if self.ingests.remove(&[ns.text(), name.text()]) {
+        if self.ingests.remove(ns, name) {
             Ok(())
         } else {
             Err(Fault::NotFound)

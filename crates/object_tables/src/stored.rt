@@ -1,4 +1,4 @@
-//! Rows with labels, found by their names in tables of hashes.
+//! Rows that are found by their names in tables of hashes: listings, and labels.
 ghost use Rattle.std.specs.Prelude.{◌≡◌, ◌∷◌, [], ◌++◌, map, None, IfOk, OnOk, OnErr, refl};
 ghost use Rattle.meta_types.specs.Text.{Text};
 ghost use Rattle.meta_types.specs.Keys.{row_at, change_row};
@@ -14,25 +14,29 @@ ghost use Rattle.object_tables.specs.Edits.{Relabels, relabels_keep};
 use crate::table::is_label;
 use arrival_table::{ByNamespace, BySnapshotter, Change, GroupedRow, Named};
 use meta_types::{
-    ContainerRow, ContentRow, Digest, Fault, ImageRow, Listing, Name, ShortName, SnapKey, SnapRow,
+    ContainerRow, ContentRow, Digest, Fault, ImageRow, IngestRow, Listing, Name, ShortName,
+    SnapKey, SnapRow,
 };
 use std::alloc::Global;
 
-/// A row with labels, which is listed by its name.
-pub(crate) trait StoredRow<K: Named>: GroupedRow<K> {
+/// A row that is listed by its name.
+pub(crate) trait ListedRow<K: Named>: GroupedRow<K> {
     /// The name that the row is listed by.
     ghost listed_as: { Self → Text };
-
-    /// The labels of the row.
-    ghost labels_in: { Self → LabelList };
-
-    /// The row with other labels.
-    ghost with_labels: { LabelList → Self → Self };
 
     /// Adds the row's name to a listing.
     fn list_in(&self, names: &mut Listing) -> Result<(), Fault>
         ensures fault { Refuses result None }
         ensures ok { OnOk result (names.new ≡ names.old ++ listed_as self.now ∷ []) };
+}
+
+/// A row with labels.
+pub(crate) trait StoredRow<K: Named>: GroupedRow<K> {
+    /// The labels of the row.
+    ghost labels_in: { Self → LabelList };
+
+    /// The row with other labels.
+    ghost with_labels: { LabelList → Self → Self };
 
     /// Puts one label.
     fn put_label(&mut self, alloc: Global, key: &str, value: &str) -> Result<(), Fault>
@@ -124,7 +128,7 @@ pub(crate) fn relabel_snap(
 }
 
 /// The names of a namespace's rows, by their bytes.
-pub(crate) fn names_in<K: Named, R: StoredRow<K>>(
+pub(crate) fn names_in<K: Named, R: ListedRow<K>>(
     table: &ByNamespace<K, R>,
     alloc: Global,
     ns: &ShortName,
@@ -137,7 +141,7 @@ pub(crate) fn names_in<K: Named, R: StoredRow<K>>(
 }
 
 /// The names of rows, as they stand.
-pub(crate) fn names_of<K: Named, R: StoredRow<K>>(
+pub(crate) fn names_of<K: Named, R: ListedRow<K>>(
     alloc: Global,
     rows: &[&R],
 ) -> Result<Listing, Fault>
@@ -151,16 +155,18 @@ pub(crate) fn names_of<K: Named, R: StoredRow<K>>(
     Ok(names)
 }
 
-impl StoredRow<Name> for ImageRow {
+impl ListedRow<Name> for ImageRow {
     ghost listed_as = { λ row. row.name };
-
-    ghost labels_in = { λ row. row.labels };
-
-    ghost with_labels = { λ labels row. record row { labels = labels } };
 
     fn list_in(&self, names: &mut Listing) -> Result<(), Fault> {
         names.push_name(&self.name)
     }
+}
+
+impl StoredRow<Name> for ImageRow {
+    ghost labels_in = { λ row. row.labels };
+
+    ghost with_labels = { λ labels row. record row { labels = labels } };
 
     fn put_label(&mut self, alloc: Global, key: &str, value: &str) -> Result<(), Fault> {
         self.labels.put(alloc, key, value)
@@ -169,18 +175,20 @@ impl StoredRow<Name> for ImageRow {
     ghost keeps_name = { λ _ _. refl };
 
     ghost keeps_group = { λ _ _. refl };
+}
+
+impl ListedRow<Name> for ContainerRow {
+    ghost listed_as = { λ row. row.name };
+
+    fn list_in(&self, names: &mut Listing) -> Result<(), Fault> {
+        names.push_name(&self.name)
+    }
 }
 
 impl StoredRow<Name> for ContainerRow {
-    ghost listed_as = { λ row. row.name };
-
     ghost labels_in = { λ row. row.labels };
 
     ghost with_labels = { λ labels row. record row { labels = labels } };
-
-    fn list_in(&self, names: &mut Listing) -> Result<(), Fault> {
-        names.push_name(&self.name)
-    }
 
     fn put_label(&mut self, alloc: Global, key: &str, value: &str) -> Result<(), Fault> {
         self.labels.put(alloc, key, value)
@@ -191,16 +199,18 @@ impl StoredRow<Name> for ContainerRow {
     ghost keeps_group = { λ _ _. refl };
 }
 
-impl StoredRow<Digest> for ContentRow {
+impl ListedRow<Digest> for ContentRow {
     ghost listed_as = { λ row. row.digest };
-
-    ghost labels_in = { λ row. row.labels };
-
-    ghost with_labels = { λ labels row. record row { labels = labels } };
 
     fn list_in(&self, names: &mut Listing) -> Result<(), Fault> {
         names.push_digest(&self.digest)
     }
+}
+
+impl StoredRow<Digest> for ContentRow {
+    ghost labels_in = { λ row. row.labels };
+
+    ghost with_labels = { λ labels row. record row { labels = labels } };
 
     fn put_label(&mut self, alloc: Global, key: &str, value: &str) -> Result<(), Fault> {
         self.labels.put(alloc, key, value)
@@ -211,16 +221,18 @@ impl StoredRow<Digest> for ContentRow {
     ghost keeps_group = { λ _ _. refl };
 }
 
-impl StoredRow<Name> for SnapRow {
+impl ListedRow<Name> for SnapRow {
     ghost listed_as = { λ row. row.key.name };
-
-    ghost labels_in = { λ row. row.labels };
-
-    ghost with_labels = { λ labels row. record row { labels = labels } };
 
     fn list_in(&self, names: &mut Listing) -> Result<(), Fault> {
         names.push_name(&self.key.name)
     }
+}
+
+impl StoredRow<Name> for SnapRow {
+    ghost labels_in = { λ row. row.labels };
+
+    ghost with_labels = { λ labels row. record row { labels = labels } };
 
     fn put_label(&mut self, alloc: Global, key: &str, value: &str) -> Result<(), Fault> {
         self.labels.put(alloc, key, value)
@@ -229,4 +241,12 @@ impl StoredRow<Name> for SnapRow {
     ghost keeps_name = { λ _ _. refl };
 
     ghost keeps_group = { λ _ _. refl };
+}
+
+impl ListedRow<Name> for IngestRow {
+    ghost listed_as = { λ row. row.name };
+
+    fn list_in(&self, names: &mut Listing) -> Result<(), Fault> {
+        names.push_name(&self.name)
+    }
 }

@@ -8,7 +8,6 @@ ghost use Rattle.meta_types.specs.Keys.{is_key, is_before, row_at, has_row, add_
 ghost use Rattle.meta_types.specs.Labels.{is_label, put_label};
 ghost use Rattle.meta_types.specs.Rows.{snap_key};
 ghost use Rattle.meta_types.specs.Faults.{Refuses};
-ghost use Rattle.meta_types.specs.Outcomes.{names_in};
 ghost use Rattle.object_tables.specs.Calls.{labelling_fault, kept};
 ghost use Rattle.object_tables.specs.Children.{is_under};
 
@@ -111,11 +110,12 @@ impl<R: Keyed> Table<R> {
         !in_namespace(&self.rows, ns).is_empty()
     }
 
-    pub(crate) fn names(&self, alloc: Global, ns: &ShortName) -> Result<Listing, Fault>
-        ensures fault { Refuses result None }
-        ensures ok { IfOk result (λ names. names ≡ names_in R.ns_of R.name_of ns.now self.now) }
+    /// The rows of a namespace.
+    pub(crate) fn rows_in(&self, ns: &ShortName) -> &[R]
+        ensures rows { result.now ≡ filter (λ row. bytes_eq ns.now (R.ns_of row)) self.now }
+        ensures order { IsTrue (are_in_order R.key_of self.now) }
     {
-        all_names_of(in_namespace(&self.rows, ns), alloc)
+        in_namespace(&self.rows, ns)
     }
 
     pub(crate) fn all_names(&self, alloc: Global) -> Result<Listing, Fault>

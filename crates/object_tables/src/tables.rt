@@ -1,6 +1,5 @@
 //! The tables: rows of five kinds, and the namespaces that they are in.
-ghost use Rattle.std.specs.Prelude.{◌≡◌, ◌∷◌, [], ◌||◌, not, false, None, IfOk, OnOk, OnErr, length, nat_lt};
-ghost use Rattle.std.specs.List.{list_all};
+ghost use Rattle.std.specs.Prelude.{◌≡◌, ◌∷◌, [], ◌||◌, not, false, None, IfOk, OnOk, OnErr, length};
 ghost use Rattle.meta_types.specs.Keys.{add_row, remove_row};
 ghost use Rattle.meta_types.specs.Rows.{namespace_key};
 ghost use Rattle.meta_types.specs.Changes.{has_namespace, is_in_use};
@@ -26,7 +25,7 @@ pub struct Tables {
     pub(crate) images: ByNamespace<Name, ImageRow>,
     pub(crate) containers: ByNamespace<Name, ContainerRow>,
     pub(crate) content: ByNamespace<Digest, ContentRow>,
-    pub(crate) ingests: Table<IngestRow>,
+    pub(crate) ingests: ByNamespace<Name, IngestRow>,
     pub(crate) snapshots: Snapshots,
 }
 
@@ -83,7 +82,7 @@ impl Tables {
             images: ByNamespace::new(alloc),
             containers: ByNamespace::new(alloc),
             content: ByNamespace::new(alloc),
-            ingests: Table::new(alloc),
+            ingests: ByNamespace::new(alloc),
             snapshots: Snapshots::new(alloc),
         }
     }
@@ -123,7 +122,7 @@ impl Tables {
             images: self.images.len(),
             containers: self.containers.len(),
             content: self.content.len(),
-            ingests: self.ingests.len() as u128,
+            ingests: self.ingests.len(),
             snapshots: self.snapshots.table().len(),
         }
     }
@@ -150,8 +149,7 @@ impl Tables {
         ensures above { result ≡ is_above self.now number }
         ensures sound { AreTables self.now }
     {
-        self.snapshots.table().all(&Below { number })
-            && are_ingests_below(self.ingests.rows(), number)
+        self.snapshots.table().all(&Below { number }) && self.ingests.all(&Below { number })
     }
 
     /// The namespaces, by their bytes.
@@ -223,13 +221,7 @@ impl Tables {
             Kind::Image => names_in(&self.images, alloc, ns),
             Kind::Container => names_in(&self.containers, alloc, ns),
             Kind::Content => names_in(&self.content, alloc, ns),
-            Kind::Ingest => self.ingests.names(alloc, ns),
+            Kind::Ingest => names_in(&self.ingests, alloc, ns),
         }
     }
-}
-
-fn are_ingests_below(rows: &[IngestRow], number: u64) -> bool
-    ensures { result ≡ list_all (λ row. nat_lt row.number number) rows.now }
-{
-    rows.iter().all(|row| row.number < number)
 }

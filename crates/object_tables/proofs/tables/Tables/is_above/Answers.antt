@@ -11,4 +11,4 @@ returns-then-all-clause-above c =
     ≡ true =
     ap (list_all (λ (row : SnapRow). nat_lt row.number number)) (sym c.table.ensures)
     ∙ sym c.all.ensures ∙ c.if-all.true in
-    rw (← c.self.view_is, first, ← c.rows.ensures.rows) c.are_ingests_below.ensures
+    rw (← c.self.view_is, first) c.all-then-all.ensures

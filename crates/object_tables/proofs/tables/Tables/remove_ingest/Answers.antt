@@ -11,7 +11,7 @@ pub invariant_of-self : goal.invariant_of-self
 invariant_of-self c =
     other_ingests _ c.self.invariant _
     (removed ingest_key (λ (row : IngestRow). row.ns) _ _ _ c.self.invariant.ingests
-    (c.text.result.now ∷ c.text-2.result.now ∷ [])
+    (c.args.ns.now ∷ c.args.name.now ∷ [])
     c.remove.ensures.left)
-    (begun_removed _ _ _ c.self.invariant.numbered (c.text.result.now ∷ c.text-2.result.now ∷ [])
+    (begun_removed _ _ _ c.self.invariant.numbered (c.args.ns.now ∷ c.args.name.now ∷ [])
     c.remove.ensures.left)
