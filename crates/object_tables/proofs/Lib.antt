@@ -14,7 +14,6 @@ pub mod OtherTables
 pub mod PairsKept
 pub mod ParentsKept
 pub mod Positions
-pub mod Relabelled
 pub mod Retained
 pub mod RowsAfter
 pub mod RowsKept

@@ -25,16 +25,6 @@ led_by key_of ns_of rest_of leads ns rows =
     (λ row. ap (λ key. is_key (ns ∷ []) (take 1 key)) (leads row)
     ∙ and_true (bytes_eq ns (ns_of row))) rows
 
--- and a snapshot's by the snapshotter too
-pub led_by_both : (ns snapshotter : Text) (rows : List SnapRow)
-    → filter (λ row. is_key (ns ∷ snapshotter ∷ []) (take 2 (snap_key row))) rows ≡ filter
-    (λ row. bytes_eq ns row.key.ns && bytes_eq snapshotter row.key.snapshotter) rows
-led_by_both ns snapshotter rows =
-    filter_agree (λ row. is_key (ns ∷ snapshotter ∷ []) (take 2 (snap_key row)))
-    (λ row. bytes_eq ns row.key.ns && bytes_eq snapshotter row.key.snapshotter)
-    (λ row. ap (λ b. bytes_eq ns row.key.ns && b)
-    (and_true (bytes_eq snapshotter row.key.snapshotter))) rows
-
 three : (a b c : Bool) → (a && (b && (c && true))) ≡ (a && b && c)
 three false b c = refl
 three true false c = refl
