@@ -86,9 +86,9 @@ fn image_mask(
     Ok(mask)
 }
 
-fn lease_mask(alloc: Global, rows: &[Lease], at: Instant) -> Result<Vec<bool>, Fault>
+fn lease_mask(alloc: Global, rows: &[&Lease], at: Instant) -> Result<Vec<bool>, Fault>
     ensures fault { Refuses result None }
-    ensures ok { IfOk result (λ v. v.items ≡ map (lease_stays at.0) rows.now) }
+    ensures ok { IfOk result (λ v. v.items ≡ map (λ row. lease_stays at.0 row.now) rows.now) }
 {
     let mut mask = Vec::with_capacity(alloc, rows.len())?;
     for row in rows {

@@ -53,13 +53,13 @@ fn push_lease(row: &Lease, stays: bool, names: &mut Vec<(ShortName, Name)>) -> R
 
 fn lease_names(
     alloc: Global,
-    rows: &[Lease],
+    rows: &[&Lease],
     mask: &[bool],
 ) -> Result<Vec<(ShortName, Name)>, Fault>
     requires { length mask.now ≡ length rows.now }
     ensures fault { Refuses result None }
     ensures ok { IfOk result (λ names. names.items
-        ≡ map (λ row. (row.ns, row.id)) (gone mask.now rows.now)) }
+        ≡ map (λ row. (row.now.ns, row.now.id)) (gone mask.now rows.now)) }
 {
     let mut names = Vec::new(alloc);
     for (i, row) in rows.iter().enumerate() {
@@ -172,7 +172,7 @@ pub(crate) fn removed_of(
     rows: &StoreRows<'_>,
     masks: &Masks,
 ) -> Result<Removed, Fault>
-    requires { FitRows (records_of rows.now).tables rows.now.leases.now masks.now }
+    requires { FitRows (records_of rows.now).tables (records_of rows.now).leases masks.now }
     ensures fault { Refuses result None }
     ensures ok { IfOk result (λ r. r ≡ gone_names (records_of rows.now) masks.now) }
 {

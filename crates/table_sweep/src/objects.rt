@@ -129,7 +129,7 @@ pub(crate) fn objects_of(
     masks: &Masks,
     back: &BackRows<'_>,
 ) -> Result<Objects, Fault>
-    requires { FitRows (records_of rows.now).tables rows.now.leases.now masks.now }
+    requires { FitRows (records_of rows.now).tables (records_of rows.now).leases masks.now }
     ensures fault { Refuses result None }
     ensures ok { IfOk result (λ objects. objects ≡ removed_objects
         (left_by (records_of rows.now) masks.now) no_objects (lists_of back.now)) }

@@ -132,7 +132,7 @@ fn own_snapshots(owners: &mut Owners, rows: &[&SnapRow], mask: &[bool]) -> Resul
 
 // The objects of the rows that stay.
 pub(crate) fn owners_of(alloc: Global, rows: &StoreRows<'_>, masks: &Masks) -> Result<Owners, Fault>
-    requires { FitRows (records_of rows.now).tables rows.now.leases.now masks.now }
+    requires { FitRows (records_of rows.now).tables (records_of rows.now).leases masks.now }
     ensures fault { Refuses result None }
     ensures ok { IfOk result (λ owners. owners
         ≡ fold put_object (fold put_object (fold put_object []

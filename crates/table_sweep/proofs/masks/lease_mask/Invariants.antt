@@ -4,4 +4,4 @@ use Rattle.table_sweep.proofs.masks.lease_mask.Given as goal
 
 -- the mask tells of the leases so far
 abbrev pub invariant-loop-row : goal.invariant-loop-row
-invariant-loop-row l = l.mask.items ≡ map (lease_stays l.at.0) (take l.row-index l.rows)
+invariant-loop-row l = l.mask.items ≡ map (λ row. lease_stays l.at.0 row.now) (take l.row-index l.rows)

@@ -19,7 +19,8 @@ returns-clause-ok c =
     ∙ ap (λ m. map (λ (row : ImageRow). (row.ns, row.name)) (gone m (map (λ (row : Bor ImageRow). row.now) rows.images.now))) c.deref-2.ensures.value in
     let ingests = c.in_ok-ingests.ensures.ok ∙ names_of (λ (row : Bor IngestRow). row.now) (λ row. (row.ns, row.name)) c.deref-3.result.now rows.ingests.now
     ∙ ap (λ m. map (λ (row : IngestRow). (row.ns, row.name)) (gone m (map (λ (row : Bor IngestRow). row.now) rows.ingests.now))) c.deref-3.ensures.value in
-    let leases = c.in_ok-leases.ensures.ok ∙ ap (λ m. map (λ (row : LeaseRow). (row.ns, row.id)) (gone m rows.leases.now)) c.deref-4.ensures.value in
+    let leases = c.in_ok-leases.ensures.ok ∙ names_of (λ (row : Bor LeaseRow). row.now) (λ row. (row.ns, row.id)) c.deref-4.result.now rows.leases.now
+    ∙ ap (λ m. map (λ (row : LeaseRow). (row.ns, row.id)) (gone m (map (λ (row : Bor LeaseRow). row.now) rows.leases.now))) c.deref-4.ensures.value in
     let snapshots = c.in_ok-snapshots.ensures.ok ∙ names_of (λ (row : Bor SnapRow). row.now) (λ row. (row.key.ns, row.key.snapshotter, row.key.name)) c.deref-5.result.now rows.snapshots.now
     ∙ ap (λ m. map (λ (row : SnapRow). (row.key.ns, row.key.snapshotter, row.key.name)) (gone m (map (λ (row : Bor SnapRow). row.now) rows.snapshots.now))) c.deref-5.ensures.value in
     λ i. record { content = content i; images = images i; ingests = ingests i; leases = leases i; snapshots = snapshots i }
