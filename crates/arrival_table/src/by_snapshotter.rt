@@ -15,8 +15,8 @@ use meta_types::{Fault, ShortName};
 use std::alloc::Global;
 use std::marker::Model;
 
-/// Rows by namespace, snapshotter and name, which contracts see in the order of their keys. A row is
-/// found by a hash of its name.
+/// Rows by namespace, snapshotter and name, which contracts see in the order of their keys. A row
+/// is found by a hash of its name.
 #[derive(Drop)]
 pub struct BySnapshotter<K: Named, R: SnapshotterRow<K>> {
     layers: Vec<Layer<K, R>>,
@@ -59,16 +59,19 @@ impl<K: Named, R: SnapshotterRow<K>> BySnapshotter<K, R> {
     pub fn has(&self, ns: &ShortName, snapshotter: &ShortName, name: &K) -> bool
         ensures there { result ≡ has_row (layered_key K.texts_of R.name_of R.group_of R.ns_of)
             (ns.now ∷ snapshotter.now ∷ K.texts_of name.now) self.now }
-        ensures order { IsTrue (are_in_order (layered_key K.texts_of R.name_of R.group_of R.ns_of) self.now) }
+        ensures order { IsTrue (are_in_order (layered_key K.texts_of R.name_of R.group_of R.ns_of)
+            self.now) }
     {
         layers::has_row(&self.layers, ns, snapshotter, name)
     }
 
     /// The row of a namespace, a snapshotter and a name.
     pub fn get(&self, ns: &ShortName, snapshotter: &ShortName, name: &K) -> Option<&R>
-        ensures row { option_copied result ≡ row_at (layered_key K.texts_of R.name_of R.group_of R.ns_of)
+        ensures row { option_copied result
+            ≡ row_at (layered_key K.texts_of R.name_of R.group_of R.ns_of)
             (ns.now ∷ snapshotter.now ∷ K.texts_of name.now) self.now }
-        ensures order { IsTrue (are_in_order (layered_key K.texts_of R.name_of R.group_of R.ns_of) self.now) }
+        ensures order { IsTrue (are_in_order (layered_key K.texts_of R.name_of R.group_of R.ns_of)
+            self.now) }
     {
         layers::row_in(&self.layers, ns, snapshotter, name)
     }
@@ -103,7 +106,8 @@ impl<K: Named, R: SnapshotterRow<K>> BySnapshotter<K, R> {
         Some(row)
     }
 
-    /// The row of a namespace, a snapshotter and a name goes; says whether it was there. It takes no memory.
+    /// The row of a namespace, a snapshotter and a name goes; says whether it was there. It takes
+    /// no memory.
     pub fn remove(&mut self, ns: &ShortName, snapshotter: &ShortName, name: &K) -> bool
         ensures found { result ≡ has_row (layered_key K.texts_of R.name_of R.group_of R.ns_of)
             (ns.now ∷ snapshotter.now ∷ K.texts_of name.now) self.old }
@@ -117,8 +121,8 @@ impl<K: Named, R: SnapshotterRow<K>> BySnapshotter<K, R> {
         }
     }
 
-    /// Changes the row of a namespace, a snapshotter and a name in its place; nothing is answered where there is
-    /// none. It takes no memory but what the change takes.
+    /// Changes the row of a namespace, a snapshotter and a name in its place; nothing is answered
+    /// where there is none. It takes no memory but what the change takes.
     pub fn change<A, C: Change<K, R, A>>(
         &mut self,
         ns: &ShortName,
@@ -130,11 +134,13 @@ impl<K: Named, R: SnapshotterRow<K>> BySnapshotter<K, R> {
             → C.changes change row answer after → R.group_of after ≡ R.group_of row }
         requires keeps_ns { (row : R) (answer : A) (after : R)
             → C.changes change row answer after → R.ns_of after ≡ R.ns_of row }
-        ensures absent { IfNone result (has_row (layered_key K.texts_of R.name_of R.group_of R.ns_of)
+        ensures absent { IfNone result
+            (has_row (layered_key K.texts_of R.name_of R.group_of R.ns_of)
             (ns.now ∷ snapshotter.now ∷ K.texts_of name.now) self.old ≡ false) }
         ensures same { IfNone result (self.new ≡ self.old) }
         ensures changed { IfSome result (λ answer. (row : R) × (after : R)
-            × C.changes change row answer after × Becomes (layered_key K.texts_of R.name_of R.group_of R.ns_of)
+            × C.changes change row answer after
+            × Becomes (layered_key K.texts_of R.name_of R.group_of R.ns_of)
             (ns.now ∷ snapshotter.now ∷ K.texts_of name.now) row after self.old self.new) }
     {
         layers::change_row(&mut self.layers, ns, snapshotter, name, change)
@@ -182,7 +188,8 @@ impl<K: Named, R: SnapshotterRow<K>> BySnapshotter<K, R> {
     pub fn rows(&self, alloc: Global) -> Result<Vec<&R>, Fault>
         ensures fault { Refuses result None }
         ensures ok { IfOk result (λ list. map (λ row. row.now) list.items ≡ self.now) }
-        ensures order { IsTrue (are_in_order (layered_key K.texts_of R.name_of R.group_of R.ns_of) self.now) }
+        ensures order { IsTrue (are_in_order (layered_key K.texts_of R.name_of R.group_of R.ns_of)
+            self.now) }
     {
         layers::borrow_rows(&self.layers, alloc)
     }

@@ -87,7 +87,8 @@ fn home_of<K: Named, R: GroupedRow<K>>(
     ensures absent { OnErr result ((name : Key) → has_row (full_key K.texts_of R.name_of R.group_of)
         (ns.now ∷ name) (all_rows groups.old.items) ≡ false) }
     ensures same { all_rows groups.new.items ≡ all_rows groups.old.items }
-    ensures groups { AreGroups (full_key K.texts_of R.name_of R.group_of) R.group_of groups.new.items }
+    ensures groups { AreGroups (full_key K.texts_of R.name_of R.group_of) R.group_of
+        groups.new.items }
 {
     match search(groups, ns) {
         Ok(place) => Ok(place),
@@ -113,7 +114,8 @@ pub(crate) fn add_row<K: Named, R: GroupedRow<K>>(
     ensures ok { OnOk result (all_rows groups.new.items
         ≡ add_row (full_key K.texts_of R.name_of R.group_of) row (all_rows groups.old.items)) }
     ensures err { OnErr result (all_rows groups.new.items ≡ all_rows groups.old.items) }
-    ensures groups { AreGroups (full_key K.texts_of R.name_of R.group_of) R.group_of groups.new.items }
+    ensures groups { AreGroups (full_key K.texts_of R.name_of R.group_of) R.group_of
+        groups.new.items }
 {
     let place = home_of(groups, alloc, row.group())?;
     groups[place].add(row)
@@ -132,7 +134,8 @@ pub(crate) fn add_new_row<K: Named, R: GroupedRow<K>>(
     ensures ok { OnOk result (all_rows groups.new.items
         ≡ add_row (full_key K.texts_of R.name_of R.group_of) row (all_rows groups.old.items)) }
     ensures err { OnErr result (all_rows groups.new.items ≡ all_rows groups.old.items) }
-    ensures groups { AreGroups (full_key K.texts_of R.name_of R.group_of) R.group_of groups.new.items }
+    ensures groups { AreGroups (full_key K.texts_of R.name_of R.group_of) R.group_of
+        groups.new.items }
 {
     let place = home_of(groups, alloc, row.group())?;
     groups[place].add_new(row)
@@ -149,7 +152,8 @@ pub(crate) fn take_row<K: Named, R: GroupedRow<K>>(
         (ns.now ∷ K.texts_of name.now) (all_rows groups.old.items) }
     ensures left { all_rows groups.new.items ≡ remove_row (full_key K.texts_of R.name_of R.group_of)
         (ns.now ∷ K.texts_of name.now) (all_rows groups.old.items) }
-    ensures groups { AreGroups (full_key K.texts_of R.name_of R.group_of) R.group_of groups.new.items }
+    ensures groups { AreGroups (full_key K.texts_of R.name_of R.group_of) R.group_of
+        groups.new.items }
 {
     match search(groups, ns) {
         Ok(place) => groups[place].take(name),
@@ -175,7 +179,8 @@ pub(crate) fn change_row<K: Named, R: GroupedRow<K>, A, C: Change<K, R, A>>(
         × C.changes change row answer after × Becomes (full_key K.texts_of R.name_of R.group_of)
         (ns.now ∷ K.texts_of name.now) row after (all_rows groups.old.items)
         (all_rows groups.new.items)) }
-    ensures groups { AreGroups (full_key K.texts_of R.name_of R.group_of) R.group_of groups.new.items }
+    ensures groups { AreGroups (full_key K.texts_of R.name_of R.group_of) R.group_of
+        groups.new.items }
 {
     match search(groups, ns) {
         Ok(place) => groups[place].change(name, change),

@@ -51,14 +51,16 @@ impl<K: Named, R: SnapshotterRow<K>> Layer<K, R> {
 
     pub(crate) fn has(&self, snapshotter: &ShortName, name: &K) -> bool
         ensures { result
-            ≡ has_row (full_key K.texts_of R.name_of R.group_of) (snapshotter.now ∷ K.texts_of name.now) self.now.1 }
+            ≡ has_row (full_key K.texts_of R.name_of R.group_of)
+            (snapshotter.now ∷ K.texts_of name.now) self.now.1 }
     {
         self.rows.has(snapshotter, name)
     }
 
     pub(crate) fn get(&self, snapshotter: &ShortName, name: &K) -> Option<&R>
         ensures { option_copied result
-            ≡ row_at (full_key K.texts_of R.name_of R.group_of) (snapshotter.now ∷ K.texts_of name.now) self.now.1 }
+            ≡ row_at (full_key K.texts_of R.name_of R.group_of)
+            (snapshotter.now ∷ K.texts_of name.now) self.now.1 }
     {
         self.rows.get(snapshotter, name)
     }
@@ -81,7 +83,8 @@ impl<K: Named, R: SnapshotterRow<K>> Layer<K, R> {
     // The row takes the namespace's own text, where that may be shared once more.
     pub(crate) fn add(&mut self, alloc: Global, mut row: R) -> Result<(), Fault>
         requires own { R.ns_of row ≡ self.old.0 }
-        requires free { has_row (full_key K.texts_of R.name_of R.group_of) (full_key K.texts_of R.name_of R.group_of row)
+        requires free { has_row (full_key K.texts_of R.name_of R.group_of)
+            (full_key K.texts_of R.name_of R.group_of row)
             self.old.1 ≡ false }
         ensures fault { Refuses result None }
         ensures ok { OnOk result (self.new
@@ -102,7 +105,8 @@ impl<K: Named, R: SnapshotterRow<K>> Layer<K, R> {
 
     pub(crate) fn take(&mut self, snapshotter: &ShortName, name: &K) -> Option<R>
         ensures row { result
-            ≡ row_at (full_key K.texts_of R.name_of R.group_of) (snapshotter.now ∷ K.texts_of name.now) self.old.1 }
+            ≡ row_at (full_key K.texts_of R.name_of R.group_of)
+            (snapshotter.now ∷ K.texts_of name.now) self.old.1 }
         ensures left { self.new ≡ (
           self.old.0,
           remove_row (full_key K.texts_of R.name_of R.group_of)

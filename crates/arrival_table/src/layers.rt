@@ -84,11 +84,13 @@ fn home_of<K: Named, R: SnapshotterRow<K>>(
     alloc: Global,
     ns: &ShortName,
 ) -> Result<usize, Fault>
-    requires { AreGroups (layered_key K.texts_of R.name_of R.group_of R.ns_of) R.ns_of layers.old.items }
+    requires { AreGroups (layered_key K.texts_of R.name_of R.group_of R.ns_of) R.ns_of
+        layers.old.items }
     ensures fault { Refuses result None }
     ensures home { IfOk result (λ place. IsHome ns.now place layers.new.items) }
     ensures same { all_rows layers.new.items ≡ all_rows layers.old.items }
-    ensures layers { AreGroups (layered_key K.texts_of R.name_of R.group_of R.ns_of) R.ns_of layers.new.items }
+    ensures layers { AreGroups (layered_key K.texts_of R.name_of R.group_of R.ns_of) R.ns_of
+        layers.new.items }
 {
     match search(layers, ns) {
         Ok(place) => Ok(place),
@@ -109,12 +111,15 @@ pub(crate) fn add_row<K: Named, R: SnapshotterRow<K>>(
     requires layers { AreGroups (layered_key K.texts_of R.name_of R.group_of R.ns_of) R.ns_of
         layers.old.items }
     requires free { has_row (layered_key K.texts_of R.name_of R.group_of R.ns_of)
-        (layered_key K.texts_of R.name_of R.group_of R.ns_of row) (all_rows layers.old.items) ≡ false }
+        (layered_key K.texts_of R.name_of R.group_of R.ns_of row) (all_rows layers.old.items)
+        ≡ false }
     ensures fault { Refuses result None }
     ensures ok { OnOk result (all_rows layers.new.items
-        ≡ add_row (layered_key K.texts_of R.name_of R.group_of R.ns_of) row (all_rows layers.old.items)) }
+        ≡ add_row (layered_key K.texts_of R.name_of R.group_of R.ns_of) row
+        (all_rows layers.old.items)) }
     ensures err { OnErr result (all_rows layers.new.items ≡ all_rows layers.old.items) }
-    ensures layers { AreGroups (layered_key K.texts_of R.name_of R.group_of R.ns_of) R.ns_of layers.new.items }
+    ensures layers { AreGroups (layered_key K.texts_of R.name_of R.group_of R.ns_of) R.ns_of
+        layers.new.items }
 {
     let place = home_of(layers, alloc, row.ns())?;
     layers[place].add(alloc, row)
@@ -127,12 +132,15 @@ pub(crate) fn take_row<K: Named, R: SnapshotterRow<K>>(
     snapshotter: &ShortName,
     name: &K,
 ) -> Option<R>
-    requires { AreGroups (layered_key K.texts_of R.name_of R.group_of R.ns_of) R.ns_of layers.old.items }
+    requires { AreGroups (layered_key K.texts_of R.name_of R.group_of R.ns_of) R.ns_of
+        layers.old.items }
     ensures row { result ≡ row_at (layered_key K.texts_of R.name_of R.group_of R.ns_of)
         (ns.now ∷ snapshotter.now ∷ K.texts_of name.now) (all_rows layers.old.items) }
-    ensures left { all_rows layers.new.items ≡ remove_row (layered_key K.texts_of R.name_of R.group_of R.ns_of)
+    ensures left { all_rows layers.new.items
+        ≡ remove_row (layered_key K.texts_of R.name_of R.group_of R.ns_of)
         (ns.now ∷ snapshotter.now ∷ K.texts_of name.now) (all_rows layers.old.items) }
-    ensures layers { AreGroups (layered_key K.texts_of R.name_of R.group_of R.ns_of) R.ns_of layers.new.items }
+    ensures layers { AreGroups (layered_key K.texts_of R.name_of R.group_of R.ns_of) R.ns_of
+        layers.new.items }
 {
     match search(layers, ns) {
         Ok(place) => layers[place].take(snapshotter, name),
@@ -158,10 +166,12 @@ pub(crate) fn change_row<K: Named, R: SnapshotterRow<K>, A, C: Change<K, R, A>>(
         (ns.now ∷ snapshotter.now ∷ K.texts_of name.now) (all_rows layers.old.items) ≡ false) }
     ensures same { IfNone result (all_rows layers.new.items ≡ all_rows layers.old.items) }
     ensures changed { IfSome result (λ answer. (row : R) × (after : R)
-        × C.changes change row answer after × Becomes (layered_key K.texts_of R.name_of R.group_of R.ns_of)
+        × C.changes change row answer after
+        × Becomes (layered_key K.texts_of R.name_of R.group_of R.ns_of)
         (ns.now ∷ snapshotter.now ∷ K.texts_of name.now) row after (all_rows layers.old.items)
         (all_rows layers.new.items)) }
-    ensures layers { AreGroups (layered_key K.texts_of R.name_of R.group_of R.ns_of) R.ns_of layers.new.items }
+    ensures layers { AreGroups (layered_key K.texts_of R.name_of R.group_of R.ns_of) R.ns_of
+        layers.new.items }
 {
     match search(layers, ns) {
         Ok(place) => layers[place].change(snapshotter, name, change),
