@@ -1,5 +1,5 @@
 //! All leases.
-ghost use Rattle.std.specs.Prelude.{◌≡◌, length, ◌++◌, ◌∷◌, [], map, None, option_map, option_copied, OnOk, OnErr, IfOk, IsTrue};
+ghost use Rattle.std.specs.Prelude.{◌≡◌, length, ◌++◌, ◌∷◌, [], map, None, Some, option_map, option_copied, OnOk, OnErr, IfOk, IsTrue};
 ghost use Rattle.meta_types.specs.Keys.{are_in_order, row_at, has_row, add_row, remove_row, change_row};
 ghost use Rattle.meta_types.specs.Labels.{put_label};
 ghost use Rattle.meta_types.specs.Rows.{lease_key};
@@ -79,15 +79,15 @@ impl Leases {
         alloc: Global,
         ns: &ShortName,
         id: &Name,
-    ) -> Result<Option<Vec<&Resource>>, Fault>
-        ensures fault { Refuses result None }
-        ensures ok { IfOk result (λ found.
-            option_map (λ list. map (λ resource. resource.now) list.items) found
+    ) -> Result<Vec<&Resource>, Fault>
+        ensures fault { Refuses result
+            (missing_fault (has_row lease_key (ns.now ∷ id.now ∷ []) self.now)) }
+        ensures ok { IfOk result (λ list. Some (map (λ resource. resource.now) list.items)
             ≡ option_map (λ row. row.resources) (row_at lease_key (ns.now ∷ id.now ∷ []) self.now)) }
     {
         match self.rows.get(ns, id) {
-            Some(lease) => Ok(Some(lease.resources(alloc)?)),
-            None => Ok(None),
+            Some(lease) => Ok(lease.resources(alloc)?),
+            None => Err(Fault::NotFound),
         }
     }
 

@@ -132,12 +132,8 @@ impl<S: SnapBackend, B: BlobBackend, I: IngestBackend> State<S, B, I> {
         ensures { AnswersExactly self.old (R.LeaseResources ns.now id.now) result self.new }
     {
         let (ns, id) = read_object(alloc, ns, id)?;
-        match self.records.leases.resources(alloc, &ns, &id)? {
-            Some(resources) => {
-                let held = copies(alloc, &resources)?;
-                Ok(Reply::Resources(Holdings::new(held)))
-            }
-            None => Err(Refusal::By(Fault::NotFound)),
-        }
+        let resources = self.records.leases.resources(alloc, &ns, &id)?;
+        let held = copies(alloc, &resources)?;
+        Ok(Reply::Resources(Holdings::new(held)))
     }
 }

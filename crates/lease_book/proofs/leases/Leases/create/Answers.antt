@@ -1,7 +1,7 @@
-use Rattle.std.proofs.Common.{◌≡◌, false, [], ◌∷◌, sym, ap, ◌∙◌}
+use Rattle.std.proofs.Common.{◌≡◌, [], ◌∷◌, sym, ◌∙◌}
 use Rattle.std.proofs.lemmas.Result.{on_ok_weaker}
 use Rattle.meta_types.specs.Keys.{has_row, add_row}
-use Rattle.meta_types.specs.Rows.{LeaseRow, lease_key}
+use Rattle.meta_types.specs.Rows.{lease_key}
 use Rattle.lease_book.proofs.leases.Leases.create.Goals as goal
 
 -- no lease has the id

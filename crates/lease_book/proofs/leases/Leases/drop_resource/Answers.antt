@@ -1,6 +1,6 @@
-use Rattle.std.proofs.Common.{◌≡◌, [], ◌∷◌, sym, ap, ◌∙◌}
+use Rattle.std.proofs.Common.{[], ◌∷◌, sym, ap, ◌∙◌}
 use Rattle.meta_types.specs.Keys.{change_row}
-use Rattle.meta_types.specs.Rows.{LeaseRow, lease_key}
+use Rattle.meta_types.specs.Rows.{lease_key}
 use Rattle.meta_types.specs.Resources.{resource_key}
 use Rattle.meta_types.proofs.Puts.{remove_absent}
 use Rattle.arrival_table.proofs.ChangedThere.{became, stayed, nothing_to_change}
