@@ -115,9 +115,11 @@ impl<L: Ledger, S: SnapBackend, B: BlobBackend, I: IngestBackend> Locked<L, S, B
     }
 
     /// Counts a session as opened. One of this store is counted already, so that nothing changes.
+    /// Each caller learns here that the store is sound.
     pub fn admit(&mut self, session: &Session<L>)
-        ensures { self.new
+        ensures opened { self.new
             ≡ record self.old { opened = max self.old.opened (session.now.number + 1) } }
+        ensures sound { IsSound self.new.store.state }
     {
         if self.opened <= session.number {
             self.opened = session.number + 1;
