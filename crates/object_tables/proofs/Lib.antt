@@ -14,7 +14,6 @@ pub mod OtherTables
 pub mod PairsKept
 pub mod ParentsKept
 pub mod Positions
-pub mod Retained
 pub mod RowsAfter
 pub mod RowsKept
 pub mod SideBySide
@@ -23,4 +22,3 @@ pub mod Snapshotters
 pub mod SnapshottersSorted
 pub mod SomeKept
 pub mod SpanRows
-pub mod TablesKept

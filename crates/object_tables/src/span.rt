@@ -8,15 +8,7 @@ ghost use Rattle.object_tables.specs.Children.{child_key, is_under};
 
 use crate::children::ChildRow;
 use crate::keyed::Keyed;
-use meta_types::{ShortName, SnapKey};
-
-/// The rows of a namespace.
-pub(crate) fn in_namespace<'a, R: Keyed>(rows: &'a [R], ns: &ShortName) -> &'a [R]
-    requires { IsTrue (are_in_order R.key_of rows.now) }
-    ensures { result.now ≡ filter (λ row. bytes_eq ns.now (R.ns_of row)) rows.now }
-{
-    begin_with(rows, &[ns.text()])
-}
+use meta_types::SnapKey;
 
 /// The children of a snapshot.
 pub(crate) fn under_parent<'a>(rows: &'a [ChildRow], parent: &SnapKey) -> &'a [ChildRow]

@@ -13,7 +13,7 @@ ghost use Rattle.object_tables.specs.Children.{is_under};
 
 use crate::children::ChildRow;
 use crate::keyed::Keyed;
-use crate::span::{in_namespace, under_parent};
+use crate::span::under_parent;
 use arrival_table::BySnapshotter;
 use meta_types::{Fault, Listing, Name, ShortName, SnapKey, SnapRow};
 use std::alloc::Global;
@@ -46,13 +46,6 @@ impl<R: Keyed> Table<R> {
         }
     }
 
-    pub(crate) fn rows(&self) -> &[R]
-        ensures rows { result.now ≡ self.now }
-        ensures order { IsTrue (are_in_order R.key_of self.now) }
-    {
-        &self.rows
-    }
-
     pub(crate) fn len(&self) -> usize
         ensures { result ≡ length self.now }
     {
@@ -63,12 +56,6 @@ impl<R: Keyed> Table<R> {
         ensures { result ≡ has_row R.key_of (map (λ s. s.now) key.now) self.now }
     {
         search(&self.rows, key).is_ok()
-    }
-
-    pub(crate) fn get(&self, key: &[&str]) -> Option<&R>
-        ensures { option_copied result ≡ row_at R.key_of (map (λ s. s.now) key.now) self.now }
-    {
-        row_in(&self.rows, key)
     }
 
     pub(crate) fn add(&mut self, row: R) -> Result<(), Fault>
@@ -88,14 +75,6 @@ impl<R: Keyed> Table<R> {
         take_row(&mut self.rows, key)
     }
 
-    /// The row of a key goes, to the caller.
-    pub(crate) fn take(&mut self, key: &[&str]) -> Option<R>
-        ensures row { result ≡ row_at R.key_of (map (λ s. s.now) key.now) self.old }
-        ensures left { self.new ≡ remove_row R.key_of (map (λ s. s.now) key.now) self.old }
-    {
-        pull_row(&mut self.rows, key)
-    }
-
     pub(crate) fn copy(&self, alloc: Global) -> Result<Table<R>, Fault>
         ensures fault { Refuses result None }
         ensures ok { IfOk result (λ table. table ≡ self.now) }
@@ -104,40 +83,11 @@ impl<R: Keyed> Table<R> {
         Ok(Table { rows })
     }
 
-    pub(crate) fn any_in(&self, ns: &ShortName) -> bool
-        ensures { result ≡ list_any (λ row. bytes_eq ns.now (R.ns_of row)) self.now }
-    {
-        !in_namespace(&self.rows, ns).is_empty()
-    }
-
-    /// The rows of a namespace.
-    pub(crate) fn rows_in(&self, ns: &ShortName) -> &[R]
-        ensures rows { result.now ≡ filter (λ row. bytes_eq ns.now (R.ns_of row)) self.now }
-        ensures order { IsTrue (are_in_order R.key_of self.now) }
-    {
-        in_namespace(&self.rows, ns)
-    }
-
     pub(crate) fn all_names(&self, alloc: Global) -> Result<Listing, Fault>
         ensures fault { Refuses result None }
         ensures ok { IfOk result (λ names. names ≡ map R.name_of self.now) }
     {
         all_names_of(&self.rows, alloc)
-    }
-
-    pub(crate) fn borrowed(&self, alloc: Global) -> Result<Vec<&R>, Fault>
-        ensures fault { Refuses result None }
-        ensures ok { IfOk result (λ rows. map (λ row. row.now) rows.items ≡ self.now) }
-    {
-        borrow_rows(&self.rows, alloc)
-    }
-
-    /// Leaves the rows whose places are marked.
-    pub(crate) fn retain(&mut self, keep: &[bool])
-        requires { length keep.now ≡ length self.old }
-        ensures { self.new ≡ kept keep.now self.old }
-    {
-        retain_rows(&mut self.rows, keep);
     }
 }
 
@@ -193,16 +143,6 @@ fn gap<R: Keyed>(rows: &[R], row: &R) -> Result<usize, usize>
     )
 }
 
-fn row_in<'a, R: Keyed>(rows: &'a [R], key: &[&str]) -> Option<&'a R>
-    requires { IsTrue (are_in_order R.key_of rows.now) }
-    ensures { option_copied result ≡ row_at R.key_of (map (λ s. s.now) key.now) rows.now }
-{
-    match search(rows, key) {
-        Ok(place) => Some(&rows[place]),
-        Err(_) => None,
-    }
-}
-
 fn insert_row<R: Keyed>(rows: &mut Vec<R>, row: R) -> Result<(), Fault>
     requires order { IsTrue (are_in_order R.key_of rows.old.items) }
     requires free { has_row R.key_of (R.key_of row) rows.old.items ≡ false }
@@ -230,17 +170,6 @@ fn take_row<R: Keyed>(rows: &mut Vec<R>, key: &[&str]) -> bool
     true
 }
 
-fn pull_row<R: Keyed>(rows: &mut Vec<R>, key: &[&str]) -> Option<R>
-    requires { IsTrue (are_in_order R.key_of rows.old.items) }
-    ensures row { result ≡ row_at R.key_of (map (λ s. s.now) key.now) rows.old.items }
-    ensures left { rows.new.items ≡ remove_row R.key_of (map (λ s. s.now) key.now) rows.old.items }
-{
-    let Ok(place) = search(rows, key) else {
-        return None;
-    };
-    Some(rows.remove(place))
-}
-
 fn copy_rows<R: Keyed>(rows: &[R], alloc: Global) -> Result<Vec<R>, Fault>
     ensures fault { Refuses result None }
     ensures ok { IfOk result (λ copies. copies.items ≡ rows.now) }
@@ -253,7 +182,7 @@ fn copy_rows<R: Keyed>(rows: &[R], alloc: Global) -> Result<Vec<R>, Fault>
     Ok(copies)
 }
 
-pub(crate) fn all_names_of<R: Keyed>(rows: &[R], alloc: Global) -> Result<Listing, Fault>
+fn all_names_of<R: Keyed>(rows: &[R], alloc: Global) -> Result<Listing, Fault>
     ensures fault { Refuses result None }
     ensures ok { IfOk result (λ names. names ≡ map R.name_of rows.now) }
 {
@@ -262,32 +191,6 @@ pub(crate) fn all_names_of<R: Keyed>(rows: &[R], alloc: Global) -> Result<Listin
         row.list_in(&mut names)?;
     }
     Ok(names)
-}
-
-fn borrow_rows<'a, R: Keyed>(rows: &'a [R], alloc: Global) -> Result<Vec<&'a R>, Fault>
-    ensures fault { Refuses result None }
-    ensures ok { IfOk result (λ list. map (λ row. row.now) list.items ≡ rows.now) }
-{
-    let mut list = Vec::new(alloc);
-    for row in rows {
-        list.push(row)?;
-    }
-    Ok(list)
-}
-
-// Each row that stays goes to the first place that is free.
-fn retain_rows<R: Keyed>(rows: &mut Vec<R>, keep: &[bool])
-    requires { length keep.now ≡ length rows.old.items }
-    ensures { rows.new.items ≡ kept keep.now rows.old.items }
-{
-    let mut next = 0;
-    for place in 0..keep.len() {
-        if keep[place] {
-            rows.swap(next, place);
-            next += 1;
-        }
-    }
-    rows.truncate(next);
 }
 
 pub(crate) fn is_label(key: &str, value: &str) -> bool
