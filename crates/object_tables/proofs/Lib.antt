@@ -22,3 +22,4 @@ pub mod Snapshotters
 pub mod SnapshottersSorted
 pub mod SomeKept
 pub mod SpanRows
+pub mod TablesKept
