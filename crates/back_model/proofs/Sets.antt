@@ -55,6 +55,16 @@ module _ {K : Type 0} (R : K → K → Ordering) (o : IsTotalOrder R) (k : K) (s
       go Equal is later = let one : same x ≡ true = sym (tied x) ∙ ap is_eq is in rw (is, one) (untouched x is ks (sorted_head R x ks h))
       go Greater is later = let one : same x ≡ false = sym (tied x) ∙ ap is_eq is in rw (is, one) (ap (λ l. x ∷ l) later)
 
+-- what is new wasn't there
+pub was_new : (there new : Bool) → new ≡ not there → new ≡ true → there ≡ false
+was_new true new e h = absurd (cc (sym e ∙ h))
+was_new false new e h = refl
+
+-- what isn't new was there
+pub was_there : (there new : Bool) → new ≡ not there → new ≡ false → there ≡ true
+was_there true new e h = refl
+was_there false new e h = absurd (cc (sym e ∙ h))
+
 -- ---- digests
 
 abbrev stands : Text → Text → Bool

@@ -32,14 +32,17 @@ impl BlobBackend for MemBlobs {
     }
 
     fn make(&mut self, _alloc: Global, digest: &Digest) -> Result<(), MakeFault> {
-        if self.holds(digest) {
-            return Err(MakeFault::Taken);
-        }
-        let Ok(digest) = digest.copy() else {
+        let Ok(copy) = digest.copy() else {
+            if self.holds(digest) {
+                return Err(MakeFault::Taken);
+            }
             return Err(MakeFault::Memory);
         };
-        if self.digests.insert(digest).is_err() {
+        let Ok(is_new) = self.digests.insert(copy) else {
             return Err(MakeFault::Memory);
+        };
+        if !is_new {
+            return Err(MakeFault::Taken);
         }
         Ok(())
     }

@@ -32,11 +32,11 @@ impl IngestBackend for MemIngests {
     }
 
     fn make(&mut self, _alloc: Global, number: u64) -> Result<(), MakeFault> {
-        if self.holds(number) {
-            return Err(MakeFault::Taken);
-        }
-        if self.numbers.insert(number).is_err() {
+        let Ok(is_new) = self.numbers.insert(number) else {
             return Err(MakeFault::Memory);
+        };
+        if !is_new {
+            return Err(MakeFault::Taken);
         }
         Ok(())
     }

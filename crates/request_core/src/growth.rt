@@ -67,14 +67,11 @@ pub(crate) fn make_blob<S: SnapBackend, B: BlobBackend, I: IngestBackend>(
         × (backends.new.ingests ≡ backends.old.ingests) }
     ensures fault { MakesOrFails result (B.fails backends.old.blobs) (B.fails backends.new.blobs) }
 {
-    if backends.blobs().holds(digest) {
-        return Ok(());
-    }
     match backends.blobs_mut().make(alloc, digest) {
-        Ok(()) => Ok(()),
+        Ok(()) | Err(MakeFault::Taken) => Ok(()),
         Err(MakeFault::Device) => Err(Fault::BackendFailed),
         Err(MakeFault::Memory) => Err(Fault::OutOfMemory),
-        Err(MakeFault::Taken | MakeFault::Missing) => unreachable!(),
+        Err(MakeFault::Missing) => unreachable!(),
     }
 }
 
