@@ -1,11 +1,15 @@
 -- Loops over lists of rows, a list a turn.
-use Rattle.std.proofs.Common.{◌≡◌, ℕ, ◌+◌, ◌<◌, ◌≤◌, zero, suc, Bool, true, false, List, [], ◌∷◌, ◌++◌, length, get_or, take, drop, map, refl, sym, ap, ◌∙◌, arith, append_assoc, append-nil, length-append}
-use Rattle.std.specs.Prelude.{slice_set}
+use Rattle.std.proofs.Common.{◌≡◌, ℕ, ◌+◌, ◌<◌, ◌≤◌, zero, suc, Bool, true, false, List, [], ◌∷◌, ◌++◌, length, get_or, take, drop, map, refl, sym, ap, ◌∙◌, subst, arith, append_assoc, append-nil, length-append}
+use Rattle.std.specs.Prelude.{slice_set, not, if◌then◌else◌}
 use Rattle.std.proofs.lemmas.Grind.{common_steps}
-use Rattle.std.proofs.lemmas.List.{take_more, take_more_set, take_all, drop_all}
+use Rattle.std.proofs.lemmas.List.{take_more, take_more_set, take_all, take-map, drop_more, drop_all, drop-map, length-map, get_or_default, get_or-map}
 use Rattle.arrival_table.specs.Arrived.{kept}
+use Rattle.arrival_table.specs.Telling.{gone, all_parted}
 use Rattle.arrival_table.specs.Namespaces.{joined}
 use Rattle.arrival_table.proofs.JoinedLists.{joined_append}
+
+drop_len : (marks : List Bool) (n : ℕ) → n ≤ length marks → length (drop n marks) + n ≡ length marks
+drop_len marks n h = grind (arith, common_steps)
 
 module _ {X : Type 0} where
   -- a list more
@@ -39,9 +43,6 @@ module _ {X : Type 0} where
   module _ (all : List X) (lists : List (List X)) (i : ℕ) (rest : List Bool) (so : Retains all lists i rest) (lt : i < length lists) (old : List X) (is : old ≡ get_or lists i old) where
     parts : joined (drop i lists) ≡ old ++ joined (drop (i + 1) lists)
     parts = ap joined (drop_more lists i old lt) ∙ ap (λ c. c ++ joined (drop (i + 1) lists)) (sym is)
-      where
-        drop_more : (xs : List (List X)) (k : ℕ) (d : List X) → k < length xs → drop k xs ≡ get_or xs k d ∷ drop (k + 1) xs
-        drop_more xs k d h = grind (arith, common_steps)
 
     pub own_within : length old ≤ length rest
     own_within = omega (arith, so.len, ap length parts, length-append old (joined (drop (i + 1) lists)))
@@ -67,14 +68,85 @@ module _ {X : Type 0} where
         drop_after : (xs : List (List X)) (k : ℕ) (y : List X) → drop (k + 1) (slice_set xs k y) ≡ drop (k + 1) xs
         drop_after xs k y = grind (arith, common_steps)
 
-        drop_len : (marks : List Bool) (n : ℕ) → n ≤ length marks → length (drop n marks) + n ≡ length marks
-        drop_len marks n h = grind (arith, common_steps)
-
   pub retains_all : (all : List X) (lists : List (List X)) (i : ℕ) (rest : List Bool) → Retains all lists i rest → length lists ≤ i → joined lists ≡ all
   retains_all all lists i rest so end =
       sym (ap (λ cs. joined cs ++ kept rest (joined (drop i lists))) (take_all i lists end)
       ∙ ap (λ cs. joined lists ++ kept rest (joined cs)) (drop_all i lists end)
       ∙ ap (λ rows. joined lists ++ rows) (none_kept rest) ∙ append-nil (joined lists)) ∙ so.rows
+
+-- ---- rows whose places aren't marked, told of one by one
+
+module _ {P X : Type 0} (parted : P → X → P) where
+  parted_append : (xs ys : List X) (told : P) → all_parted parted (xs ++ ys) told ≡ all_parted parted ys (all_parted parted xs told)
+  parted_append [] ys told = refl
+  parted_append (x ∷ xs) ys told = parted_append xs ys (parted told x)
+
+  -- one row more
+  told_next : (marks : List Bool) (rows : List X) (i : ℕ) (told : P) (d : X) → i < length marks → i < length rows
+      → all_parted parted (gone (drop (suc i) marks) (drop (suc i) rows)) (if get_or marks i false then told else parted told (get_or rows i d)) ≡ all_parted parted (gone (drop i marks) (drop i rows)) told
+  told_next [] rows i told d lm lr = absurd (omega (arith, lm))
+  told_next (m ∷ marks) [] i told d lm lr = absurd (omega (arith, lr))
+  told_next (true ∷ marks) (x ∷ rows) zero told d lm lr = refl
+  told_next (false ∷ marks) (x ∷ rows) zero told d lm lr = refl
+  told_next (m ∷ marks) (x ∷ rows) (suc i) told d lm lr = told_next marks rows i told d (omega (arith, lm)) (omega (arith, lr))
+
+  -- one row more, found by its place
+  pub told_at : (rows : List X) (places : List ℕ) (marks : List Bool) (i : ℕ) (told next : P) (row any : X) → i < length marks → length places ≡ length marks → get_or places i 0 < length rows
+      → row ≡ get_or rows (get_or places i 0) row → next ≡ (if get_or marks i false then told else parted told row)
+      → all_parted parted (gone (drop (i + 1) marks) (drop (i + 1) (map (λ place. get_or rows place any) places))) next ≡ all_parted parted (gone (drop i marks) (drop i (map (λ place. get_or rows place any) places))) told
+  told_at rows places marks i told next row any lm len within is made =
+      let onward : suc i ≡ i + 1 = omega arith in
+      let at : ℕ → X = λ place. get_or rows place any in
+      let listed : List X = map at places in
+      let lr : i < length listed = omega (arith, lm, len, length-map places at) in
+      let same : row ≡ get_or listed i any = is ∙ get_or_default rows (get_or places i 0) row any within ∙ sym (get_or-map at places i 0 any (omega (arith, lm, len))) in
+      subst (λ k. all_parted parted (gone (drop k marks) (drop k listed)) next ≡ all_parted parted (gone (drop i marks) (drop i listed)) told) onward
+      (ap (all_parted parted (gone (drop (suc i) marks) (drop (suc i) listed))) (made ∙ ap (λ r. if get_or marks i false then told else parted told r) same)
+      ∙ told_next marks listed i told any lm lr)
+
+  -- behind the last mark nothing is told
+  pub told_out : (marks : List Bool) (rows : List X) (i : ℕ) (told : P) → length marks ≤ i → told ≡ all_parted parted (gone (drop i marks) (drop i rows)) told
+  told_out marks rows i told past = sym (ap (λ left. all_parted parted (gone left (drop i rows)) told) (drop_all i marks past))
+
+  -- so many lists are told of, and the marks left are those of the others
+  pub record Tells (end : P) (lists : List (List X)) (i : ℕ) (rest : List Bool) (now : P) : Type 0 where
+    pub len : length rest ≡ length (joined (drop i lists))
+    pub told : all_parted parted (gone rest (joined (drop i lists))) now ≡ end
+
+  module _ (end : P) (lists : List (List X)) (i : ℕ) (rest : List Bool) (now : P) (so : Tells end lists i rest now) (lt : i < length lists) (old : List X) (is : old ≡ get_or lists i old) where
+    told_parts : joined (drop i lists) ≡ old ++ joined (drop (i + 1) lists)
+    told_parts = ap joined (drop_more lists i old lt) ∙ ap (λ c. c ++ joined (drop (i + 1) lists)) (sym is)
+
+    pub tells_within : length old ≤ length rest
+    tells_within = omega (arith, so.len, ap length told_parts, length-append old (joined (drop (i + 1) lists)))
+
+    pub tells_more : (own later : List Bool) (next : P) → own ≡ take (length old) rest → later ≡ drop (length old) rest → next ≡ all_parted parted (gone own old) now → Tells end lists (i + 1) later next
+    tells_more own later next mine others made =
+        let others_of = joined (drop (i + 1) lists) in
+        record {
+          len = (
+              let n : length (drop (length old) rest) + length old ≡ length rest = drop_len rest (length old) tells_within in
+              omega (arith, ap length others, so.len, ap length told_parts, length-append old others_of, n));
+          told = ap (all_parted parted (gone later others_of)) made
+              ∙ sym (parted_append (gone own old) (gone later others_of) now)
+              ∙ ap (λ l. all_parted parted l now)
+              (ap (λ m. gone m old ++ gone later others_of) mine
+              ∙ ap (λ m. gone (take (length old) rest) old ++ gone m others_of) others
+              ∙ ap (λ m. kept m old ++ gone (drop (length old) rest) others_of) (sym (take-map not (length old) rest))
+              ∙ ap (λ m. kept (take (length old) (map not rest)) old ++ kept m others_of) (sym (drop-map not (length old) rest))
+              ∙ sym (kept_split (map not rest) old others_of (omega (arith, tells_within, length-map rest not)))
+              ∙ ap (gone rest) (sym told_parts))
+              ∙ so.told;
+        }
+
+  pub tells_all : (end : P) (lists : List (List X)) (i : ℕ) (rest : List Bool) (now : P) → Tells end lists i rest now → length lists ≤ i → now ≡ end
+  tells_all end lists i rest now so past =
+      sym (ap (λ cs. all_parted parted (gone rest (joined cs)) now) (drop_all i lists past) ∙ ap (λ l. all_parted parted l now) (none_kept (map not rest))) ∙ so.told
+
+-- the first of some
+pub first : {X : Type 0} (xs : List X) → 0 < length xs → X
+first [] h = absurd (omega (arith, h))
+first (x ∷ xs) h = x
 
 -- what is borrowed at a place
 pub at_map : {X Y : Type 0} (f : X → Y) (xs : List X) (i : ℕ) (d : X) → d ≡ get_or xs i d → f d ≡ get_or (map f xs) i (f d)

@@ -5,12 +5,13 @@ ghost use Rattle.std.specs.List.{list_any, list_all};
 ghost use Rattle.meta_types.specs.Keys.{are_in_order, row_at, has_row, add_row, remove_row};
 ghost use Rattle.meta_types.specs.Faults.{Refuses, least_of};
 ghost use Rattle.arrival_table.specs.Arrived.{kept, Becomes};
+ghost use Rattle.arrival_table.specs.Telling.{gone, all_parted};
 ghost use Rattle.arrival_table.specs.Namespaces.{full_key};
 
 use crate::group::Group;
 use crate::groups;
 use crate::named::Named;
-use crate::row::{Change, GroupedRow, Test};
+use crate::row::{Change, GroupedRow, Parting, Test};
 use meta_types::{Fault, ShortName};
 use std::alloc::Global;
 use std::marker::Model;
@@ -177,6 +178,17 @@ impl<K: Named, R: GroupedRow<K>> ByNamespace<K, R> {
     {
         let groups = groups::copy_groups(&self.groups, alloc)?;
         Ok(ByNamespace { groups })
+    }
+
+    /// Tells of each row whose place in the order of keys isn't marked, in that order. It takes no
+    /// memory.
+    pub(crate) fn tell<P: Parting<R>>(&mut self, marks: &[bool], parting: &mut P)
+        requires { length marks.now ≡ length self.old }
+        ensures same { self.new ≡ self.old }
+        ensures told { parting.new
+            ≡ all_parted P.parted (gone marks.now self.old) parting.old }
+    {
+        groups::tell_rows(&mut self.groups, marks, parting);
     }
 
     /// Keeps the rows whose places in the order of keys are marked. It takes no memory.

@@ -5,12 +5,13 @@ ghost use Rattle.std.specs.List.{list_any, list_all};
 ghost use Rattle.meta_types.specs.Keys.{are_in_order, row_at, has_row, add_row, remove_row};
 ghost use Rattle.meta_types.specs.Faults.{Refuses};
 ghost use Rattle.arrival_table.specs.Arrived.{kept, Becomes};
+ghost use Rattle.arrival_table.specs.Telling.{gone, all_parted};
 ghost use Rattle.arrival_table.specs.Namespaces.{layered_key};
 
 use crate::layer::Layer;
 use crate::layers;
 use crate::named::Named;
-use crate::row::{Change, SnapshotterRow, Test};
+use crate::row::{Change, Parting, SnapshotterRow, Test};
 use meta_types::{Fault, ShortName};
 use std::alloc::Global;
 use std::marker::Model;
@@ -204,6 +205,17 @@ impl<K: Named, R: SnapshotterRow<K>> BySnapshotter<K, R> {
             layers,
             count: self.count,
         })
+    }
+
+    /// Tells of each row whose place in the order of keys isn't marked, in that order. It takes no
+    /// memory.
+    pub fn tell<P: Parting<R>>(&mut self, marks: &[bool], parting: &mut P)
+        requires { length marks.now ≡ length self.old }
+        ensures same { self.new ≡ self.old }
+        ensures told { parting.new
+            ≡ all_parted P.parted (gone marks.now self.old) parting.old }
+    {
+        layers::tell_rows(&mut self.layers, marks, parting);
     }
 
     /// Keeps the rows whose places in the order of keys are marked. It takes no memory.

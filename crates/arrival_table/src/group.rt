@@ -4,10 +4,11 @@ ghost use Rattle.std.specs.List.{list_all};
 ghost use Rattle.meta_types.specs.Keys.{row_at, has_row, add_row, remove_row};
 ghost use Rattle.meta_types.specs.Faults.{Refuses, least_of};
 ghost use Rattle.arrival_table.specs.Arrived.{by_name, kept, Becomes};
+ghost use Rattle.arrival_table.specs.Telling.{gone, all_parted};
 
 use crate::in_order::InOrder;
 use crate::named::Named;
-use crate::row::{Change, GroupedRow, Test};
+use crate::row::{Change, GroupedRow, Parting, Test};
 use meta_types::{Fault, ShortName};
 use std::alloc::Global;
 use std::marker::Model;
@@ -138,6 +139,15 @@ impl<K: Named, R: GroupedRow<K>> Group<K, R> {
         let ns = self.ns.copy()?;
         let rows = self.rows.copy(alloc)?;
         Ok(Group { ns, rows })
+    }
+
+    pub(crate) fn tell<P: Parting<R>>(&mut self, marks: &[bool], parting: &mut P)
+        requires { length marks.now ≡ length self.old.1 }
+        ensures same { self.new ≡ self.old }
+        ensures told { parting.new
+            ≡ all_parted P.parted (gone marks.now self.old.1) parting.old }
+    {
+        self.rows.tell(marks, parting);
     }
 
     pub(crate) fn retain(&mut self, marks: &[bool])

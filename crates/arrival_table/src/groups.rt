@@ -6,11 +6,12 @@ ghost use Rattle.meta_types.specs.Text.{text_cmp};
 ghost use Rattle.meta_types.specs.Keys.{Key, are_in_order, is_before, row_at, has_row, add_row, remove_row};
 ghost use Rattle.meta_types.specs.Faults.{Refuses, least_of};
 ghost use Rattle.arrival_table.specs.Arrived.{kept, Becomes};
+ghost use Rattle.arrival_table.specs.Telling.{gone, all_parted};
 ghost use Rattle.arrival_table.specs.Namespaces.{full_key, group_key, all_rows, AreGroups, IsHome};
 
 use crate::group::Group;
 use crate::named::Named;
-use crate::row::{Change, GroupedRow, Test};
+use crate::row::{Change, GroupedRow, Parting, Test};
 use meta_types::{Fault, ShortName};
 use std::alloc::Global;
 use std::cmp::Ordering;
@@ -281,6 +282,25 @@ pub(crate) fn retain_rows<K: Named, R: GroupedRow<K>>(groups: &mut [Group<K, R>]
     for group in groups.iter_mut() {
         let (own, later) = rest.split_at(group.len());
         group.retain(own);
+        rest = later;
+    }
+}
+
+/// Tells of each row whose place in the order of keys isn't marked, in that order.
+pub(crate) fn tell_rows<K: Named, R: GroupedRow<K>, P: Parting<R>>(
+    groups: &mut [Group<K, R>],
+    marks: &[bool],
+    parting: &mut P,
+)
+    requires { length marks.now ≡ length (all_rows groups.old) }
+    ensures same { groups.new ≡ groups.old }
+    ensures told { parting.new
+        ≡ all_parted P.parted (gone marks.now (all_rows groups.old)) parting.old }
+{
+    let mut rest = marks;
+    for group in groups.iter_mut() {
+        let (own, later) = rest.split_at(group.len());
+        group.tell(own, parting);
         rest = later;
     }
 }

@@ -4,12 +4,14 @@ ghost use Rattle.std.specs.List.{list_all};
 ghost use Rattle.meta_types.specs.Keys.{row_at, has_row, add_row, remove_row};
 ghost use Rattle.meta_types.specs.Faults.{Refuses, least_of};
 ghost use Rattle.arrival_table.specs.Arrived.{sorted, by_name, kept, Becomes};
+ghost use Rattle.arrival_table.specs.Telling.{gone, all_parted};
 
 use crate::listing::in_key_order;
 use crate::named::Named;
 use crate::places::{list_places, mark_places, sort_places};
-use crate::row::{Change, Row, Test};
+use crate::row::{Change, Parting, Row, Test};
 use crate::table::Table;
+use crate::telling::tell;
 use meta_types::Fault;
 use std::alloc::{AllocFailed, Global};
 use std::marker::Model;
@@ -159,6 +161,22 @@ impl<K: Named, R: Row<K>> InOrder<K, R> {
             places,
             marks,
         })
+    }
+
+    /// Tells of each row whose place in the order of keys isn't marked, in that order. It takes no
+    /// memory.
+    pub fn tell<P: Parting<R>>(&mut self, marks: &[bool], parting: &mut P)
+        requires { length marks.now ≡ length self.old }
+        ensures same { self.new ≡ self.old }
+        ensures told { parting.new
+            ≡ all_parted P.parted (gone marks.now self.old) parting.old }
+    {
+        if self.rows.len() == 0 {
+            return;
+        }
+        list_places(&mut self.places, self.rows.len());
+        sort_places(&mut self.places, &self.rows);
+        tell(self.rows.rows(), &self.places, marks, parting);
     }
 
     /// Keeps the rows whose places in the order of keys are marked. It takes no memory.

@@ -7,11 +7,12 @@ ghost use Rattle.meta_types.specs.Text.{text_cmp};
 ghost use Rattle.meta_types.specs.Keys.{are_in_order, is_before, row_at, has_row, add_row, remove_row};
 ghost use Rattle.meta_types.specs.Faults.{Refuses};
 ghost use Rattle.arrival_table.specs.Arrived.{kept, Becomes};
+ghost use Rattle.arrival_table.specs.Telling.{gone, all_parted};
 ghost use Rattle.arrival_table.specs.Namespaces.{layered_key, group_key, all_rows, AreGroups, IsHome};
 
 use crate::layer::Layer;
 use crate::named::Named;
-use crate::row::{Change, SnapshotterRow, Test};
+use crate::row::{Change, Parting, SnapshotterRow, Test};
 use meta_types::{Fault, ShortName};
 use std::alloc::Global;
 use std::cmp::Ordering;
@@ -306,4 +307,23 @@ fn own_len<K: Named, R: SnapshotterRow<K>>(layer: &Layer<K, R>, rest: &[bool]) -
 {
     let _left = rest.len();
     layer.len() as usize
+}
+
+/// Tells of each row whose place in the order of keys isn't marked, in that order.
+pub(crate) fn tell_rows<K: Named, R: SnapshotterRow<K>, P: Parting<R>>(
+    layers: &mut [Layer<K, R>],
+    marks: &[bool],
+    parting: &mut P,
+)
+    requires { length marks.now ≡ length (all_rows layers.old) }
+    ensures same { layers.new ≡ layers.old }
+    ensures told { parting.new
+        ≡ all_parted P.parted (gone marks.now (all_rows layers.old)) parting.old }
+{
+    let mut rest = marks;
+    for layer in layers.iter_mut() {
+        let (own, later) = rest.split_at(own_len(layer, rest));
+        layer.tell(own, parting);
+        rest = later;
+    }
 }

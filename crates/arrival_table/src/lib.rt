@@ -15,11 +15,12 @@ mod resources;
 mod row;
 mod rows;
 mod table;
+mod telling;
 
 pub use by_namespace::ByNamespace;
 pub use by_snapshotter::BySnapshotter;
 pub use in_order::InOrder;
 pub use listing::in_key_order;
 pub use named::Named;
-pub use row::{Change, GroupedRow, Row, SnapshotterRow, Test};
+pub use row::{Change, GroupedRow, Parting, Row, SnapshotterRow, Test};
 pub use table::Table;

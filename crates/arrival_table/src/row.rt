@@ -46,6 +46,16 @@ pub trait Test<R> {
         ensures { result ≡ passes self.now row.now };
 }
 
+/// What is told of rows that go.
+pub trait Parting<R>: Drop {
+    /// What it becomes when a row goes.
+    ghost parted: { Self → R → Self };
+
+    /// A row goes.
+    fn part(&mut self, row: &R)
+        ensures { self.new ≡ parted self.old row.now };
+}
+
 /// A row of a group, found there by a name of its own. Its group is its namespace, or what it
 /// belongs to within its namespace.
 pub trait GroupedRow<K: Named>: Row<K> {

@@ -136,3 +136,15 @@ impl SnapshotterRow<Name> for SnapRow {
         self.key.ns = ns;
     }
 }
+
+impl Row<Name> for Name {
+    ghost name_of = { λ name. name };
+
+    fn name(&self) -> &Name {
+        self
+    }
+
+    fn copy_row(&self, _alloc: Global) -> Result<Name, Fault> {
+        Ok(self.copy()?)
+    }
+}

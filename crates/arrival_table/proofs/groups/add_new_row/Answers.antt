@@ -1,4 +1,4 @@
-use Rattle.std.proofs.Common.{◌≡◌, false, List, ap, ◌∙◌, sym, subst}
+use Rattle.std.proofs.Common.{◌≡◌, false, List, sym, subst}
 use Rattle.std.specs.Prelude.{OnOk, slice_set}
 use Rattle.meta_types.specs.Faults.{Refuses, least_of}
 use Rattle.meta_types.specs.Keys.{has_row, add_row}

@@ -1,4 +1,4 @@
-use Rattle.std.proofs.Common.{◌≡◌, ◌+◌, length, ap, ◌∙◌, arith}
+use Rattle.std.proofs.Common.{length, ap, arith}
 use Rattle.arrival_table.specs.Namespaces.{layered_key, all_rows}
 use Rattle.arrival_table.proofs.SnapshotterRows.{length_more}
 use Rattle.arrival_table.proofs.by_snapshotter.BySnapshotter.add.Goals as goal
