@@ -7,7 +7,7 @@ use Rattle.arrival_table.specs.Arrived.{Becomes}
 
 module _ {Row : Type 0} (key_of : Row → Key) (key : Key) where
   -- the row that is there is all that a change reads
-  same_there : (f : Row → Row) (row : Row) (rows : List Row) → row_at key_of key rows ≡ Some row → change_row key_of key (λ _. f row) rows ≡ change_row key_of key f rows
+  pub same_there : (f : Row → Row) (row : Row) (rows : List Row) → row_at key_of key rows ≡ Some row → change_row key_of key (λ _. f row) rows ≡ change_row key_of key f rows
   same_there f row [] found = refl
   same_there f row (next ∷ rows) found = elim (cases_Bool (is_key key (key_of next))) [
     | inl t ↦ rw t (ap (λ x. f x ∷ rows) (sym (some_is next row (rw t at found))))

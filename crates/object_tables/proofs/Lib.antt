@@ -2,11 +2,13 @@ pub mod Above
 pub mod ChangedThere
 pub mod CommitKept
 pub mod Committing
-pub mod Index
-pub mod IndexRead
+pub mod FamiliesLeft
+pub mod FamilyRows
 pub mod Inserted
 pub mod Kept
 pub mod KeyOrder
+pub mod NamesAfter
+pub mod NamesUnder
 pub mod NumberedAfter
 pub mod NumbersKept
 pub mod Ordering
@@ -16,10 +18,8 @@ pub mod ParentsKept
 pub mod Positions
 pub mod RowsAfter
 pub mod RowsKept
-pub mod SideBySide
 pub mod SnapTablesKept
 pub mod Snapshotters
 pub mod SnapshottersSorted
 pub mod SomeKept
-pub mod SpanRows
 pub mod TablesKept

@@ -4,11 +4,12 @@
 mod children;
 mod containers;
 mod content;
+mod families;
 mod images;
 mod ingests;
 mod keyed;
+mod names;
 mod snapshots;
-mod span;
 mod stored;
 mod table;
 mod tables;

@@ -1,21 +1,15 @@
 //! Rows of one kind, in the order of their keys.
-ghost use Rattle.std.specs.Prelude.{◌≡◌, ◌∷◌, [], map, Some, None, IfOk, IfErr, OnOk, OnErr, IsTrue, false, is_ok, length, option_copied, bytes_eq, filter, ◌&&◌};
+ghost use Rattle.std.specs.Prelude.{◌≡◌, [], map, Some, None, IfOk, IfErr, OnOk, OnErr, IsTrue, false, is_ok, length};
 ghost use Rattle.std.specs.Bool.{OnFalse};
-ghost use Rattle.std.specs.List.{position, position_or_len, list_any};
+ghost use Rattle.std.specs.List.{position, position_or_len};
 ghost use Rattle.std.specs.Cmp.Lexicographic.{slice_cmp};
 ghost use Rattle.meta_types.specs.Text.{text_cmp};
-ghost use Rattle.meta_types.specs.Keys.{is_key, is_before, row_at, has_row, add_row, remove_row, change_row, are_in_order};
-ghost use Rattle.meta_types.specs.Labels.{is_label, put_label};
-ghost use Rattle.meta_types.specs.Rows.{snap_key};
+ghost use Rattle.meta_types.specs.Keys.{is_key, is_before, has_row, add_row, remove_row, are_in_order};
+ghost use Rattle.meta_types.specs.Labels.{is_label};
 ghost use Rattle.meta_types.specs.Faults.{Refuses};
-ghost use Rattle.object_tables.specs.Calls.{labelling_fault, kept};
-ghost use Rattle.object_tables.specs.Children.{is_under};
 
-use crate::children::ChildRow;
 use crate::keyed::Keyed;
-use crate::span::under_parent;
-use arrival_table::BySnapshotter;
-use meta_types::{Fault, Listing, Name, ShortName, SnapKey, SnapRow};
+use meta_types::{Fault, Listing};
 use std::alloc::Global;
 use std::cmp::Ordering;
 use std::marker::Model;
@@ -88,29 +82,6 @@ impl<R: Keyed> Table<R> {
         ensures ok { IfOk result (λ names. names ≡ map R.name_of self.now) }
     {
         all_names_of(&self.rows, alloc)
-    }
-}
-
-impl Table<ChildRow> {
-    /// The rows under a parent.
-    pub(crate) fn under(&self, parent: &SnapKey) -> &[ChildRow]
-        ensures rows { result.now ≡ filter (is_under parent.now.ns parent.now.snapshotter
-            parent.now.name) self.now }
-    {
-        under_parent(&self.rows, parent)
-    }
-
-    /// Leaves the children whose own rows are there.
-    pub(crate) fn retain_children(&mut self, snapshots: &BySnapshotter<Name, SnapRow>)
-        ensures { self.new ≡ filter (λ row. has_row snap_key
-            (row.ns ∷ row.snapshotter ∷ row.name ∷ []) snapshots.now) self.old }
-    {
-        self.rows.retain(
-            |row: &ChildRow| -> bool
-                ensures { result ≡ has_row snap_key (row.now.ns ∷ row.now.snapshotter
-                    ∷ row.now.name ∷ []) snapshots.entry.now }
-            { snapshots.has(&row.ns, &row.snapshotter, &row.name) },
-        );
     }
 }
 

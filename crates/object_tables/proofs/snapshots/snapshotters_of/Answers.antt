@@ -1,4 +1,4 @@
-use Rattle.std.proofs.Common.{Bor, map, ◌≡◌, ◌∷◌, [], ◌++◌, None, false, bytes_eq, not, take, ap, sym, ◌∙◌}
+use Rattle.std.proofs.Common.{map, ◌≡◌, ◌∷◌, [], ◌++◌, None, false, bytes_eq, not, take, ap, sym, ◌∙◌}
 use Rattle.std.specs.Option.{option_map_or}
 use Rattle.std.specs.List.{last_or}
 use Rattle.object_tables.proofs.Snapshotters.{is_next, lent_listed, lent_passed, last_push}

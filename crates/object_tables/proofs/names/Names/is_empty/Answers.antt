@@ -1,0 +1,9 @@
+use Rattle.std.proofs.Common.{◌∙◌, sym, ap, length}
+use Rattle.std.specs.Prelude.{◌==◌}
+use Rattle.arrival_table.specs.Arrived.{one_text}
+use Rattle.arrival_table.proofs.Arrivals.{length_sorted}
+use Rattle.object_tables.proofs.names.Names.is_empty.Goals as goal
+
+-- as many names as came
+pub returns : goal.returns
+returns c = ap (λ n. n == 0) (c.len.ensures.len ∙ sym (length_sorted one_text c.self.inside.rows) ∙ ap length c.self.view_is)
