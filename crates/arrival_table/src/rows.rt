@@ -148,3 +148,15 @@ impl Row<Name> for Name {
         Ok(self.copy()?)
     }
 }
+
+impl Row<Digest> for Digest {
+    ghost name_of = { λ digest. digest };
+
+    fn name(&self) -> &Digest {
+        self
+    }
+
+    fn copy_row(&self, _alloc: Global) -> Result<Digest, Fault> {
+        Ok(self.copy()?)
+    }
+}

@@ -1,4 +1,5 @@
 pub mod Counts
+pub mod Digests
 pub mod Entries
 pub mod Recounts
 pub mod Sets

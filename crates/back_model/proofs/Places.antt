@@ -97,7 +97,7 @@ pub none_apart : AreApart []
 unfolding IsStrictlySortedBy
 none_apart = tt
 
-apart_first : (name : Text) (ts : List Text) → AllByRecursion (λ y. text_cmp name y ≡ Less) ts → IsStrictlySortedBy text_cmp ts → IsStrictlySortedBy text_cmp (name ∷ ts)
+pub apart_first : (name : Text) (ts : List Text) → AllByRecursion (λ y. text_cmp name y ≡ Less) ts → IsStrictlySortedBy text_cmp ts → IsStrictlySortedBy text_cmp (name ∷ ts)
 unfolding IsStrictlySortedBy
 apart_first name ts h sorted = (h, sorted)
 

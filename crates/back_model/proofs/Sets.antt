@@ -1,22 +1,18 @@
 -- Keys of an ordered set, seen as a list in order.
 use Rattle.std.proofs.Common.{◌≡◌, ℕ, List, [], ◌∷◌, Bool, true, false, refl, sym, ◌∙◌, ap}
-use Rattle.std.specs.Prelude.{cond, not, ◌||◌, filter, ◌==◌, nat_lt, bytes_eq}
+use Rattle.std.specs.Prelude.{cond, not, ◌||◌, filter, ◌==◌, nat_lt}
 use Rattle.std.specs.List.{list_any, AllByRecursion}
 use Rattle.std.specs.List.Sorted.{IsStrictlySortedBy}
 use Rattle.std.specs.declared.cmp.Ordering.{Ordering}
 use Rattle.std.specs.declared.cmp.Ordering.TheVariants.{Less, Equal, Greater}
-use Rattle.std.specs.Ordering.{nat_cmp, is_eq, is_lt, match_ordering, ordering_then}
+use Rattle.std.specs.Ordering.{nat_cmp, is_eq, is_lt, match_ordering}
 use Rattle.std.specs.Cmp.{IsTotalOrder, nat_cmp_total, unsigned_tied, nat_eq_equiv}
-use Rattle.std.specs.Cmp.Lexicographic.{nat_list_cmp_total}
 use Rattle.std.specs.BTreeMap.{is_at}
 use Rattle.std.specs.BTreeSet.{insert_key}
 use Rattle.std.specs.Set.{remove_key}
 use Rattle.std.proofs.lemmas.Map.Keys.{sorted_head, sorted_tail}
-use Rattle.std.proofs.lemmas.Map.Text.{is_eq-slice_cmp}
-use Rattle.meta_types.specs.Text.{Text, text_cmp}
-use Rattle.meta_types.specs.Keys.{put_in_order, is_before}
-use Rattle.meta_types.specs.Changes.{put_blob}
-use Rattle.back_model.specs.Objects.{has_blob, without_blob, has_number, put_number, without_number}
+use Rattle.meta_types.specs.Keys.{put_in_order}
+use Rattle.back_model.specs.Objects.{has_number, put_number, without_number}
 
 -- the key k, a test that finds it alone, and a test for what it stands before
 module _ {K : Type 0} (R : K → K → Ordering) (o : IsTotalOrder R) (k : K) (same before : K → Bool) (tied : (x : K) → is_eq (R k x) ≡ same x) (less : (x : K) → is_lt (R k x) ≡ before x) where
@@ -59,35 +55,6 @@ module _ {K : Type 0} (R : K → K → Ordering) (o : IsTotalOrder R) (k : K) (s
 pub was_new : (there new : Bool) → new ≡ not there → new ≡ true → there ≡ false
 was_new true new e h = absurd (cc (sym e ∙ h))
 was_new false new e h = refl
-
--- what isn't new was there
-pub was_there : (there new : Bool) → new ≡ not there → new ≡ false → there ≡ true
-was_there true new e h = refl
-was_there false new e h = absurd (cc (sym e ∙ h))
-
--- ---- digests
-
-abbrev stands : Text → Text → Bool
-stands digest other = is_before (digest ∷ []) (other ∷ [])
-
-before_text : (r : Ordering) → is_lt r ≡ is_lt (ordering_then r Equal)
-before_text Less = refl
-before_text Equal = refl
-before_text Greater = refl
-
-module _ (digest : Text) where
-  pub has_digest : (ks : List Text) → list_any (is_at (text_cmp digest)) ks ≡ has_blob digest ks
-  has_digest = any_tied text_cmp nat_list_cmp_total digest (bytes_eq digest) (stands digest) (is_eq-slice_cmp digest) (λ x. before_text (text_cmp digest x))
-
-  pub put_digest : (ks : List Text) → has_blob digest ks ≡ false → insert_key text_cmp ks digest ≡ put_blob digest ks
-  put_digest ks free =
-      put_key text_cmp nat_list_cmp_total digest (bytes_eq digest) (stands digest) (is_eq-slice_cmp digest) (λ x. before_text (text_cmp digest x)) (put_in_order stands) (λ x. refl) (λ x xs. refl) ks free
-      ∙ ap (λ b. cond b ks (put_in_order stands digest ks)) (sym free)
-
-  pub without_digest : (ks : List Text) → IsStrictlySortedBy text_cmp ks → remove_key (is_at (text_cmp digest)) ks ≡ without_blob digest ks
-  without_digest = without_key text_cmp nat_list_cmp_total digest (bytes_eq digest) (stands digest) (is_eq-slice_cmp digest) (λ x. before_text (text_cmp digest x))
-
--- ---- numbers
 
 less_number : (a b : Bool) → is_lt (cond a Less (cond b Equal Greater)) ≡ a
 less_number true b = refl

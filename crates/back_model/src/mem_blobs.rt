@@ -1,23 +1,25 @@
 //! Blobs in memory.
 use crate::faults::{MakeFault, RemoveFault};
 use crate::traits::BlobBackend;
+use arrival_table::{Table, in_key_order};
 use meta_types::{Digest, Fault};
 use std::alloc::Global;
-use std::collections::BTreeSet;
 use std::marker::Model;
 
-/// Blobs in memory. No device fails.
+/// Blobs in memory, each found by a hash of its digest. No device fails.
 #[derive(Drop)]
 pub struct MemBlobs {
-    digests: BTreeSet<Digest>,
+    digests: Table<Digest, Digest>,
 }
 
 impl Model for MemBlobs {
-    ghost use Rattle.std.specs.Prelude.{List, ℕ};
+    ghost use Rattle.std.specs.Prelude.{List};
+    ghost use Rattle.meta_types.specs.Text.{Text};
+    ghost use Rattle.arrival_table.specs.Arrived.{one_text, sorted};
 
-    ghost Value = { List (List ℕ) };
+    ghost Value = { List Text };
 
-    ghost view = { λ b. b.digests.keys };
+    ghost view = { λ b. sorted one_text b.digests };
 }
 
 impl BlobBackend for MemBlobs {
@@ -27,7 +29,7 @@ impl BlobBackend for MemBlobs {
 
     fn fresh(alloc: Global) -> MemBlobs {
         MemBlobs {
-            digests: BTreeSet::new(alloc),
+            digests: Table::new(alloc),
         }
     }
 
@@ -38,32 +40,33 @@ impl BlobBackend for MemBlobs {
             }
             return Err(MakeFault::Memory);
         };
-        let Ok(is_new) = self.digests.insert(copy) else {
-            return Err(MakeFault::Memory);
+        let Err(refused) = self.digests.add_new(copy) else {
+            return Ok(());
         };
-        if !is_new {
+        if let Fault::AlreadyExists = refused {
             return Err(MakeFault::Taken);
         }
-        Ok(())
+        Err(MakeFault::Memory)
     }
 
     fn remove(&mut self, digest: &Digest) -> Result<(), RemoveFault> {
-        // The set is in order before a key goes.
-        let _len = self.digests.len();
-        if !self.digests.remove(digest) {
+        // No digest stands twice before one goes.
+        let _digests = self.digests.rows();
+        let Some(_gone) = self.digests.take(digest) else {
             return Err(RemoveFault::Missing);
-        }
+        };
         Ok(())
     }
 
     fn holds(&self, digest: &Digest) -> bool {
-        let _len = self.digests.len();
-        self.digests.contains(digest)
+        // Lends the rows, whose order by digest is promised.
+        let _digests = self.digests.rows();
+        self.digests.has(digest)
     }
 
     fn digests(&self, alloc: Global) -> Result<Vec<Digest>, Fault> {
         let mut digests = Vec::new(alloc);
-        for digest in &self.digests {
+        for digest in in_key_order(alloc, &self.digests)? {
             digests.push(digest.copy()?)?;
         }
         Ok(digests)

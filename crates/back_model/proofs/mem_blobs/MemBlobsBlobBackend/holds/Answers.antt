@@ -1,6 +1,13 @@
-use Rattle.back_model.proofs.Sets.{has_digest}
+use Rattle.std.proofs.Common.{◌∙◌, refl, subst}
+use Rattle.arrival_table.specs.Arrived.{one_text, sorted}
+use Rattle.back_model.specs.Objects.{AreOrderedBlobs}
+use Rattle.back_model.proofs.Digests.{held_is, ordered}
 use Rattle.back_model.proofs.mem_blobs.MemBlobsBlobBackend.holds.Goals as goal
 
--- a key that ties is the digest
+-- one has the digest where it is held
 pub returns-clause-holds : goal.returns-clause-holds
-returns-clause-holds c = rw (c.contains.ensures, ← c.self.view_is) (has_digest c.args.digest.now c.self.inside.digests.keys)
+returns-clause-holds c = c.has.ensures ∙ held_is c.args.digest.now c.args.digest.now c.self.inside.digests c.args.self.now refl c.self.view_is
+
+-- the table's order is that of the bytes
+pub returns-clause-order : goal.returns-clause-order
+returns-clause-order c = subst AreOrderedBlobs c.self.view_is (ordered (sorted one_text c.self.inside.digests) c.rows-digests.ensures.order)

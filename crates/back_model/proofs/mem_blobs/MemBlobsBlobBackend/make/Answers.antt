@@ -1,28 +1,19 @@
-use Rattle.std.proofs.Common.{rules, ◌≡◌, ◌∙◌, true, false, refl, sym}
-use Rattle.std.specs.Prelude.{not}
-use Rattle.std.specs.BTreeSet.{contains}
-use Rattle.meta_types.specs.Text.{text_cmp}
-use Rattle.back_model.specs.Objects.{has_blob}
-use Rattle.back_model.proofs.Sets.{was_new, was_there, has_digest, put_digest}
+use Rattle.std.proofs.Common.{◌∙◌, sym, refl}
+use Rattle.back_model.proofs.Digests.{held_is, put_is, free_where_made, held_where_there, free_where_refused}
 use Rattle.back_model.proofs.mem_blobs.MemBlobsBlobBackend.make.Goals as goal
 
--- memory is asked for a new digest alone
-pub returns-in_default-insert-clause-fault : goal.returns-in_default-insert-clause-fault
-returns-in_default-insert-clause-fault c = (rw (← c.self.view_is) (sym (has_digest c.args.digest.now c.self.inside.digests.keys) ∙ search rules), refl)
-
--- the digest is there
-pub returns-then-not-is_new-clause-fault : goal.returns-then-not-is_new-clause-fault
-returns-then-not-is_new-clause-fault c =
-    let there = was_there (contains text_cmp c.self.inside.digests c.args.digest.now) c.in-Ok-insert.is_new (search rules) c.if-not-is_new.true in
-    rw (← c.self.view_is) (sym (has_digest c.args.digest.now c.self.inside.digests.keys) ∙ there)
-
-free : (c : goal.Else-not-is_new) → has_blob c.args.digest.now c.self.inside.digests.keys ≡ false
-free c = sym (has_digest c.args.digest.now c.self.inside.digests.keys) ∙ was_new (contains text_cmp c.self.inside.digests c.args.digest.now) c.in-Ok-insert.is_new (search rules) c.if-not-is_new.false
-
--- it is new
-pub returns-clause-fault : goal.returns-clause-fault
-returns-clause-fault c = (rw (← c.self.view_is) (free c), refl)
+-- it was free
+pub returns-in_default-add_new-clause-fault : goal.returns-in_default-add_new-clause-fault
+returns-in_default-add_new-clause-fault c = (sym (held_is c.args.digest.now c.in-Ok.copy c.self.inside.digests c.args.self.now c.in-Ok.ensures.ok c.self.view_is) ∙ free_where_made _ c.in_default-add_new.ensures.fault, refl)
 
 -- it goes to its place
-pub returns-clause-ok : goal.returns-clause-ok
-returns-clause-ok c = rw (← c.self.view_is) (search rules ∙ put_digest c.args.digest.now c.self.inside.digests.keys (free c))
+pub returns-in_default-add_new-clause-ok : goal.returns-in_default-add_new-clause-ok
+returns-in_default-add_new-clause-ok c = c.in_default-add_new.ensures.ok ∙ put_is c.args.digest.now c.in-Ok.copy c.self.inside.digests c.args.self.now c.in-Ok.ensures.ok c.self.view_is (free_where_made _ c.in_default-add_new.ensures.fault)
+
+-- the digest is there
+pub returns-in-AlreadyExists-clause-fault : goal.returns-in-AlreadyExists-clause-fault
+returns-in-AlreadyExists-clause-fault c = sym (held_is c.args.digest.now c.in-Ok.copy c.self.inside.digests c.args.self.now c.in-Ok.ensures.ok c.self.view_is) ∙ held_where_there _ c.in-Err.refused c.in-Err.ensures.fault c.in-AlreadyExists.is
+
+-- memory is asked for a new digest alone
+pub returns-clause-fault : goal.returns-clause-fault
+returns-clause-fault c = (sym (held_is c.args.digest.now c.in-Ok.copy c.self.inside.digests c.args.self.now c.in-Ok.ensures.ok c.self.view_is) ∙ free_where_refused _ c.in-Err.refused c.in-Err.ensures.fault c.in_default-refused.not-AlreadyExists, refl)

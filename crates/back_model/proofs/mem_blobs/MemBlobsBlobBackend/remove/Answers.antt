@@ -1,15 +1,17 @@
-use Rattle.std.proofs.Common.{rules, ◌∙◌, sym}
-use Rattle.back_model.proofs.Sets.{has_digest, without_digest}
+use Rattle.std.proofs.Common.{◌∙◌, sym, refl, ap}
+use Rattle.std.specs.Prelude.{is_some}
+use Rattle.arrival_table.specs.Arrived.{one_text, sorted}
+use Rattle.back_model.proofs.Digests.{held_is, left_is}
 use Rattle.back_model.proofs.mem_blobs.MemBlobsBlobBackend.remove.Goals as goal
 
--- no key ties
-pub returns-then-not-remove-clause-fault : goal.returns-then-not-remove-clause-fault
-returns-then-not-remove-clause-fault c = rw (← c.self.view_is) (sym (has_digest c.args.digest.now c.self.inside.digests.keys) ∙ search rules)
+-- no row has the digest
+pub returns-in_default-clause-fault : goal.returns-in_default-clause-fault
+returns-in_default-clause-fault c = sym (held_is c.args.digest.now c.args.digest.now c.self.inside.digests c.args.self.now refl c.self.view_is) ∙ ap is_some (sym c.in_default.ensures.row)
 
--- a key ties
+-- a row has it
 pub returns-clause-fault : goal.returns-clause-fault
-returns-clause-fault c = rw (← c.self.view_is) (sym (has_digest c.args.digest.now c.self.inside.digests.keys) ∙ search rules, search rules)
+returns-clause-fault c = (sym (held_is c.args.digest.now c.args.digest.now c.self.inside.digests c.args.self.now refl c.self.view_is) ∙ ap is_some (sym c.in-Some.ensures.row), refl)
 
--- the digest goes
+-- it goes
 pub returns-clause-ok : goal.returns-clause-ok
-returns-clause-ok c = rw (c.remove.ensures.keys, ← c.self.view_is) (without_digest c.args.digest.now c.self.inside.digests.keys (search rules))
+returns-clause-ok c = c.take.ensures.left ∙ left_is c.args.digest.now (sorted one_text c.self.inside.digests) c.args.self.now c.rows-digests.ensures.order c.self.view_is

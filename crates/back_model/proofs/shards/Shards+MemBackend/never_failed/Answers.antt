@@ -1,4 +1,4 @@
-use Rattle.std.proofs.Common.{◌≡◌, ◌∙◌, ap, sym, refl, ℕ, List, [], ◌∷◌, map}
+use Rattle.std.proofs.Common.{◌≡◌, refl, List, [], ◌∷◌, map}
 use Rattle.meta_types.specs.Text.{Text}
 use Rattle.back_model.specs.Snaps.{Snaps}
 use Rattle.back_model.specs.Shown.{shown, all_failures}
