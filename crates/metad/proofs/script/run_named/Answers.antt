@@ -1,11 +1,28 @@
-use Rattle.std.proofs.Common.{inr, arith}
+use Rattle.std.proofs.Common.{◌≡◌, Result, Ok, Err, inl, inr, arith}
+use Rattle.std.specs.Prelude.{IfErr}
 use Rattle.std.proofs.lemmas.Result.{on_err_weaker, on_ok_weaker, IfErr-weaker}
+use Rattle.meta_types.specs.declared.fault.Fault.{Fault}
+use Rattle.meta_types.specs.declared.fault.Fault.TheVariants.{ReadFailed}
 use Rattle.metad.specs.Progress.{IsLateFault, IsStartedFault}
 use Rattle.metad.proofs.LineAnswers.{passed_on}
 use Rattle.metad.specs.Output.{IsOutput, IsBeginning}
 use Rattle.metad.proofs.Runs.{Progress-empty, Runs-none, Runs-feed, Runs-break, Runs-end, Runs-whole, Runs-begins, Exchanges-none}
 use Rattle.metad.proofs.Writers.{holds_on_ok, holds_on_err, Keeps-same}
 use Rattle.metad.proofs.script.run_named.Goals as goal
+
+-- what ends a run late is no failed read
+not_a_read : (r : Result (Unit {0}) Fault) → IfErr r IsLateFault → r ≡ Err ReadFailed → ⊥
+not_a_read (Ok u) h e = absurd cc
+not_a_read (Err f) (inl o) e = absurd cc
+not_a_read (Err f) (inr w) e = absurd cc
+
+pub returns-in-Ok-eq0-clause-read_failed : goal.returns-in-Ok-eq0-clause-read_failed
+returns-in-Ok-eq0-clause-read_failed g c = λ e. absurd (not_a_read c.finish.result c.finish.ensures.fault e)
+
+pub returns-in_err-feed-in-Ok-clause-read_failed : goal.returns-in_err-feed-in-Ok-clause-read_failed
+returns-in_err-feed-in-Ok-clause-read_failed g c =
+    let late = passed_on c.from_residual-in_err-feed-in-Ok.result _ IsLateFault c.from_residual-in_err-feed-in-Ok.ensures.1 c.in_err-feed-in-Ok.ensures.fault in
+    λ e. absurd (not_a_read c.from_residual-in_err-feed-in-Ok.result late e)
 
 -- the store couldn't be opened, and nothing was read
 pub returns-in_err-desk-clause-err : goal.returns-in_err-desk-clause-err
