@@ -1,11 +1,10 @@
 -- What the parts of a request do.
-use Rattle.std.specs.Prelude.{◌≡◌, ℕ, ◌+◌, Bool, true, false, not, ◌&&◌, ◌||◌, is_none, is_some, ◌==◌, length, List, [], ◌∷◌, Option, Some, Result, Ok, Err, bytes_eq, if◌then◌else◌}
+use Rattle.std.specs.Prelude.{◌≡◌, ℕ, ◌+◌, Bool, true, false, ◌&&◌, ◌==◌, length, List, [], ◌∷◌, Option, Some, Result, Ok, Err, if◌then◌else◌}
 use Rattle.std.specs.Option.{option_map_or}
 use Rattle.meta_types.specs.Text.{Text}
-use Rattle.meta_types.specs.Keys.{has_row, row_at}
-use Rattle.meta_types.specs.Rows.{LeaseRow, Records, State, lease_key, snap_key, ingest_key, content_key}
+use Rattle.meta_types.specs.Keys.{has_row}
+use Rattle.meta_types.specs.Rows.{LeaseRow, Records, State, lease_key}
 use Rattle.meta_types.specs.Changes.{dropped_by}
-use Rattle.meta_types.specs.Faults.{least_of}
 use Rattle.meta_types.specs.Outcomes.{found_fault, in_store}
 use Rattle.meta_types.specs.SnapshotOps.{commit_findings, prepare_findings}
 use Rattle.meta_types.specs.ContentOps.{ingest_commit_findings}
@@ -38,6 +37,22 @@ MakesOrFails (Err NoWorker) before after = ⊥
 MakesOrFails (Err ReadFailed) before after = ⊥
 MakesOrFails (Err WriteFailed) before after = ⊥
 MakesOrFails (Err (Mismatch place)) before after = ⊥
+
+-- what is there already is refused; else it is made, or memory was wanting, or the device failed once (ours)
+abbrev pub MakesWhereFree : Bool → Result (Unit {0}) Fault → ℕ → ℕ → Type 0
+MakesWhereFree there (Ok _) before after = (there ≡ false) × (after ≡ before)
+MakesWhereFree there (Err AlreadyExists) before after = (there ≡ true) × (after ≡ before)
+MakesWhereFree there (Err OutOfMemory) before after = (there ≡ false) × (after ≡ before)
+MakesWhereFree there (Err BackendFailed) before after = (there ≡ false) × (after ≡ before + 1)
+MakesWhereFree there (Err InvalidArgument) before after = ⊥
+MakesWhereFree there (Err NotFound) before after = ⊥
+MakesWhereFree there (Err FailedPrecondition) before after = ⊥
+MakesWhereFree there (Err BadLine) before after = ⊥
+MakesWhereFree there (Err TooLong) before after = ⊥
+MakesWhereFree there (Err NoWorker) before after = ⊥
+MakesWhereFree there (Err ReadFailed) before after = ⊥
+MakesWhereFree there (Err WriteFailed) before after = ⊥
+MakesWhereFree there (Err (Mismatch place)) before after = ⊥
 
 -- what refuses a commit of a snapshot whose texts are allowed (containerd snapshots service, Commit)
 abbrev pub commit_fault : State → Text → Text → Text → Text → Option Text → Option Fault

@@ -28,9 +28,6 @@ impl<S: SnapBackend, B: BlobBackend, I: IngestBackend> State<S, B, I> {
         if self.lacks(&ns, &lease) {
             return Err(Refusal::By(Fault::NotFound));
         }
-        if self.records.tables.has_content(&ns, &digest) {
-            return Err(Refusal::By(Fault::AlreadyExists));
-        }
         grow_content(
             &mut self.records.tables,
             &mut self.records.leases,

@@ -2,10 +2,11 @@
 ghost use Rattle.std.specs.Prelude.{◌≡◌, ◌∷◌, [], true, false, OnOk, OnErr, IfOk, Err};
 ghost use Rattle.meta_types.specs.Keys.{has_row, add_row};
 ghost use Rattle.meta_types.specs.Rows.{content_key};
+ghost use Rattle.meta_types.specs.Faults.{Refuses, least_of};
 ghost use Rattle.meta_types.specs.Changes.{has_namespace, put_blob, held_by, is_new_to};
 ghost use Rattle.meta_types.specs.declared.fault.Fault.TheVariants as F;
 ghost use Rattle.meta_types.specs.declared.resource.Resource.TheVariants as H;
-ghost use Rattle.request_core.specs.Parts.{is_lease_there, let_go_if, MakesOrFails};
+ghost use Rattle.request_core.specs.Parts.{is_lease_there, let_go_if, MakesOrFails, MakesWhereFree};
 
 use back_model::{Backends, BlobBackend, IngestBackend, MakeFault, SnapBackend};
 use lease_book::Leases;
@@ -75,18 +76,27 @@ pub(crate) fn make_blob<S: SnapBackend, B: BlobBackend, I: IngestBackend>(
     }
 }
 
-/// Has the named lease hold a resource and the backend its blob, or neither.
-pub(crate) fn hold_and_make<S: SnapBackend, B: BlobBackend, I: IngestBackend>(
+// The resource of a digest.
+fn content_resource(digest: &Digest) -> Result<Resource, Fault>
+    ensures ok { IfOk result (λ resource. resource ≡ H.Content digest.now) }
+    ensures err { OnErr result (result ≡ Err F.OutOfMemory) }
+{
+    let digest = digest.copy()?;
+    Ok(Resource::Content(digest))
+}
+
+// Has the named lease hold content and the backend its blob, or neither.
+fn hold_and_make<S: SnapBackend, B: BlobBackend, I: IngestBackend>(
     leases: &mut Leases,
     backends: &mut Backends<S, B, I>,
     alloc: Global,
     ns: &ShortName,
     lease: &Option<Name>,
-    resource: &Resource,
     digest: &Digest,
 ) -> Result<(), Fault>
     requires { is_lease_there ns.now lease.now leases.old ≡ true }
-    ensures leases { OnOk result (leases.new ≡ held_by ns.now lease.now resource.now leases.old) }
+    ensures leases { OnOk result
+        (leases.new ≡ held_by ns.now lease.now (H.Content digest.now) leases.old) }
     ensures blobs { OnOk result
         (B.contents backends.new.blobs ≡ put_blob digest.now (B.contents backends.old.blobs)) }
     ensures err { OnErr result ((leases.new ≡ leases.old)
@@ -95,23 +105,15 @@ pub(crate) fn hold_and_make<S: SnapBackend, B: BlobBackend, I: IngestBackend>(
         × (backends.new.ingests ≡ backends.old.ingests) }
     ensures fault { MakesOrFails result (B.fails backends.old.blobs) (B.fails backends.new.blobs) }
 {
-    let new = hold(leases, alloc, ns, lease, resource)?;
+    let resource = content_resource(digest)?;
+    let new = hold(leases, alloc, ns, lease, &resource)?;
     match make_blob(backends, alloc, digest) {
         Ok(()) => Ok(()),
         Err(fault) => {
-            let_go(leases, ns, lease, resource, new);
+            let_go(leases, ns, lease, &resource, new);
             Err(fault)
         }
     }
-}
-
-// The resource of a digest.
-fn content_resource(digest: &Digest) -> Result<Resource, Fault>
-    ensures ok { IfOk result (λ resource. resource ≡ H.Content digest.now) }
-    ensures err { OnErr result (result ≡ Err F.OutOfMemory) }
-{
-    let digest = digest.copy()?;
-    Ok(Resource::Content(digest))
 }
 
 // A row of content.
@@ -125,7 +127,35 @@ fn content_row(ns: &ShortName, digest: &Digest, labels: Labels) -> Result<Conten
     Ok(ContentRow { ns, digest, labels })
 }
 
-/// Adds content, which the named lease then holds, with its blob; or nothing at all.
+// One look finds whether the row is there; where memory is wanting before it, the look tells which
+// fault comes first.
+fn add_row_of(
+    tables: &mut Tables,
+    alloc: Global,
+    ns: &ShortName,
+    digest: &Digest,
+    labels: Labels,
+) -> Result<(), Fault>
+    requires { has_namespace tables.old ns.now ≡ true }
+    ensures fault { Refuses result (least_of false false
+        (has_row content_key (ns.now ∷ digest.now ∷ []) tables.old.content) false) }
+    ensures free { OnOk result
+        (has_row content_key (ns.now ∷ digest.now ∷ []) tables.old.content ≡ false) }
+    ensures ok { OnOk result (tables.new ≡ record tables.old {
+      content = add_row content_key
+          (record { ns = ns.now; digest = digest.now; labels = labels }) tables.old.content;
+    }) }
+    ensures err { OnErr result (tables.new ≡ tables.old) }
+{
+    match content_row(ns, digest, labels) {
+        Ok(row) => tables.add_content(alloc, row),
+        Err(_) if tables.has_content(ns, digest) => Err(Fault::AlreadyExists),
+        Err(fault) => Err(fault),
+    }
+}
+
+/// Adds content that isn't there, which the named lease then holds, with its blob; or nothing at
+/// all.
 pub(crate) fn grow_content<S: SnapBackend, B: BlobBackend, I: IngestBackend>(
     tables: &mut Tables,
     leases: &mut Leases,
@@ -138,7 +168,6 @@ pub(crate) fn grow_content<S: SnapBackend, B: BlobBackend, I: IngestBackend>(
 ) -> Result<(), Fault>
     requires ns { has_namespace tables.old ns.now ≡ true }
     requires lease { is_lease_there ns.now lease.now leases.old ≡ true }
-    requires free { has_row content_key (ns.now ∷ digest.now ∷ []) tables.old.content ≡ false }
     ensures tables { OnOk result (tables.new ≡ record tables.old {
       content = add_row content_key
           (record { ns = ns.now; digest = digest.now; labels = labels }) tables.old.content;
@@ -151,12 +180,12 @@ pub(crate) fn grow_content<S: SnapBackend, B: BlobBackend, I: IngestBackend>(
         × (B.contents backends.new.blobs ≡ B.contents backends.old.blobs)) }
     ensures others { (backends.new.shards ≡ backends.old.shards)
         × (backends.new.ingests ≡ backends.old.ingests) }
-    ensures fault { MakesOrFails result (B.fails backends.old.blobs) (B.fails backends.new.blobs) }
+    ensures fault { MakesWhereFree
+        (has_row content_key (ns.now ∷ digest.now ∷ []) tables.old.content) result
+        (B.fails backends.old.blobs) (B.fails backends.new.blobs) }
 {
-    let resource = content_resource(digest)?;
-    let row = content_row(ns, digest, labels)?;
-    tables.add_content(alloc, row)?;
-    match hold_and_make(leases, backends, alloc, ns, lease, &resource, digest) {
+    add_row_of(tables, alloc, ns, digest, labels)?;
+    match hold_and_make(leases, backends, alloc, ns, lease, digest) {
         Ok(()) => Ok(()),
         Err(fault) => {
             let _ = tables.remove_content(ns, digest);
