@@ -1,23 +1,15 @@
 //! The program: runs a script of requests on standard input and output.
 #![tactic(auto)]
 
-mod answering;
 mod args;
-mod desk;
-mod laws;
-mod line_buffer;
-mod lines;
-mod script;
-mod serving;
 #[cfg(test)]
 mod tests;
 #[cfg(test)]
 mod tests_flush;
-mod writing;
 
 use args::{ArgFault, parse_args};
 use meta_types::Fault;
-use script::run_script;
+use scripts::run_script;
 use std::alloc::Global;
 use std::process::ExitCode;
 use std::sync::Wait;

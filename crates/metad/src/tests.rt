@@ -1,7 +1,7 @@
 //! Readers, writers, clients and command lines. Whole scripts are run by trials/scripts.
 use crate::args::{ArgFault, parse_args};
-use crate::script::run_script;
 use meta_types::Fault;
+use scripts::run_script;
 use std::alloc::Global;
 use std::cell::Cell;
 use std::io;

@@ -1,6 +1,6 @@
 //! A writer that takes all bytes and can't be flushed.
-use crate::script::run_script;
 use meta_types::Fault;
+use scripts::run_script;
 use std::io;
 use std::test::Fail;
 

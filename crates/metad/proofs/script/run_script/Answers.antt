@@ -1,6 +1,0 @@
-use Rattle.metad.proofs.Runs.{Exchanges-none}
-use Rattle.metad.proofs.script.run_script.Goals as goal
-
--- nothing was read, and nothing written
-pub returns-then-not-is_worker_count-clause-err : goal.returns-then-not-is_worker_count-clause-err
-returns-then-not-is_worker_count-clause-err g c = Exchanges-none _ _

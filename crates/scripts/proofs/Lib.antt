@@ -1,0 +1,6 @@
+pub mod LineAnswers
+pub mod Scripts
+pub mod Writers
+pub mod Runs
+pub mod Outcomes
+pub mod Served

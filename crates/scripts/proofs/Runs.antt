@@ -1,0 +1,228 @@
+-- On how far a run has come.
+use Rattle.std.proofs.Common.{◌≡◌, ◌∙◌, ap, sym, refl, ℕ, List, [], ◌∷◌, ◌++◌, false, append_assoc, Option}
+use Rattle.std.specs.List.{list_any}
+use Rattle.std.specs.Io.KnownBytes.{Appends, Consumes, Keeps}
+use Rattle.std.proofs.lemmas.List.{append-nil}
+use Rattle.std.proofs.lemmas.List.Folds.{list_any-append}
+use Rattle.scripts.specs.LineSteps.{Refusal, line_step}
+use Rattle.meta_types.specs.Rows.{State}
+use Rattle.scripts.proofs.LineAnswers.{line_step-empty}
+use Rattle.scripts.specs.declared.line_buffer.LineBuffer.{LineBuffer}
+use Rattle.meta_types.specs.Scripts.{empty_store}
+use Rattle.scripts.specs.Lines.{is_line_feed, lines_of, whole_lines}
+use Rattle.scripts.specs.Output.{Refusals, output_from, output_of, IsOutput, IsWholeOutput, IsBeginning}
+use Rattle.scripts.specs.Progress.{Progress, IsLine, Answers, Advances, Breaks, BeginsReply, EndsWith, Runs, Exchanges}
+use Rattle.scripts.proofs.Scripts.{lines_of-line, lines_of-last, whole_lines-ended, whole_lines-rest}
+use Rattle.scripts.proofs.Writers.{Appends-append, Appends-none, Appends-Keeps, Consumes-append, Consumes-none, Consumes-Keeps}
+
+-- a run that begins
+pub Progress-empty : (buffer : LineBuffer) → IsLine buffer [] → Progress [] [] empty_store buffer
+Progress-empty buffer e = record {
+  whole = [];
+  line = [];
+  refusals = [];
+  parts = refl;
+  is_whole = refl;
+  no_feed = refl;
+  is_line = e;
+  goes_on = λ more tail. refl;
+}
+
+-- a piece without a line feed
+pub Progress-piece : (taken written : List ℕ) (state : State) (old new : LineBuffer) (piece : List ℕ) → Progress taken written state old
+    → ((line : List ℕ) → IsLine old line → IsLine new (line ++ piece)) → list_any is_line_feed piece ≡ false → Progress (taken ++ piece) written state new
+Progress-piece taken written state old new piece p add none = record {
+  whole = p.whole;
+  line = p.line ++ piece;
+  refusals = p.refusals;
+  parts = ap (λ b. b ++ piece) p.parts ∙ append_assoc p.whole p.line piece;
+  is_whole = p.is_whole;
+  no_feed = list_any-append is_line_feed p.line piece ∙ rw (p.no_feed, none) refl;
+  is_line = add p.line p.is_line;
+  goes_on = p.goes_on;
+}
+
+-- the output goes on with the reply to the line
+reply_next : (taken written : List ℕ) (state : State) (old : LineBuffer) (p : Progress taken written state old) (out : List ℕ) (next : State) (a : Answers state p.line out next) (more : Refusals) (tail : List ℕ)
+    → output_of (p.refusals ++ a.0 ∷ more) (p.whole ++ (p.line ++ 10 ∷ tail)) ≡ written ++ (out ++ output_from next more (lines_of tail))
+reply_next taken written state old p out next a more tail =
+    p.goes_on (a.0 ∷ more) (p.line ++ 10 ∷ tail) ∙ rw (lines_of-line p.line tail p.no_feed, a.1) refl
+
+-- a line that was answered
+pub Progress-line : (taken written : List ℕ) (state : State) (old new : LineBuffer) (p : Progress taken written state old) (out : List ℕ) (next : State) → Answers state p.line out next → IsLine new []
+    → Progress (taken ++ 10 ∷ []) (written ++ out) next new
+Progress-line taken written state old new p out next a e = record {
+  whole = (p.whole ++ p.line) ++ 10 ∷ [];
+  line = [];
+  refusals = p.refusals ++ a.0 ∷ [];
+  parts = ap (λ b. b ++ 10 ∷ []) p.parts ∙ sym (append-nil ((p.whole ++ p.line) ++ 10 ∷ []));
+  is_whole = whole_lines-ended (p.whole ++ p.line);
+  no_feed = refl;
+  is_line = e;
+  goes_on = λ more tail. simp append_assoc (reply_next taken written state old p out next a more tail);
+}
+
+-- a line whose reply was begun
+pub begins_line : (taken written : List ℕ) (state : State) (old : LineBuffer) (p : Progress taken written state old) (out front back : List ℕ) (next : State) → Answers state p.line out next → front ++ back ≡ out
+    → (tail : List ℕ) → IsBeginning ((taken ++ 10 ∷ []) ++ tail) (written ++ front)
+begins_line taken written state old p out front back next a e tail =
+    let after = output_from next [] (lines_of tail) in
+    let whole = reply_next taken written state old p out next a [] tail ∙ ap (λ o. written ++ (o ++ after)) (sym e) in
+    (p.refusals ++ a.0 ∷ [], back ++ after, rw p.parts (simp append_assoc (sym (simp append_assoc at whole))))
+
+-- what was written so far
+pub begins : (taken written : List ℕ) (state : State) (buffer : LineBuffer) → Progress taken written state buffer → (tail : List ℕ) → IsBeginning (taken ++ tail) written
+begins taken written state buffer p tail =
+    (p.refusals ++ [], output_from state [] (lines_of (p.line ++ tail)), rw p.parts (simp append_assoc (sym (p.goes_on [] (p.line ++ tail)))))
+
+-- an end that wrote nothing
+pub Breaks-none : (buffer : LineBuffer) (state : State) (bytes : List ℕ) (held : Option (List ℕ)) → Breaks buffer state bytes held held
+Breaks-none buffer state bytes held = record {
+  begins = λ taken written p.
+      ([], Appends-none held, λ tail. simp (append_assoc, append-nil) (begins taken written state buffer p (bytes ++ tail)));
+}
+
+pub Advances-none : (buffer : LineBuffer) (state : State) (held : Option (List ℕ)) → Advances buffer state buffer state [] held held
+Advances-none buffer state held = record { goes = λ taken written p. ([], Appends-none held, simp append-nil p) }
+
+pub Advances-piece : (old new : LineBuffer) (state : State) (piece : List ℕ) (held : Option (List ℕ)) → ((line : List ℕ) → IsLine old line → IsLine new (line ++ piece))
+    → list_any is_line_feed piece ≡ false → Advances old state new state piece held held
+Advances-piece old new state piece held add none = record {
+  goes = λ taken written p.
+      ([], Appends-none held, simp append-nil (Progress-piece taken written state old new piece p add none));
+}
+
+pub Advances-append : {b0 b1 b2 : LineBuffer} {s0 s1 s2 : State} {xs ys : List ℕ} {h0 h1 h2 : Option (List ℕ)} (all : List ℕ)
+    → xs ++ ys ≡ all → Advances b0 s0 b1 s1 xs h0 h1 → Advances b1 s1 b2 s2 ys h1 h2 → Advances b0 s0 b2 s2 all h0 h2
+Advances-append {xs = xs} {ys = ys} {h0 = h0} {h1 = h1} {h2 = h2} all e first later = record {
+  goes = λ taken written p.
+      let a = first.goes taken written p in
+      let b = later.goes (taken ++ xs) (written ++ a.0) a.2 in
+      (a.0 ++ b.0, Appends-append h0 h1 h2 a.0 b.0 a.1 b.1, rw (← e, ← append_assoc taken xs ys, ← append_assoc written a.0 b.0) b.2);
+}
+
+pub Breaks-after : {b0 b1 : LineBuffer} {s0 s1 : State} {xs ys : List ℕ} {h0 h1 h2 : Option (List ℕ)} (all : List ℕ)
+    → xs ++ ys ≡ all → Advances b0 s0 b1 s1 xs h0 h1 → Breaks b1 s1 ys h1 h2 → Breaks b0 s0 all h0 h2
+Breaks-after {xs = xs} {ys = ys} {h0 = h0} {h1 = h1} {h2 = h2} all e first later = record {
+  begins = λ taken written p.
+      let a = first.goes taken written p in
+      let b = later.begins (taken ++ xs) (written ++ a.0) a.2 in
+      (a.0 ++ b.0, Appends-append h0 h1 h2 a.0 b.0 a.1 b.1, λ tail. rw (← e, ← append_assoc taken xs ys, ← append_assoc written a.0 b.0) (b.2 tail));
+}
+
+pub Breaks-more : {buffer : LineBuffer} {state : State} {xs : List ℕ} {h0 h1 : Option (List ℕ)} (ys all : List ℕ) → xs ++ ys ≡ all → Breaks buffer state xs h0 h1 → Breaks buffer state all h0 h1
+Breaks-more {xs = xs} ys all e broke = record {
+  begins = λ taken written p.
+      let b = broke.begins taken written p in
+      (b.0, b.1, λ tail. rw (← e, ← append_assoc taken xs ys, append_assoc (taken ++ xs) ys tail) (b.2 (ys ++ tail)));
+}
+
+-- all was answered, and the writer flushed
+pub Advances-flush : {b0 b1 : LineBuffer} {s0 s1 : State} {bytes : List ℕ} {h0 h1 h2 : Option (List ℕ)} → Advances b0 s0 b1 s1 bytes h0 h1 → Keeps h1 h2 → Advances b0 s0 b1 s1 bytes h0 h2
+Advances-flush {h0 = h0} {h1 = h1} {h2 = h2} more kept = record {
+  goes = λ taken written p.
+      let a = more.goes taken written p in
+      (a.0, Appends-Keeps h0 h1 h2 a.0 a.1 kept, a.2);
+}
+
+-- all was answered, but the writer couldn't be flushed
+pub Breaks-flush : {b0 b1 : LineBuffer} {s0 s1 : State} {bytes : List ℕ} {h0 h1 h2 : Option (List ℕ)} → Advances b0 s0 b1 s1 bytes h0 h1 → Keeps h1 h2 → Breaks b0 s0 bytes h0 h2
+Breaks-flush {b1 = b1} {s1 = s1} {bytes = bytes} {h0 = h0} {h1 = h1} {h2 = h2} more kept = record {
+  begins = λ taken written p.
+      let a = more.goes taken written p in
+      (a.0, Appends-Keeps h0 h1 h2 a.0 a.1 kept, λ tail. begins (taken ++ bytes) (written ++ a.0) s1 b1 a.2 tail);
+}
+
+-- a last line
+last_reply : (state : State) (refusal : Option Refusal) (line : List ℕ) → list_any is_line_feed line ≡ false → output_from state (refusal ∷ []) (lines_of line) ≡ (line_step state refusal line).0
+last_reply state refusal [] none = sym (ap (λ (p : List ℕ × State). p.0) (line_step-empty state refusal [] refl))
+last_reply state refusal (b ∷ line) none = rw (lines_of-last b line none) (append-nil (line_step state refusal (b ∷ line)).0)
+
+last_output : (taken written : List ℕ) (state : State) (buffer : LineBuffer) (p : Progress taken written state buffer) (out : List ℕ) (next : State) (a : Answers state p.line out next)
+    → written ++ out ≡ output_of (p.refusals ++ a.0 ∷ []) taken
+last_output taken written state buffer p out next a =
+    rw p.parts (sym (p.goes_on (a.0 ∷ []) p.line ∙ ap (λ o. written ++ o) (last_reply state a.0 p.line p.no_feed ∙ ap (λ (q : List ℕ × State). q.0) a.1)))
+
+pub EndsWith-reply : (buffer : LineBuffer) (state : State) (h0 h1 : Option (List ℕ)) → ((line : List ℕ) → IsLine buffer line → (bytes : List ℕ) × (next : State) × Answers state line bytes next × Appends h0 h1 bytes)
+    → EndsWith IsOutput buffer state h0 h1
+EndsWith-reply buffer state h0 h1 reply = record {
+  ends = λ taken written p.
+      let r = reply p.line p.is_line in
+      (r.0, r.3, (p.refusals ++ r.2.0 ∷ [], last_output taken written state buffer p r.0 r.1 r.2));
+}
+
+pub EndsWith-front : (buffer : LineBuffer) (state : State) (h0 h1 : Option (List ℕ)) → ((line : List ℕ) → IsLine buffer line → BeginsReply state line h0 h1)
+    → EndsWith IsBeginning buffer state h0 h1
+EndsWith-front buffer state h0 h1 reply = record {
+  ends = λ taken written p.
+      let r = reply p.line p.is_line in
+      (r.4.0, r.4.2, (p.refusals ++ r.3.0 ∷ [], r.1, append_assoc written r.4.0 r.1 ∙ ap (λ o. written ++ o) r.4.1 ∙ last_output taken written state buffer p r.0 r.2 r.3));
+}
+
+-- What was answered is the output for the whole lines.
+pub whole_output : (taken written : List ℕ) (state : State) (buffer : LineBuffer) → Progress taken written state buffer → IsWholeOutput taken written
+whole_output taken written state buffer p =
+    let whole : whole_lines taken ≡ p.whole = ap whole_lines p.parts ∙ whole_lines-rest p.whole p.line p.is_whole p.no_feed in
+    (p.refusals, rw whole (sym (simp append-nil at (p.goes_on [] []))))
+
+pub Runs-none : (state : State) (buffer : LineBuffer) (left held : Option (List ℕ)) → Progress [] [] state buffer → Runs state buffer left left held held
+Runs-none state buffer left held p = record { read = []; written = []; consumes = Consumes-none left; appends = Appends-none held; progress = p }
+
+pub Runs-feed : {s0 s1 : State} {b0 b1 : LineBuffer} {l0 l1 l2 h0 h1 h2 : Option (List ℕ)} (bytes : List ℕ)
+    → Runs s0 b0 l0 l1 h0 h1 → Consumes l1 l2 bytes → Advances b0 s0 b1 s1 bytes h1 h2 → Runs s1 b1 l0 l2 h0 h2
+Runs-feed {l0 = l0} {l1 = l1} {l2 = l2} {h0 = h0} {h1 = h1} {h2 = h2} bytes r taken more =
+    let a = more.goes r.read r.written r.progress in
+    record {
+      read = r.read ++ bytes;
+      written = r.written ++ a.0;
+      consumes = Consumes-append l0 l1 l2 r.read bytes r.consumes taken;
+      appends = Appends-append h0 h1 h2 r.written a.0 r.appends a.1;
+      progress = a.2;
+    }
+
+pub Runs-break : {s0 : State} {b0 : LineBuffer} {l0 l1 l2 h0 h1 h2 : Option (List ℕ)} (bytes : List ℕ)
+    → Runs s0 b0 l0 l1 h0 h1 → Consumes l1 l2 bytes → Breaks b0 s0 bytes h1 h2 → Exchanges IsBeginning l0 l2 h0 h2
+Runs-break {l0 = l0} {l1 = l1} {l2 = l2} {h0 = h0} {h1 = h1} {h2 = h2} bytes r taken more =
+    let a = more.begins r.read r.written r.progress in
+    record {
+      read = r.read ++ bytes;
+      written = r.written ++ a.0;
+      consumes = Consumes-append l0 l1 l2 r.read bytes r.consumes taken;
+      appends = Appends-append h0 h1 h2 r.written a.0 r.appends a.1;
+      related = simp append-nil at (a.2 []);
+    }
+
+pub Runs-end : {s0 : State} {b0 : LineBuffer} {l0 l1 l2 h0 h1 h2 : Option (List ℕ)} (P : List ℕ → List ℕ → Type 0)
+    → Runs s0 b0 l0 l1 h0 h1 → Consumes l1 l2 [] → EndsWith P b0 s0 h1 h2 → Exchanges P l0 l2 h0 h2
+Runs-end {l0 = l0} {l1 = l1} {l2 = l2} {h0 = h0} {h1 = h1} {h2 = h2} P r taken more =
+    let a = more.ends r.read r.written r.progress in
+    let all : Consumes l0 l2 r.read = simp append-nil at (Consumes-append l0 l1 l2 r.read [] r.consumes taken) in
+    record {
+      read = r.read;
+      written = r.written ++ a.0;
+      consumes = all;
+      appends = Appends-append h0 h1 h2 r.written a.0 r.appends a.1;
+      related = a.2;
+    }
+
+pub Runs-whole : {s0 : State} {b0 : LineBuffer} {l0 l1 l2 h0 h1 : Option (List ℕ)} → Runs s0 b0 l0 l1 h0 h1 → Keeps l1 l2 → Exchanges IsWholeOutput l0 l2 h0 h1
+Runs-whole {s0 = s0} {b0 = b0} {l0 = l0} {l1 = l1} {l2 = l2} r kept = record {
+  read = r.read;
+  written = r.written;
+  consumes = Consumes-Keeps l0 l1 l2 r.read r.consumes kept;
+  appends = r.appends;
+  related = whole_output r.read r.written s0 b0 r.progress;
+}
+
+pub Runs-begins : {s0 : State} {b0 : LineBuffer} {l0 l1 l2 h0 h1 : Option (List ℕ)} → Runs s0 b0 l0 l1 h0 h1 → Keeps l1 l2 → Exchanges IsBeginning l0 l2 h0 h1
+Runs-begins {s0 = s0} {b0 = b0} {l0 = l0} {l1 = l1} {l2 = l2} r kept = record {
+  read = r.read;
+  written = r.written;
+  consumes = Consumes-Keeps l0 l1 l2 r.read r.consumes kept;
+  appends = r.appends;
+  related = simp append-nil at (begins r.read r.written s0 b0 r.progress []);
+}
+
+-- a run that read and wrote nothing
+pub Exchanges-none : (left held : Option (List ℕ)) → Exchanges IsBeginning left left held held
+Exchanges-none left held = record { read = []; written = []; consumes = Consumes-none left; appends = Appends-none held; related = ([], [], refl) }

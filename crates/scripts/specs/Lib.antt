@@ -1,0 +1,6 @@
+pub mod Lines
+pub mod EventSteps
+pub mod LineSteps
+pub mod Served
+pub mod Output
+pub mod Progress

@@ -1,0 +1,85 @@
+-- How far a run has come: what its functions keep between themselves.
+use Rattle.std.specs.Prelude.{◌≡◌, ◌<◌, ℕ, List, ◌++◌, length, false, MatchBool, Option, ◌⊎◌}
+use Rattle.std.specs.List.{list_any}
+use Rattle.std.specs.Io.KnownBytes.{Appends, Consumes}
+use Rattle.scripts.specs.LineSteps.{Refusal, line_step}
+use Rattle.meta_types.specs.Rows.{State}
+use Rattle.meta_types.specs.declared.fault.Fault.{Fault}
+use Rattle.meta_types.specs.declared.fault.Fault.TheVariants.{InvalidArgument, OutOfMemory, ReadFailed, WriteFailed}
+use Rattle.scripts.specs.declared.line_buffer.LineBuffer.{LineBuffer}
+use Rattle.scripts.specs.Lines.{is_line_feed, lines_of, whole_lines}
+use Rattle.scripts.specs.Output.{Refusals, output_from, output_of, IsBeginning}
+
+-- what can end a run after it began
+abbrev pub IsLateFault : Fault → Type 0
+IsLateFault fault = (fault ≡ OutOfMemory) ⊎ (fault ≡ WriteFailed)
+
+-- what can end a run whose number of workers is allowed (ours)
+abbrev pub IsStartedFault : Fault → Type 0
+IsStartedFault fault = (fault ≡ ReadFailed) ⊎ IsLateFault fault
+
+-- what can end a run (ours)
+abbrev pub IsRunFault : Fault → Type 0
+IsRunFault fault = (fault ≡ InvalidArgument) ⊎ IsStartedFault fault
+
+-- the buffer holds the line, or knows that it is too long
+abbrev pub IsLine : LineBuffer → List ℕ → Type 0
+IsLine buffer line = MatchBool buffer.is_too_long (65536 < length line) (buffer.bytes.items ≡ line)
+
+-- These bytes were taken in and these were written, the whole lines among them are answered, and the buffer has what follows.
+pub record Progress (taken written : List ℕ) (state : State) (buffer : LineBuffer) : Type 0 where
+  pub whole : List ℕ
+  pub line : List ℕ
+  pub refusals : Refusals
+  pub parts : taken ≡ whole ++ line
+  pub is_whole : whole_lines whole ≡ whole
+  pub no_feed : list_any is_line_feed line ≡ false
+  pub is_line : IsLine buffer line
+  pub goes_on : (more : Refusals) (tail : List ℕ) → output_of (refusals ++ more) (whole ++ tail) ≡ written ++ output_from state more (lines_of tail)
+
+-- The bytes were taken in, and what they ask for was written.
+pub record Advances (old_buffer : LineBuffer) (old_state : State) (buffer : LineBuffer) (state : State) (bytes : List ℕ) (held_old held : Option (List ℕ)) : Type 0 where
+  pub goes : (taken written : List ℕ) → Progress taken written old_state old_buffer →
+      (out : List ℕ) × Appends held_old held out × Progress (taken ++ bytes) (written ++ out) state buffer
+
+-- What was written begins the output for the bytes, whatever follows them.
+pub record Breaks (buffer : LineBuffer) (state : State) (bytes : List ℕ) (held_old held : Option (List ℕ)) : Type 0 where
+  pub begins : (taken written : List ℕ) → Progress taken written state buffer →
+      (out : List ℕ) × Appends held_old held out × ((tail : List ℕ) → IsBeginning ((taken ++ bytes) ++ tail) (written ++ out))
+
+-- The writer took the bytes but for the rest.
+abbrev pub WritesFront : Option (List ℕ) → Option (List ℕ) → List ℕ → List ℕ → Type 0
+WritesFront held_old held rest bytes = (front : List ℕ) × (front ++ rest ≡ bytes) × Appends held_old held front
+
+-- The reply to a line, as bytes.
+abbrev pub Answers : State → List ℕ → List ℕ → State → Type 0
+Answers old line bytes new = (refusal : Option Refusal) × (line_step old refusal line ≡ (bytes, new))
+
+-- The reply to a line was written.
+abbrev pub Replies : State → List ℕ → State → Option (List ℕ) → Option (List ℕ) → Type 0
+Replies old line new held_old held = (bytes : List ℕ) × Answers old line bytes new × Appends held_old held bytes
+
+-- The first bytes of the reply to a line were written.
+abbrev pub BeginsReply : State → List ℕ → Option (List ℕ) → Option (List ℕ) → Type 0
+BeginsReply old line held_old held =
+    (bytes : List ℕ) × (rest : List ℕ) × (new : State) × Answers old line bytes new × WritesFront held_old held rest bytes
+
+-- What a run read and wrote is so related, as far as reader and writer tell their bytes.
+pub record Exchanges (IsRelated : List ℕ → List ℕ → Type 0) (left_old left held_old held : Option (List ℕ)) : Type 0 where
+  pub read : List ℕ
+  pub written : List ℕ
+  pub consumes : Consumes left_old left read
+  pub appends : Appends held_old held written
+  pub related : IsRelated read written
+
+-- A run that may go on.
+pub record Runs (state : State) (buffer : LineBuffer) (left_old left held_old held : Option (List ℕ)) : Type 0 where
+  pub read : List ℕ
+  pub written : List ℕ
+  pub consumes : Consumes left_old left read
+  pub appends : Appends held_old held written
+  pub progress : Progress read written state buffer
+
+-- At the end of a script, what was written is so related to it.
+pub record EndsWith (IsRelated : List ℕ → List ℕ → Type 0) (buffer : LineBuffer) (state : State) (held_old held : Option (List ℕ)) : Type 0 where
+  pub ends : (taken written : List ℕ) → Progress taken written state buffer → (out : List ℕ) × Appends held_old held out × IsRelated taken (written ++ out)

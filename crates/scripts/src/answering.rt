@@ -1,0 +1,107 @@
+//! Answers one line of a script.
+ghost use Rattle.std.specs.Prelude.{◌≡◌, ◌≤◌, ◌<◌, length, true, IfOk, IfErr, OnErr, Option, None, string_bytes};
+ghost use Rattle.meta_types.specs.Faults.{Refuses};
+ghost use Rattle.meta_types.specs.Limits.{is_worker_count};
+ghost use Rattle.meta_types.specs.Steps.{refused};
+ghost use Rattle.meta_types.specs.declared.fault.Fault.TheVariants.{TooLong as too_long_fault};
+ghost use Rattle.reply_line.specs.Answers.{answer_of};
+ghost use Rattle.reply_line.specs.Replies.{answer_text};
+ghost use Rattle.scripts.specs.LineSteps.{Refusal, answer_step, line_step, reply_bytes};
+
+use crate::serving::serve_asked;
+use meta_types::Fault;
+use reply_line::{Answer, reply_text};
+use request_line::read_line;
+use std::alloc::Global;
+use std::mem::drop;
+use std::sync::Wait;
+use std::sync::ledger::Ledger;
+use std::thread::Threads;
+use store_front::{Locked, Session};
+
+// What a line asks for, done.
+fn serve_line<L: Ledger, R: Threads + Wait + Sync>(
+    locked: &mut Locked<L>,
+    rt: &R,
+    alloc: Global,
+    session: &mut Session<L>,
+    line: &[u8],
+    workers: usize,
+) -> Result<Answer, Fault>
+    requires opened { session.old.number < locked.old.opened }
+    requires length { length line.now ≤ 65536 }
+    requires workers { is_worker_count workers ≡ true }
+    ensures ok { IfOk result (λ answer. (refusal : Option Refusal)
+        × (answer_step locked.old.store.state refusal line.now
+        ≡ (answer_of answer, locked.new.store.state))) }
+    ensures err { IfErr result (λ fault. (refusal : Option Refusal)
+        × (answer_step locked.old.store.state refusal line.now
+        ≡ (refused fault, locked.new.store.state))) }
+    ensures opened { session.new.number < locked.new.opened }
+{
+    let asked = read_line(alloc, line)?;
+    let answer = serve_asked(locked, rt, alloc, session, &asked, workers);
+    drop(asked);
+    answer
+}
+
+// The answer to a line that isn't empty.
+fn answer_to<L: Ledger, R: Threads + Wait + Sync>(
+    locked: &mut Locked<L>,
+    rt: &R,
+    alloc: Global,
+    session: &mut Session<L>,
+    line: &[u8],
+    workers: usize,
+) -> Answer
+    requires opened { session.old.number < locked.old.opened }
+    requires length { length line.now ≤ 65536 }
+    requires workers { is_worker_count workers ≡ true }
+    ensures answer { (refusal : Option Refusal)
+        × (answer_step locked.old.store.state refusal line.now
+        ≡ (answer_of result, locked.new.store.state)) }
+    ensures opened { session.new.number < locked.new.opened }
+{
+    match serve_line(locked, rt, alloc, session, line, workers) {
+        Ok(answer) => answer,
+        Err(fault) => Answer::Refused(fault),
+    }
+}
+
+/// Answers one line, without its line feed: nothing for an empty one. Where the text of an
+/// answer can't be made, what the line asked for is done all the same.
+pub fn answer_line<L: Ledger, R: Threads + Wait + Sync>(
+    locked: &mut Locked<L>,
+    rt: &R,
+    alloc: Global,
+    session: &mut Session<L>,
+    line: &[u8],
+    workers: usize,
+) -> Result<Option<String>, Fault>
+    requires opened { session.old.number < locked.old.opened }
+    requires length { length line.now ≤ 65536 }
+    requires workers { is_worker_count workers ≡ true }
+    ensures fault { Refuses result None }
+    ensures ok { IfOk result (λ reply. (refusal : Option Refusal)
+        × (line_step locked.old.store.state refusal line.now
+        ≡ (reply_bytes reply, locked.new.store.state))) }
+    ensures err { OnErr result ((refusal : Option Refusal)
+        × (locked.new.store.state ≡ (line_step locked.old.store.state refusal line.now).1)) }
+    ensures opened { session.new.number < locked.new.opened }
+{
+    if line.is_empty() {
+        return Ok(None);
+    }
+    let answer = answer_to(locked, rt, alloc, session, line, workers);
+    let text = reply_text(alloc, &answer);
+    drop(answer);
+    Ok(Some(text?))
+}
+
+/// The reply to a line that is too long.
+pub fn too_long(alloc: Global) -> Result<String, Fault>
+    ensures fault { Refuses result None }
+    ensures ok { IfOk result (λ text. string_bytes text ≡ answer_text (refused too_long_fault)) }
+{
+    reply_text(alloc, &Answer::Refused(Fault::TooLong))
+}

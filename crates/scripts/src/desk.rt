@@ -1,0 +1,117 @@
+//! The store of a script, with its one session.
+ghost use Rattle.std.specs.Prelude.{◌≡◌, ◌≤◌, length, true, IfOk, OnErr, Option, None};
+ghost use Rattle.meta_types.specs.Faults.{Refuses};
+ghost use Rattle.meta_types.specs.Limits.{is_worker_count};
+ghost use Rattle.meta_types.specs.Scripts.{empty_store};
+ghost use Rattle.scripts.specs.LineSteps.{Refusal, line_step, reply_bytes};
+
+use crate::answering::answer_line;
+use meta_types::Fault;
+use request_core::State;
+use std::alloc::Global;
+use std::marker::Model;
+use std::slice;
+use std::sync::Wait;
+use std::sync::ledger::{Blank, Ledger};
+use std::thread::Threads;
+use store_front::{Locked, Session};
+
+/// A history is begun anew once it has this many entries, and as many as the store has rows. Ours.
+const HISTORY_LIMIT: usize = 65536;
+
+/// The store of a script, in memory, with its one session, and how many workers collect.
+#[derive(Drop)]
+pub struct Desk<L: Ledger> {
+    locked: Locked<L>,
+    session: Session<L>,
+    workers: usize,
+}
+
+impl<L: Ledger> Model for Desk<L> {
+    ghost use Rattle.std.specs.Prelude.{◌≡◌, ◌<◌, true};
+    ghost use Rattle.meta_types.specs.Limits.{is_worker_count};
+    ghost use Rattle.meta_types.specs.Rows.{State};
+
+    ghost Value = { State };
+
+    ghost view = { λ d. d.locked.store.state };
+
+    ghost invariant = { λ d. record {
+      opened : d.session.number < d.locked.opened;
+      workers : is_worker_count d.workers ≡ true;
+    } };
+}
+
+impl<L: Ledger> Desk<L> {
+    /// An empty store. The blank has 65,536 parts.
+    pub fn open(alloc: Global, blank: Blank, workers: usize) -> Result<Desk<L>, Fault>
+        requires name { blank.name ≡ L.name }
+        requires parts { (blank.parts ≡ L.parts) × (blank.parts ≡ 65536) }
+        requires workers { is_worker_count workers ≡ true }
+        ensures fault { Refuses result None }
+        ensures ok { IfOk result (λ desk. desk ≡ empty_store) }
+    {
+        let mut locked = Locked::open(alloc, blank, State::empty(alloc))?;
+        let session = locked.session(alloc)?;
+        Ok(Desk {
+            locked,
+            session,
+            workers,
+        })
+    }
+
+    /// Answers one line, without its line feed, as `answer_line`.
+    pub fn answer<R: Threads + Wait + Sync>(
+        &mut self,
+        rt: &R,
+        alloc: Global,
+        line: &[u8],
+    ) -> Result<Option<String>, Fault>
+        requires { length line.now ≤ 65536 }
+        ensures fault { Refuses result None }
+        ensures ok { IfOk result (λ reply. (refusal : Option Refusal)
+            × (line_step self.old refusal line.now ≡ (reply_bytes reply, self.new))) }
+        ensures err { OnErr result ((refusal : Option Refusal)
+            × (self.new ≡ (line_step self.old refusal line.now).1)) }
+    {
+        answer_line(
+            &mut self.locked,
+            rt,
+            alloc,
+            &mut self.session,
+            line,
+            self.workers,
+        )
+    }
+
+    // Whether the history is long enough to be begun anew. It takes no memory.
+    fn is_long(&self) -> bool {
+        let entries = self.session.list().len();
+        if entries < HISTORY_LIMIT {
+            return false;
+        }
+        let counts = self.locked.records().tables.counts();
+        let objects = counts.images.saturating_add(counts.containers);
+        let stored = counts.content.saturating_add(counts.ingests);
+        let rows = objects
+            .saturating_add(stored)
+            .saturating_add(counts.snapshots);
+        rows <= entries as u128
+    }
+
+    /// Begins the history anew where it is long, so that memory grows with the store and not with
+    /// the requests. Where memory is wanting for that, it goes on as it is.
+    pub fn shorten_history(&mut self, alloc: Global)
+        ensures { self.new ≡ self.old }
+    {
+        if !self.is_long() {
+            return;
+        }
+        let Desk {
+            locked,
+            session,
+            ..
+        } = self;
+        let _history = locked.begin_anew(alloc, slice::from_mut(session));
+    }
+}

@@ -1,0 +1,14 @@
+//! Scripts of requests: bytes in, one reply line a request out.
+#![tactic(auto)]
+
+mod answering;
+mod desk;
+pub mod laws;
+mod line_buffer;
+mod lines;
+mod script;
+mod serving;
+mod writing;
+
+pub use answering::answer_line;
+pub use script::run_script;

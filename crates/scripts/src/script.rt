@@ -1,0 +1,226 @@
+//! Runs a script.
+ghost use Rattle.std.specs.Prelude.{◌≡◌, ◌++◌, ◌∷◌, ◌↔◌, ℕ, [], List, None, OnOk, OnErr, IfErr, IfOk, IsErrOf, false, true};
+ghost use Rattle.std.specs.List.{list_any};
+ghost use Rattle.std.specs.Io.{ReadsAtMost};
+ghost use Rattle.std.specs.Io.KnownBytes.{IsAtEnd, ReadConsumes};
+ghost use Rattle.meta_types.specs.Faults.{Refuses};
+ghost use Rattle.meta_types.specs.Limits.{is_worker_count};
+ghost use Rattle.scripts.specs.Lines.{is_line_feed};
+ghost use Rattle.scripts.specs.LineSteps.{reply_bytes};
+ghost use Rattle.scripts.specs.Output.{IsOutput, IsWholeOutput, IsBeginning};
+ghost use Rattle.scripts.specs.Progress.{IsLine, Answers, Advances, Breaks, Replies, BeginsReply, IsLateFault, IsStartedFault, IsRunFault, EndsWith, Exchanges};
+
+use crate::answering::too_long;
+use crate::desk::Desk;
+use crate::line_buffer::LineBuffer;
+use crate::lines::cut_line;
+use crate::writing::{flush, write_line};
+use meta_types::{Fault, is_worker_count};
+use std::alloc::Global;
+use std::io::{Read, Write};
+use std::marker::Brand;
+use std::sync::Wait;
+use std::sync::ledger::{Blank, Ledger};
+use std::thread::Threads;
+
+/// A run makes fewer reads than this, which no run comes to.
+const READ_LIMIT: u64 = 1 << 62;
+
+// The reply to a line, also to one that is too long.
+fn reply_to<T: Threads + Wait + Sync, L: Ledger>(
+    rt: &T,
+    alloc: Global,
+    desk: &mut Desk<L>,
+    buffer: &LineBuffer,
+) -> Result<Option<String>, Fault>
+    ensures ok { IfOk result (λ reply. (line : List ℕ) →
+        IsLine buffer.now line → Answers desk.old line (reply_bytes reply) desk.new) }
+    ensures fault { Refuses result None }
+{
+    if buffer.is_too_long {
+        return Ok(Some(too_long(alloc)?));
+    }
+    desk.answer(rt, alloc, &buffer.bytes)
+}
+
+// Writes the reply to a line.
+fn answer<T: Threads + Wait + Sync, L: Ledger, W: Write>(
+    rt: &T,
+    alloc: Global,
+    desk: &mut Desk<L>,
+    buffer: &LineBuffer,
+    writer: &mut W,
+) -> Result<(), Fault>
+    ensures ok { OnOk result ((line : List ℕ) → IsLine buffer.now line →
+        Replies desk.old line desk.new (W.contents writer.old) (W.contents writer.new)) }
+    ensures err { OnErr result ((line : List ℕ) → IsLine buffer.now line →
+        BeginsReply desk.old line (W.contents writer.old) (W.contents writer.new)) }
+    ensures fault { IfErr result IsLateFault }
+{
+    match reply_to(rt, alloc, desk, buffer)? {
+        None => Ok(()),
+        Some(text) => write_line(writer, &text),
+    }
+}
+
+// Ends a line with the last piece of it.
+fn end_line<T: Threads + Wait + Sync, L: Ledger, W: Write>(
+    rt: &T,
+    alloc: Global,
+    desk: &mut Desk<L>,
+    buffer: &mut LineBuffer,
+    writer: &mut W,
+    piece: &[u8],
+) -> Result<(), Fault>
+    requires { list_any is_line_feed piece.now ≡ false }
+    ensures ok { OnOk result (Advances buffer.old desk.old buffer.new desk.new
+        (piece.now ++ 10 ∷ []) (W.contents writer.old) (W.contents writer.new)) }
+    ensures err { OnErr result (Breaks buffer.old desk.old (piece.now ++ 10 ∷ [])
+        (W.contents writer.old) (W.contents writer.new)) }
+    ensures fault { IfErr result IsLateFault }
+{
+    buffer.add(piece)?;
+    answer(rt, alloc, desk, buffer, writer)?;
+    buffer.clear();
+    Ok(())
+}
+
+// Answers each line that is whole with the next bytes of a script.
+fn answer_lines<T: Threads + Wait + Sync, L: Ledger, W: Write>(
+    rt: &T,
+    alloc: Global,
+    desk: &mut Desk<L>,
+    buffer: &mut LineBuffer,
+    writer: &mut W,
+    bytes: &[u8],
+) -> Result<(), Fault>
+    ensures ok { OnOk result (Advances buffer.old desk.old buffer.new desk.new bytes.now
+        (W.contents writer.old) (W.contents writer.new)) }
+    ensures err { OnErr result (Breaks buffer.old desk.old bytes.now
+        (W.contents writer.old) (W.contents writer.new)) }
+    ensures fault { IfErr result IsLateFault }
+{
+    let mut rest = bytes;
+    while let Some((piece, later)) = cut_line(rest) {
+        end_line(rt, alloc, desk, buffer, writer, piece)?;
+        rest = later;
+    }
+    buffer.add(rest)
+}
+
+// Takes in the next bytes of a script, and flushes the replies to the lines that are whole now.
+fn feed<T: Threads + Wait + Sync, L: Ledger, W: Write>(
+    rt: &T,
+    alloc: Global,
+    desk: &mut Desk<L>,
+    buffer: &mut LineBuffer,
+    writer: &mut W,
+    bytes: &[u8],
+) -> Result<(), Fault>
+    ensures ok { OnOk result (Advances buffer.old desk.old buffer.new desk.new bytes.now
+        (W.contents writer.old) (W.contents writer.new)) }
+    ensures err { OnErr result (Breaks buffer.old desk.old bytes.now
+        (W.contents writer.old) (W.contents writer.new)) }
+    ensures fault { IfErr result IsLateFault }
+{
+    answer_lines(rt, alloc, desk, buffer, writer, bytes)?;
+    flush(writer)
+}
+
+// Answers a last line that no line feed ends, and flushes the writer.
+fn finish<T: Threads + Wait + Sync, L: Ledger, W: Write>(
+    rt: &T,
+    alloc: Global,
+    desk: &mut Desk<L>,
+    buffer: &LineBuffer,
+    writer: &mut W,
+) -> Result<(), Fault>
+    ensures ok { OnOk result (EndsWith IsOutput buffer.now desk.old
+        (W.contents writer.old) (W.contents writer.new)) }
+    ensures err { OnErr result (EndsWith IsBeginning buffer.now desk.old
+        (W.contents writer.old) (W.contents writer.new)) }
+    ensures fault { IfErr result IsLateFault }
+{
+    answer(rt, alloc, desk, buffer, writer)?;
+    flush(writer)
+}
+
+// Reads the next bytes of a script.
+fn read_block<R: Read>(reader: &mut R, bytes: &mut [u8]) -> Result<usize, Fault>
+    ensures bound { ReadsAtMost result bytes.new }
+    ensures bytes { ReadConsumes (R.remaining reader.old) (R.remaining reader.new)
+        result bytes.new }
+    ensures fault { IfErr result (λ fault. fault ≡ Fault.ReadFailed) }
+{
+    match reader.read(bytes) {
+        Ok(count) => Ok(count),
+        Err(_) => Err(Fault::ReadFailed),
+    }
+}
+
+// Runs a script over the store that `L` names. The blank has 65,536 parts.
+fn run_named<L: Ledger, T: Threads + Wait + Sync, R: Read, W: Write>(
+    rt: &T,
+    alloc: Global,
+    blank: Blank,
+    reader: &mut R,
+    writer: &mut W,
+    workers: usize,
+) -> Result<(), Fault>
+    requires name { blank.name ≡ L.name }
+    requires parts { (blank.parts ≡ L.parts) × (blank.parts ≡ 65536) }
+    requires workers { is_worker_count workers ≡ true }
+    ensures end { OnOk result (IsAtEnd (R.remaining reader.new)) }
+    ensures ok { OnOk result (Exchanges IsOutput (R.remaining reader.old)
+        (R.remaining reader.new) (W.contents writer.old) (W.contents writer.new)) }
+    ensures read_failed { IsErrOf result Fault.ReadFailed → Exchanges IsWholeOutput
+        (R.remaining reader.old) (R.remaining reader.new)
+        (W.contents writer.old) (W.contents writer.new) }
+    ensures err { OnErr result (Exchanges IsBeginning (R.remaining reader.old)
+        (R.remaining reader.new) (W.contents writer.old) (W.contents writer.new)) }
+    ensures faults { IfErr result IsStartedFault }
+{
+    let mut desk = Desk::<L>::open(alloc, blank, workers)?;
+    let mut buffer = LineBuffer::new(alloc);
+    let mut bytes = [0u8; 4096];
+    'reads: for _ in 1..READ_LIMIT {
+        match read_block(reader, &mut bytes) {
+            Ok(0) => return finish(rt, alloc, &mut desk, &buffer, writer),
+            Ok(count) => feed(rt, alloc, &mut desk, &mut buffer, writer, &bytes[..count])?,
+            Err(fault) => return Err(fault),
+        }
+        desk.shorten_history(alloc);
+    }
+    Err(Fault::ReadFailed)
+}
+
+/// The headline: whatever the script, with 1 to 16 workers that steal and whatever their schedule,
+/// what is written is the output of what was read, in which a collection removes just what no path
+/// of references reaches. A line is refused with 7 or 8 only for want of memory or of a thread.
+pub fn run_script<T: Threads + Wait + Sync, R: Read, W: Write>(
+    rt: &T,
+    alloc: Global,
+    reader: &mut R,
+    writer: &mut W,
+    workers: usize,
+) -> Result<(), Fault>
+    ensures end { OnOk result (IsAtEnd (R.remaining reader.new)) }
+    ensures ok { OnOk result (Exchanges IsOutput (R.remaining reader.old)
+        (R.remaining reader.new) (W.contents writer.old) (W.contents writer.new)) }
+
+    // A line that isn't whole when the reader fails isn't answered.
+    ensures read_failed { IsErrOf result Fault.ReadFailed → Exchanges IsWholeOutput
+        (R.remaining reader.old) (R.remaining reader.new)
+        (W.contents writer.old) (W.contents writer.new) }
+    ensures err { OnErr result (Exchanges IsBeginning (R.remaining reader.old)
+        (R.remaining reader.new) (W.contents writer.old) (W.contents writer.new)) }
+    ensures workers { IsErrOf result Fault.InvalidArgument ↔ is_worker_count workers ≡ false }
+    ensures unread { IsErrOf result Fault.InvalidArgument →
+        (reader.new ≡ reader.old) × (writer.new ≡ writer.old) }
+    ensures faults { IfErr result IsRunFault }
+{
+    if !is_worker_count(workers) {
+        return Err(Fault::InvalidArgument);
+    }
+    run_named::<Brand, T, R, W>(rt, alloc, Blank::new(65536), reader, writer, workers)
+}

@@ -1,0 +1,145 @@
+//! Does what a line asks for.
+ghost use Rattle.std.specs.Prelude.{◌≡◌, ◌<◌, IfOk, IfErr, true};
+ghost use Rattle.meta_types.specs.Limits.{is_worker_count};
+ghost use Rattle.meta_types.specs.Steps.{answered, reported};
+ghost use Rattle.reply_line.specs.Answers.{answer_of};
+ghost use Rattle.request_line.specs.declared.asked.Asked.TheVariants as A;
+ghost use Rattle.scripts.specs.Served.{IsServed, IsRefused};
+
+use backend_sweep::OpenSweepGate;
+use gc_labels::read_instant;
+use gc_report::Report;
+use meta_types::{Fault, Removal, Reply, Request, Words};
+use reply_line::Answer;
+use request_line::Asked;
+use std::alloc::Global;
+use std::sync::Wait;
+use std::sync::ledger::Ledger;
+use std::thread::Threads;
+use steal_mark::OpenGate;
+use store_front::{Locked, Session};
+
+// Answers a request.
+fn request<L: Ledger>(
+    locked: &mut Locked<L>,
+    alloc: Global,
+    session: &mut Session<L>,
+    request: &Request,
+) -> Result<Reply, Fault>
+    requires { session.old.number < locked.old.opened }
+    ensures ok { IfOk result (λ reply. IsServed locked.old.store.state (A.Request request.now)
+        (answered reply) locked.new.store.state) }
+    ensures err { IfErr result (λ fault. IsRefused locked.old.store.state (A.Request request.now)
+        fault locked.new.store.state) }
+    ensures opened { session.new.number < locked.new.opened }
+{
+    locked.never_failed();
+    let reply = locked.apply(alloc, session, request);
+    locked.never_failed();
+    reply
+}
+
+// Collects at a moment, where the text is one.
+fn collect<L: Ledger, R: Threads + Wait + Sync>(
+    locked: &mut Locked<L>,
+    rt: &R,
+    alloc: Global,
+    session: &mut Session<L>,
+    at: &Words,
+    dry: bool,
+    workers: usize,
+) -> Result<Report, Fault>
+    requires opened { session.old.number < locked.old.opened }
+    requires workers { is_worker_count workers ≡ true }
+    ensures ok { IfOk result (λ report. IsServed locked.old.store.state (A.Collect at.now dry)
+        (reported report) locked.new.store.state) }
+    ensures err { IfErr result (λ fault. IsRefused locked.old.store.state (A.Collect at.now dry)
+        fault locked.new.store.state) }
+    ensures opened { session.new.number < locked.new.opened }
+{
+    let Some(at) = read_instant(at.text()) else {
+        return Err(Fault::InvalidArgument);
+    };
+    locked.never_failed();
+    let report = locked.collect(
+        rt,
+        alloc,
+        session,
+        at,
+        dry,
+        workers,
+        &OpenGate,
+        &OpenSweepGate,
+    );
+    locked.never_failed();
+    report
+}
+
+// Removes an image or a lease, and collects at a moment, where the text is one.
+fn remove<L: Ledger, R: Threads + Wait + Sync>(
+    locked: &mut Locked<L>,
+    rt: &R,
+    alloc: Global,
+    session: &mut Session<L>,
+    removal: &Removal,
+    at: &Words,
+    workers: usize,
+) -> Result<Report, Fault>
+    requires opened { session.old.number < locked.old.opened }
+    requires workers { is_worker_count workers ≡ true }
+    ensures ok { IfOk result (λ report. IsServed locked.old.store.state
+        (A.Remove removal.now at.now) (reported report) locked.new.store.state) }
+    ensures err { IfErr result (λ fault. IsRefused locked.old.store.state
+        (A.Remove removal.now at.now) fault locked.new.store.state) }
+    ensures opened { session.new.number < locked.new.opened }
+{
+    let Some(at) = read_instant(at.text()) else {
+        return Err(Fault::InvalidArgument);
+    };
+    locked.never_failed();
+    let report = locked.remove_collect(
+        rt,
+        alloc,
+        session,
+        removal,
+        at,
+        workers,
+        &OpenGate,
+        &OpenSweepGate,
+    );
+    locked.never_failed();
+    report
+}
+
+/// Does what a line asks for, with so many workers where it is a collection.
+pub fn serve_asked<L: Ledger, R: Threads + Wait + Sync>(
+    locked: &mut Locked<L>,
+    rt: &R,
+    alloc: Global,
+    session: &mut Session<L>,
+    asked: &Asked,
+    workers: usize,
+) -> Result<Answer, Fault>
+    requires opened { session.old.number < locked.old.opened }
+    requires workers { is_worker_count workers ≡ true }
+    ensures ok { IfOk result (λ answer. IsServed locked.old.store.state asked.now
+        (answer_of answer) locked.new.store.state) }
+    ensures err { IfErr result (λ fault. IsRefused locked.old.store.state asked.now fault
+        locked.new.store.state) }
+    ensures opened { session.new.number < locked.new.opened }
+{
+    match asked {
+        Asked::Request(asked) => {
+            let reply = request(locked, alloc, session, asked)?;
+            Ok(Answer::Replied(reply))
+        }
+        Asked::Collect { at, dry } => {
+            let report = collect(locked, rt, alloc, session, at, *dry, workers)?;
+            Ok(Answer::Reported(report))
+        }
+        Asked::Remove { removal, at } => {
+            let report = remove(locked, rt, alloc, session, removal, at, workers)?;
+            Ok(Answer::Reported(report))
+        }
+    }
+}
