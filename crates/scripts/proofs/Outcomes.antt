@@ -1,5 +1,5 @@
 -- Each event has one step.
-use Rattle.std.proofs.Common.{◌≡◌, refl, ap, Bool, true, false, ℤ, ℕ, Option, Some, None}
+use Rattle.std.proofs.Common.{◌≡◌, refl, ap, Bool, true, false, ℤ, Option, Some, None}
 use Rattle.std.specs.Prelude.{if◌then◌else◌}
 use Rattle.std.specs.Option.{option_map_or}
 use Rattle.meta_types.specs.Rows.{State}
@@ -7,13 +7,12 @@ use Rattle.meta_types.specs.Backends.{no_objects}
 use Rattle.meta_types.specs.Collected.{collected_records}
 use Rattle.meta_types.specs.Reports.{Report, Collects, Plans}
 use Rattle.meta_types.specs.Requests.{removal_outcome}
-use Rattle.meta_types.specs.Steps.{Answer, answered, reported, refused, Event, requested, collect, remove_collect, Step, collect_fault, remove_collect_fault}
+use Rattle.meta_types.specs.Steps.{Answer, answered, reported, refused, requested, collect, remove_collect, Step, collect_fault, remove_collect_fault}
 use Rattle.meta_types.specs.declared.fault.Fault.{Fault}
-use Rattle.meta_types.specs.declared.request.Removal.{Removal}
 use Rattle.meta_types.proofs.Exists.{a_test_tells}
 use Rattle.meta_types.proofs.NoFailure.{no_failure}
 use Rattle.meta_types.proofs.Once.{one_state, one_report, one_plan}
-use Rattle.scripts.specs.EventSteps.{reached_in, collection_report, collected_state, collects, plans, event_step, EachEventHasThisStep, NoEventHasAnotherStep}
+use Rattle.scripts.specs.EventSteps.{reached_in, collection_report, collected_state, collects, plans, EachEventHasThisStep, NoEventHasAnotherStep}
 
 -- the test tells
 these_collect : (state : State) (at : ℤ) → Collects state at no_objects (collection_report state at false) (collected_state state at)

@@ -1,5 +1,5 @@
 -- On what the store's calls did.
-use Rattle.std.proofs.Common.{◌≡◌, ◌∙◌, ap, sym, subst, refl, ℕ, ◌+◌, List, [], ◌∷◌, length, Bool, true, Option, Some, None, Result, Ok, Err, inl, inr, arith, ℤ}
+use Rattle.std.proofs.Common.{◌≡◌, ◌∙◌, sym, subst, refl, ℕ, ◌+◌, List, [], ◌∷◌, length, Bool, true, Option, Some, None, Result, Ok, Err, inl, inr, arith, ℤ}
 use Rattle.std.specs.Result.{IfErr}
 use Rattle.std.specs.Prelude.{IfOk}
 use Rattle.meta_types.specs.Time.{instant_of}
@@ -7,13 +7,10 @@ use Rattle.meta_types.specs.Limits.{is_worker_count}
 use Rattle.meta_types.specs.Rows.{State}
 use Rattle.meta_types.specs.Backends.{BackNames, no_objects}
 use Rattle.meta_types.specs.Reports.{Report}
-use Rattle.meta_types.specs.Outcomes.{least_fault}
-use Rattle.meta_types.specs.Requests.{outcome}
-use Rattle.meta_types.specs.Steps.{Answer, answered, reported, refused, Event, requested, collect, remove_collect, Step, collect_fault, remove_collect_fault}
+use Rattle.meta_types.specs.Steps.{Answer, answered, reported, Event, collect, remove_collect, Step}
 use Rattle.meta_types.specs.declared.fault.Fault.{Fault}
 use Rattle.meta_types.specs.declared.fault.Fault.TheVariants.{InvalidArgument, NotFound, AlreadyExists, FailedPrecondition, BadLine, TooLong, OutOfMemory, NoWorker, BackendFailed, ReadFailed, WriteFailed, Mismatch}
 use Rattle.meta_types.specs.declared.reply.Reply.{Reply}
-use Rattle.meta_types.specs.declared.request.Request.{Request}
 use Rattle.meta_types.specs.declared.request.Removal.{Removal}
 use Rattle.request_line.specs.declared.asked.Asked.{Asked}
 use Rattle.request_line.specs.declared.asked.Asked.TheVariants as A

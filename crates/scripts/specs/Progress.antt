@@ -1,14 +1,16 @@
 -- How far a run has come: what its functions keep between themselves.
 use Rattle.std.specs.Prelude.{◌≡◌, ◌<◌, ℕ, List, ◌++◌, length, false, MatchBool, Option, ◌⊎◌}
 use Rattle.std.specs.List.{list_any}
-use Rattle.std.specs.Io.KnownBytes.{Appends, Consumes}
+use Rattle.std.specs.Io.KnownBytes.{Appends, Consumes, IsAtEnd}
 use Rattle.scripts.specs.LineSteps.{Refusal, line_step}
 use Rattle.meta_types.specs.Rows.{State}
 use Rattle.meta_types.specs.declared.fault.Fault.{Fault}
 use Rattle.meta_types.specs.declared.fault.Fault.TheVariants.{InvalidArgument, OutOfMemory, ReadFailed, WriteFailed}
 use Rattle.scripts.specs.declared.line_buffer.LineBuffer.{LineBuffer}
+use Rattle.scripts.specs.declared.script.Run.{Run}
+use Rattle.scripts.specs.declared.script.Run.TheVariants.{GoesOn, HasEnded}
 use Rattle.scripts.specs.Lines.{is_line_feed, lines_of, whole_lines}
-use Rattle.scripts.specs.Output.{Refusals, output_from, output_of, IsBeginning}
+use Rattle.scripts.specs.Output.{Refusals, output_from, output_of, IsOutput, IsBeginning}
 
 -- what can end a run after it began
 abbrev pub IsLateFault : Fault → Type 0
@@ -79,6 +81,18 @@ pub record Runs (state : State) (buffer : LineBuffer) (left_old left held_old he
   pub consumes : Consumes left_old left read
   pub appends : Appends held_old held written
   pub progress : Progress read written state buffer
+
+-- Whatever a run has done so far, it ends so related.
+abbrev pub RunEnds : (List ℕ → List ℕ → Type 0) → State → LineBuffer → Option (List ℕ) → Option (List ℕ) → Option (List ℕ) → Option (List ℕ) → Type 0
+RunEnds IsRelated state buffer left_old left held_old held =
+    (left_first held_first : Option (List ℕ)) → Runs state buffer left_first left_old held_first held_old → Exchanges IsRelated left_first left held_first held
+
+-- Whatever a run has done so far, it goes on from here, or has ended with all that was to be read.
+abbrev pub FollowsBlock : Run → State → LineBuffer → State → LineBuffer → Option (List ℕ) → Option (List ℕ) → Option (List ℕ) → Option (List ℕ) → Type 0
+FollowsBlock GoesOn old_state old_buffer state buffer left_old left held_old held =
+    (left_first held_first : Option (List ℕ)) → Runs old_state old_buffer left_first left_old held_first held_old → Runs state buffer left_first left held_first held
+FollowsBlock HasEnded old_state old_buffer state buffer left_old left held_old held =
+    IsAtEnd left × RunEnds IsOutput old_state old_buffer left_old left held_old held
 
 -- At the end of a script, what was written is so related to it.
 pub record EndsWith (IsRelated : List ℕ → List ℕ → Type 0) (buffer : LineBuffer) (state : State) (held_old held : Option (List ℕ)) : Type 0 where

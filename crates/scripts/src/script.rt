@@ -8,7 +8,7 @@ ghost use Rattle.meta_types.specs.Limits.{is_worker_count};
 ghost use Rattle.scripts.specs.Lines.{is_line_feed};
 ghost use Rattle.scripts.specs.LineSteps.{reply_bytes};
 ghost use Rattle.scripts.specs.Output.{IsOutput, IsWholeOutput, IsBeginning};
-ghost use Rattle.scripts.specs.Progress.{IsLine, Answers, Advances, Breaks, Replies, BeginsReply, IsLateFault, IsStartedFault, IsRunFault, EndsWith, Exchanges};
+ghost use Rattle.scripts.specs.Progress.{IsLine, Answers, Advances, Breaks, Replies, BeginsReply, IsLateFault, IsStartedFault, IsRunFault, EndsWith, Exchanges, FollowsBlock, RunEnds};
 
 use crate::answering::too_long;
 use crate::desk::Desk;
@@ -158,6 +158,46 @@ fn read_block<R: Read>(reader: &mut R, bytes: &mut [u8]) -> Result<usize, Fault>
     }
 }
 
+/// What became of a run.
+enum Run {
+    GoesOn,
+    HasEnded,
+}
+
+// Takes in the next bytes of a script, or ends the run where there are none.
+fn take_block<T: Threads + Wait + Sync, L: Ledger, R: Read, W: Write>(
+    rt: &T,
+    alloc: Global,
+    desk: &mut Desk<L>,
+    buffer: &mut LineBuffer,
+    reader: &mut R,
+    writer: &mut W,
+) -> Result<Run, Fault>
+    ensures ok { IfOk result (λ run. FollowsBlock run desk.old buffer.old desk.new buffer.new
+        (R.remaining reader.old) (R.remaining reader.new)
+        (W.contents writer.old) (W.contents writer.new)) }
+    ensures read_failed { IsErrOf result Fault.ReadFailed →
+        RunEnds IsWholeOutput desk.old buffer.old (R.remaining reader.old)
+        (R.remaining reader.new) (W.contents writer.old) (W.contents writer.new) }
+    ensures err { OnErr result (RunEnds IsBeginning desk.old buffer.old (R.remaining reader.old)
+        (R.remaining reader.new) (W.contents writer.old) (W.contents writer.new)) }
+    ensures faults { IfErr result IsStartedFault }
+{
+    let mut bytes = [0u8; 4096];
+    match read_block(reader, &mut bytes) {
+        Ok(0) => {
+            finish(rt, alloc, desk, buffer, writer)?;
+            Ok(Run::HasEnded)
+        }
+        Ok(count) => {
+            feed(rt, alloc, desk, buffer, writer, &bytes[..count])?;
+            desk.shorten_history(alloc);
+            Ok(Run::GoesOn)
+        }
+        Err(fault) => Err(fault),
+    }
+}
+
 // Runs a script over the store that `L` names. The blank has 65,536 parts.
 fn run_named<L: Ledger, T: Threads + Wait + Sync, R: Read, W: Write>(
     rt: &T,
@@ -173,23 +213,21 @@ fn run_named<L: Ledger, T: Threads + Wait + Sync, R: Read, W: Write>(
     ensures end { OnOk result (IsAtEnd (R.remaining reader.new)) }
     ensures ok { OnOk result (Exchanges IsOutput (R.remaining reader.old)
         (R.remaining reader.new) (W.contents writer.old) (W.contents writer.new)) }
-    ensures read_failed { IsErrOf result Fault.ReadFailed → Exchanges IsWholeOutput
-        (R.remaining reader.old) (R.remaining reader.new)
-        (W.contents writer.old) (W.contents writer.new) }
+    ensures read_failed { IfErr result (λ fault. fault ≡ Fault.ReadFailed →
+        Exchanges IsWholeOutput (R.remaining reader.old)
+        (R.remaining reader.new) (W.contents writer.old) (W.contents writer.new)) }
     ensures err { OnErr result (Exchanges IsBeginning (R.remaining reader.old)
         (R.remaining reader.new) (W.contents writer.old) (W.contents writer.new)) }
     ensures faults { IfErr result IsStartedFault }
 {
     let mut desk = Desk::<L>::open(alloc, blank, workers)?;
     let mut buffer = LineBuffer::new(alloc);
-    let mut bytes = [0u8; 4096];
     'reads: for _ in 1..READ_LIMIT {
-        match read_block(reader, &mut bytes) {
-            Ok(0) => return finish(rt, alloc, &mut desk, &buffer, writer),
-            Ok(count) => feed(rt, alloc, &mut desk, &mut buffer, writer, &bytes[..count])?,
+        match take_block(rt, alloc, &mut desk, &mut buffer, reader, writer) {
+            Ok(Run::GoesOn) => {}
+            Ok(Run::HasEnded) => return Ok(()),
             Err(fault) => return Err(fault),
         }
-        desk.shorten_history(alloc);
     }
     Err(Fault::ReadFailed)
 }
