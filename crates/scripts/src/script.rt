@@ -158,7 +158,7 @@ fn read_block<R: Read>(reader: &mut R, bytes: &mut [u8]) -> Result<usize, Fault>
     }
 }
 
-/// What became of a run.
+// What became of a run.
 enum Run {
     GoesOn,
     HasEnded,
