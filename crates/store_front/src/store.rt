@@ -1,18 +1,18 @@
 //! A store that many threads may use.
-ghost use Rattle.std.specs.Prelude.{◌≡◌, ◌↔◌, [], Err, None, IfOk, IfErr, OnOk, OnErr, All, map, false};
+ghost use Rattle.std.specs.Prelude.{◌≡◌, ◌↔◌, ℕ, List, [], Err, None, IfOk, IfErr, OnOk, OnErr, All, map, false};
 ghost use Rattle.meta_types.specs.Faults.{Refuses};
 ghost use Rattle.meta_types.specs.Limits.{is_worker_count};
 ghost use Rattle.meta_types.specs.Outcomes.{least_fault};
 ghost use Rattle.meta_types.specs.Requests.{outcome};
 ghost use Rattle.meta_types.specs.Rows.{State as Kept};
 ghost use Rattle.meta_types.specs.Sound.{IsSound};
-ghost use Rattle.meta_types.specs.Steps.{requested, collect, collect_fault, remove_collect, remove_collect_fault};
+ghost use Rattle.meta_types.specs.Steps.{Entry, requested, collect, collect_fault, remove_collect, remove_collect_fault};
 ghost use Rattle.meta_types.specs.declared.fault.Fault.TheVariants.{InvalidArgument, FailedPrecondition};
 ghost use Rattle.request_core.specs.Follows.{Fails};
 ghost use Rattle.collecting.specs.Refused.{CollectFails};
 ghost use Rattle.store_front.specs.Kept.{kept_reply, kept_report, Takes, list_after};
-ghost use Rattle.store_front.specs.Finish.{IsHistory, AreOfThese, fresh};
-ghost use Rattle.store_front.specs.Parts.{IsPart};
+ghost use Rattle.store_front.specs.Finish.{IsHistory, AreOfThese, CutFails, FinishFails, fresh};
+ghost use Rattle.store_front.specs.Parts.{IsPart, part};
 
 use crate::base::History;
 use crate::locked::Locked;
@@ -138,7 +138,9 @@ impl<L: Ledger, S: SnapBackend, B: BlobBackend, I: IngestBackend> Store<L, S, B,
 
     /// A history so far, in which the session's part is its list.
     pub fn cut(&self, rt: &impl Wait, alloc: Global, session: &Session<L>) -> Result<History, Fault>
-        ensures { IfOk result (λ h. IsPart h.log session.now × IsHistory h) }
+        ensures ok { IfOk result (λ h. IsPart h.log session.now × IsHistory h) }
+        ensures fault { (log : List Entry) × IfErr result (λ f. CutFails f
+            (part session.now.number log) session.now.list) }
     {
         self.inner.lock(rt).cut(alloc, session)
     }
@@ -153,6 +155,8 @@ impl<L: Ledger, S: SnapBackend, B: BlobBackend, I: IngestBackend> Store<L, S, B,
         ensures ok { IfOk result (λ h. IsHistory h × All (IsPart h.log) sessions.old
             × AreOfThese h.log sessions.old) }
         ensures sessions { OnOk result (sessions.new ≡ map fresh sessions.old) }
+        ensures fault { (opened : ℕ) × (log : List Entry)
+            × IfErr result (λ f. FinishFails f opened log sessions.old) }
         ensures left { OnErr result (sessions.new ≡ sessions.old) }
     {
         self.inner.lock(rt).begin_anew(alloc, sessions)
@@ -166,8 +170,10 @@ pub fn finish<L: Ledger, S: SnapBackend, B: BlobBackend, I: IngestBackend>(
     store: Store<L, S, B, I>,
     sessions: Vec<Session<L>>,
 ) -> Result<History, Fault>
-    ensures { IfOk result (λ h. IsHistory h × All (IsPart h.log) sessions.items
+    ensures ok { IfOk result (λ h. IsHistory h × All (IsPart h.log) sessions.items
         × AreOfThese h.log sessions.items) }
+    ensures fault { (opened : ℕ) × (log : List Entry)
+        × IfErr result (λ f. FinishFails f opened log sessions.items) }
 {
     let Store { inner } = store;
     inner.into_inner().finish(alloc, sessions)
