@@ -1,13 +1,12 @@
 //! The program: runs a script of requests on standard input and output.
 #![tactic(auto)]
 
-mod args;
 #[cfg(test)]
 mod tests;
 #[cfg(test)]
 mod tests_flush;
 
-use args::{ArgFault, parse_args};
+use command_line::{ArgFault, parse_args};
 use meta_types::Fault;
 use scripts::run_script;
 use std::alloc::Global;

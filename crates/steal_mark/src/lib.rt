@@ -19,8 +19,6 @@ mod other;
 mod scan;
 mod spread;
 mod steal;
-#[cfg(test)]
-mod tests;
 mod threads;
 mod turn;
 mod work;

@@ -3,8 +3,8 @@ ghost use Rattle.std.specs.Prelude.{◌≡◌, ◌↔◌, ℕ, true, map, IfOk, 
 ghost use Rattle.clap.specs.Words.{rows_of, found_of, kind_of, subcommand_rows_of};
 ghost use Rattle.clap.specs.declared.error.kind.ErrorKind.TheVariants as kinds;
 ghost use Rattle.meta_types.specs.Limits.{is_worker_count};
-ghost use Rattle.metad.specs.Args.{are_read, subcommand, IsNumber, HasWorkers, AsksFor};
-ghost use Rattle.metad.specs.declared.args.ArgFault.TheVariants.{OutOfMemory};
+ghost use Rattle.command_line.specs.Args.{are_read, subcommand, IsNumber, HasWorkers, AsksFor};
+ghost use Rattle.command_line.specs.declared.args.ArgFault.TheVariants.{OutOfMemory};
 
 use clap::error::ErrorKind;
 use clap::{Arg, ArgMatches, Command};

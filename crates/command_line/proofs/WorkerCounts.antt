@@ -2,7 +2,7 @@
 use Rattle.std.proofs.Common.{◌≡◌, refl, ℕ, List, Option, Some, None, IfSome, IfNone, codes, true}
 use Rattle.clap.specs.Words.{Row, Text, first_of}
 use Rattle.meta_types.specs.Limits.{is_worker_count}
-use Rattle.metad.specs.Args.{IsNumber, HasWorkers}
+use Rattle.command_line.specs.Args.{IsNumber, HasWorkers}
 
 -- the text that stands there is the number
 pub has_text : (rows : List Row) (text : Text) → first_of (codes "workers") rows ≡ Some text → (o : Option ℕ)

@@ -2,10 +2,10 @@ use Rattle.std.proofs.Common.{rules, ap, ap₂, refl, sym, true, map, ℕ, Bor, 
 use Rattle.std.proofs.lemmas.Result.{err_from_is_err_and}
 use Rattle.clap.specs.Words.{App, Text, app_of, is_simple, rule_of, subcommand_of, takes, with_rule, with_subcommand}
 use Rattle.clap.proofs.OnLiterals.{clap_on_literals}
-use Rattle.metad.specs.declared.args.ArgFault.{ArgFault}
-use Rattle.metad.specs.declared.args.ArgFault.TheVariants.{Usage, OutOfMemory}
-use Rattle.metad.specs.Args.{workers_rule, run_command, metad_command, are_read, subcommand}
-use Rattle.metad.proofs.args.matches.Goals as goal
+use Rattle.command_line.specs.declared.args.ArgFault.{ArgFault}
+use Rattle.command_line.specs.declared.args.ArgFault.TheVariants.{Usage, OutOfMemory}
+use Rattle.command_line.specs.Args.{workers_rule, run_command, metad_command, are_read, subcommand}
+use Rattle.command_line.proofs.args.matches.Goals as goal
 
 simple : is_simple metad_command ≡ true
 unfolding clap_on_literals

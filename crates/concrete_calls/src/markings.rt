@@ -1,10 +1,13 @@
-//! Markings by threads.
-use crate::{Gate, OpenGate, mark_workers};
+//! Markings by threads, by any number of workers, also where all have to be at work at once.
+
 use mark_core::Graph;
+use meta_types::Fault;
 use std::alloc::{AllocError, Global};
+use std::sync::Wait;
 use std::sync::atomic::{AtomicU64, Ordering};
-use std::test::Fail;
 use std::thread;
+use std::thread::Threads;
+use steal_mark::{Gate, OpenGate, mark_workers};
 
 // A root with 64 targets.
 fn star(alloc: Global) -> Result<Graph, AllocError> {
@@ -89,46 +92,49 @@ fn bit(worker: usize) -> u64 {
     if worker < 16 { 1u64 << worker } else { 0 }
 }
 
-#[test]
-fn all_workers_scan_at_once(rt: HostRuntime) -> Result<(), Fail> {
-    let graph = star(rt.alloc())?;
-    assert!(rt; graph.is_in_range());
-    for (workers, bits) in [(2, 0x3), (3, 0x7), (8, 0xff), (16, 0xffff)] {
-        for run in 0..5u32 {
-            let gate = AllAtOnce::new(bits);
-            let (_, lists) = mark_workers(&rt, rt.alloc(), &graph, workers, &gate)?;
-            assert!(rt;
-                !gate.is_late(),
-                "run {run} of {workers}: the limit was met"
-            );
-            assert!(rt;
-                gate.have_begun(),
-                "run {run} of {workers}: one worker scanned nothing"
-            );
-            assert!(rt;
-                hold_each_once(rt.alloc(), lists.as_slice(), 65)?,
-                "run {run} of {workers}"
-            );
-        }
+// Whether each worker scanned, and all of them at once.
+fn meet<R: Threads + Wait + Sync>(
+    rt: &R,
+    alloc: Global,
+    workers: usize,
+    bits: u64,
+) -> Result<bool, Fault> {
+    let graph = star(alloc)?;
+    if !graph.is_in_range() {
+        return Ok(false);
     }
-    Ok(())
+    let gate = AllAtOnce::new(bits);
+    let (_, lists) = mark_workers(rt, alloc, &graph, workers, &gate)?;
+    let have_met = !gate.is_late() && gate.have_begun();
+    Ok(have_met && hold_each_once(alloc, lists.as_slice(), 65)?)
 }
 
-#[test]
-fn any_number_of_workers_marks_the_same(rt: HostRuntime) -> Result<(), Fail> {
-    let graph = star(rt.alloc())?;
-    assert!(rt; graph.is_in_range());
-    for workers in [1, 2, 8, 16] {
-        let (marks, lists) = mark_workers(&rt, rt.alloc(), &graph, workers, &OpenGate)?;
-        assert_eq!(rt; lists.len(), workers);
-        assert!(rt;
-            hold_each_once(rt.alloc(), lists.as_slice(), 65)?,
-            "{workers} workers"
-        );
-        assert!(rt;
-            marks.has(0) && marks.has(64) && !marks.has(65),
-            "{workers} workers"
-        );
+// Whether the star is marked, and nothing else.
+fn mark<R: Threads + Wait + Sync>(rt: &R, alloc: Global, workers: usize) -> Result<bool, Fault> {
+    let graph = star(alloc)?;
+    if !graph.is_in_range() {
+        return Ok(false);
     }
-    Ok(())
+    let (marks, lists) = mark_workers(rt, alloc, &graph, workers, &OpenGate)?;
+    let are_marked = marks.has(0) && marks.has(64) && !marks.has(65);
+    let are_listed = lists.len() == workers && hold_each_once(alloc, lists.as_slice(), 65)?;
+    Ok(are_marked && are_listed)
+}
+
+/// Marks a star by threads that have to meet, five times for each number of workers, and by
+/// threads that needn't.
+pub(crate) fn calls<R: Threads + Wait + Sync>(rt: &R, alloc: Global) -> Result<bool, Fault> {
+    for (workers, bits) in [(2usize, 0x3u64), (3, 0x7), (8, 0xff), (16, 0xffff)] {
+        for _ in 0..5u32 {
+            if !meet(rt, alloc, workers, bits)? {
+                return Ok(false);
+            }
+        }
+    }
+    for workers in [1usize, 2, 8, 16] {
+        if !mark(rt, alloc, workers)? {
+            return Ok(false);
+        }
+    }
+    Ok(true)
 }

@@ -1,8 +1,8 @@
 use Rattle.std.proofs.Common.{◌∙◌, ap, sym, option_map, codes}
 use Rattle.clap.specs.Words.{rows_of, found_of}
 use Rattle.clap.proofs.WalkLemmas.{first_value-rows}
-use Rattle.metad.proofs.WorkerCounts.{has_text, has_no_number, has_none}
-use Rattle.metad.proofs.args.workers_of.Goals as goal
+use Rattle.command_line.proofs.WorkerCounts.{has_text, has_no_number, has_none}
+use Rattle.command_line.proofs.args.workers_of.Goals as goal
 
 pub returns-in-Some-clause-some : goal.returns-in-Some-clause-some
 returns-in-Some-clause-some c =
