@@ -1,9 +1,9 @@
 -- The day number of a date is that of the calendar.
 use Rattle.gc_labels.specs.Dates.{day_in}
 use Rattle.std.proofs.lemmas.Bool.{le-leb}
-use Rattle.std.proofs.Common.{◌≡◌, ◌≤◌, ℕ, zero, suc, Some, ◌+◌, ◌-◌, ◌*◌, ◌/◌, refl, sym, ap, ◌∙◌, arith, pos, ◌-ℤ◌, cond, nat_eq}
+use Rattle.std.proofs.Common.{◌≡◌, ◌≤◌, ℕ, zero, suc, Some, ◌+◌, ◌-◌, refl, sym, ap, ◌∙◌, arith, pos, ◌-ℤ◌}
 use Rattle.std.proofs.lemmas.Bool.Decides.{nat_tests}
-use Rattle.jiff_core.specs.Calendar.{days_in_month, days_of_years, days_of_months, day_count, days_from_civil, is_leap_year}
+use Rattle.jiff_core.specs.Calendar.{days_in_month, days_of_years, days_of_months, day_count, days_from_civil}
 use Rattle.jiff_core.proofs.CalendarLemmas.{day_count-epoch}
 use Rattle.jiff_core.specs.March.{march_days}
 use Rattle.jiff_core.proofs.MarchLemmas.{days_of_years-march_days, leap_day}

@@ -1,10 +1,10 @@
 -- What a text says of a day and of a time of day.
-use Rattle.std.proofs.Common.{◌≡◌, ◌≤◌, ◌<◌, ℕ, zero, suc, ◌+◌, ◌*◌, Bool, true, false, List, [], ◌∷◌, length, take, drop, cond, Option, Some, None, refl, sym, ap, ◌∙◌, arith, inl, inr, ℤ, length-take}
+use Rattle.std.proofs.Common.{◌≡◌, ◌<◌, ℕ, suc, ◌+◌, ◌*◌, Bool, true, false, [], ◌∷◌, length, take, drop, cond, Option, Some, None, refl, sym, ap, ◌∙◌, arith, inl, inr, ℤ, length-take}
 use Rattle.std.specs.Prelude.{codes, ◌&&◌, nat_le, option_map, ◌-ℤ◌, ◌+ℤ◌, ◌*ℤ◌, pos}
 use Rattle.std.proofs.Math.Bool.{and-false}
 use Rattle.std.proofs.lemmas.Bool.{cases_Bool, and_parts, and_from}
 use Rattle.meta_types.specs.Text.{Text}
-use Rattle.meta_types.specs.Time.{has_form, number_at, has_fraction, fraction_in, fraction_of, day_of, is_real, days_in, zone_in, offset_of, moment_of, instant_of}
+use Rattle.meta_types.specs.Time.{has_form, number_at, has_fraction, fraction_in, fraction_of, is_real, days_in, zone_in, offset_of, moment_of, instant_of}
 use Rattle.gc_labels.specs.Dates.{is_date, day_in, is_clock, second_in, place_at, place_in}
 
 -- a text has a form only where it is as long

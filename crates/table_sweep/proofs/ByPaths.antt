@@ -1,5 +1,5 @@
 -- A plan names just those rows that no path leads to.
-use Rattle.std.proofs.Common.{◌≡◌, ℕ, List, sym, ap, subst, ℤ}
+use Rattle.std.proofs.Common.{◌≡◌, ℕ, sym, subst, ℤ}
 use Rattle.std.specs.Prelude.{Contains, ◌↔◌}
 use Rattle.meta_types.specs.Text.{Text}
 use Rattle.meta_types.specs.Rows.{Records, BackLists, content_key, ingest_key, snap_key}

@@ -1,15 +1,13 @@
 -- Depths are numbers of ancestors, and keys in order are snapshots in order.
-use Rattle.std.proofs.Common.{◌≡◌, ◌≤◌, ℕ, zero, suc, ◌+◌, inl, inr, Bool, true, false, List, [], ◌∷◌, ◌++◌, map, length, refl, sym, ap, ◌∙◌, arith, Option, Some, None, if◌then◌else◌, cond, filter}
+use Rattle.std.proofs.Common.{◌≡◌, ℕ, zero, suc, Bool, true, false, List, [], ◌∷◌, map, length, refl, sym, ap, ◌∙◌, Option, Some, None, if◌then◌else◌, cond, filter}
 use Rattle.std.specs.Prelude.{find, option_and_then, bytes_eq, ◌&&◌, ◌==◌}
 use Rattle.std.specs.Option.{option_map_or}
 use Rattle.std.proofs.lemmas.List.{length-map}
-use Rattle.std.proofs.lemmas.Bool.{cases_Bool}
 use Rattle.std.proofs.lemmas.Simd.{map-map}
 use Rattle.meta_types.specs.Text.{Text}
 use Rattle.meta_types.specs.Rows.{BackSnap}
 use Rattle.meta_types.specs.Keys.{put_in_order, in_order}
 use Rattle.meta_types.specs.Backends.{is_named, ancestors, depth_of, goes_before, object_name}
-use Rattle.table_sweep.specs.declared.depths.Key.{Key}
 use Rattle.table_sweep.specs.Depths.{Listed, snap_of, above_of, depth_in, key_of, is_first, key_name}
 
 -- ---- depths

@@ -1,5 +1,5 @@
 -- What a mask keeps and what it leaves out are filters of the rows.
-use Rattle.std.proofs.Common.{◌≡◌, ℕ, suc, ◌+◌, Bool, true, false, not, List, [], ◌∷◌, ◌++◌, map, length, filter, refl, ap, arith, if◌then◌else◌}
+use Rattle.std.proofs.Common.{◌≡◌, suc, ◌+◌, Bool, true, false, not, List, [], ◌∷◌, ◌++◌, map, length, filter, refl, ap, arith, if◌then◌else◌}
 use Rattle.object_tables.specs.Calls.{kept}
 use Rattle.lease_book.specs.Calls.{kept as kept_leases}
 use Rattle.table_sweep.specs.Masks.{gone}

@@ -1,15 +1,15 @@
 -- Keys of snapshots are ordered by snapshotter, the deepest first, then by number.
-use Rattle.std.proofs.Common.{◌≡◌, ℕ, Bool, true, false, refl, sym, ap, ◌∙◌, subst}
-use Rattle.std.specs.Prelude.{◌&&◌, ◌||◌, ◌==◌, nat_lt, bytes_eq}
+use Rattle.std.proofs.Common.{◌≡◌, ℕ, refl, sym, ap, ◌∙◌}
+use Rattle.std.specs.Prelude.{◌&&◌, ◌||◌}
 use Rattle.std.specs.declared.cmp.Ordering.{Ordering}
 use Rattle.std.specs.declared.cmp.Ordering.TheVariants.{Less, Equal, Greater}
 use Rattle.std.specs.Ordering.{is_lt, is_eq, nat_cmp, ordering_reverse, ordering_then}
 use Rattle.std.specs.Cmp.{IsTotalOrder, nat_cmp_total}
-use Rattle.std.specs.Cmp.Lexicographic.{nat_list_cmp_total, same_text}
+use Rattle.std.specs.Cmp.Lexicographic.{nat_list_cmp_total}
 use Rattle.std.proofs.lemmas.Map.Text.{is_eq-slice_cmp}
 use Rattle.std.proofs.lemmas.Map.Lookups.{exact_unsigned, exact_bytes}
 use Rattle.std.proofs.lemmas.Cmp.{on_total}
-use Rattle.meta_types.specs.Text.{Text, text_cmp}
+use Rattle.meta_types.specs.Text.{text_cmp}
 use Rattle.table_sweep.specs.declared.depths.Key.{Key}
 use Rattle.table_sweep.specs.Depths.{is_first, key_cmp}
 use Rattle.table_sweep.proofs.NumberOrder.{is_lt-nat, is_eq-nat}

@@ -1,5 +1,5 @@
 -- Each name has the place of the first snapshot with it, and parents have places.
-use Rattle.std.proofs.Common.{◌≡◌, ℕ, zero, suc, ◌+◌, ◌<◌, ◌≤◌, Bool, true, false, not, cond, List, [], ◌∷◌, ◌++◌, map, length, position, refl, sym, ap, ◌∙◌, arith, inl, inr, Option, Some, None, if◌then◌else◌, is_some, slice_get, is_none, option_map, option_copied, take, get_or, Bor, lt-ltb, le-ltb, ltb-true, ltb-false}
+use Rattle.std.proofs.Common.{◌≡◌, ℕ, zero, suc, ◌+◌, ◌<◌, Bool, true, false, not, cond, List, [], ◌∷◌, ◌++◌, map, length, position, refl, sym, ap, ◌∙◌, arith, inl, inr, Option, Some, None, is_some, slice_get, option_map, option_copied, take, get_or, Bor, lt-ltb, le-ltb, ltb-true, ltb-false}
 use Rattle.std.specs.Prelude.{◌&&◌, ◌==◌, bytes_eq, nat_lt, option_and_then, find}
 use Rattle.std.specs.List.{position_or_len}
 use Rattle.std.specs.Map.{lookup}

@@ -1,5 +1,5 @@
 -- What masks give is what a report says.
-use Rattle.std.proofs.Common.{◌≡◌, ℕ, Bool, List, map, filter, length, sym, ap, ◌∙◌, ℤ, not}
+use Rattle.std.proofs.Common.{◌≡◌, ℕ, Bool, List, map, filter, length, ap, ◌∙◌, ℤ, not}
 use Rattle.std.proofs.lemmas.List.{length-map}
 use Rattle.meta_types.specs.Rows.{Records, LeaseRow}
 use Rattle.meta_types.specs.Paths.{Thing, image_stays, lease_stays}

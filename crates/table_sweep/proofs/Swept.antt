@@ -1,5 +1,5 @@
 -- Tables after the passes over them are those that a collection leaves.
-use Rattle.std.proofs.Common.{◌≡◌, Bool, List, map, filter, ap, sym, ◌∙◌}
+use Rattle.std.proofs.Common.{◌≡◌, Bool, List, filter, ap, sym, ◌∙◌}
 use Rattle.meta_types.specs.Rows.{Tables, LeaseRow}
 use Rattle.meta_types.specs.Sound.{AreNumbered}
 use Rattle.meta_types.specs.Paths.{image_stays, lease_stays}

@@ -1,4 +1,4 @@
-use Rattle.std.proofs.Common.{◌≡◌, ap, sym, refl, ◌∙◌, arith, Some, pos, w64, w16, w8, w32, FitsSigned}
+use Rattle.std.proofs.Common.{◌≡◌, ap, sym, refl, ◌∙◌, arith, Some, pos, w16, w8, w32, FitsSigned}
 use Rattle.std.proofs.lemmas.Int.{to_z-of_z, to_z_pos}
 use Rattle.jiff_core.specs.Calendar.{days_from_civil}
 use Rattle.jiff.proofs.SpanFacts.{signed_arith}

@@ -1,5 +1,5 @@
 -- At most nine digits, filled with zeros to nine, write a number of nine digits.
-use Rattle.std.proofs.Common.{◌≡◌, ◌≤◌, ◌*◌, ap, arith}
+use Rattle.std.proofs.Common.{◌≤◌, ◌*◌, arith}
 use Rattle.gc_labels.proofs.Scales.{scaled}
 use Rattle.gc_labels.proofs.instants.fraction_of.Goals as goal
 

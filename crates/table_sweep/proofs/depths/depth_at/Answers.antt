@@ -1,5 +1,4 @@
-use Rattle.std.proofs.Common.{◌≡◌, ◌+◌, ◌-◌, ◌∙◌, sym, ap, arith, length, Some, None, slice_get}
-use Rattle.table_sweep.specs.Places.{above_from, deep, depths_to}
+use Rattle.std.proofs.Common.{◌+◌, ◌-◌, ◌∙◌, sym, ap, arith, length, slice_get}
 use Rattle.table_sweep.proofs.Steps.{deeper_step, no_deeper_step, known_step}
 use Rattle.table_sweep.proofs.depths.depth_at.Goals as goal
 
