@@ -9,7 +9,7 @@ use Rattle.meta_types.proofs.Members.{from_filter, any_from, found_by_any, in_fi
 use Rattle.meta_types.proofs.Closure.{is_found, passes, passes_are_reached, tells_if_closed, closed_from_pass}
 
 module _ {X : Type 0} where
-  filter_short : (p : X → Bool) (xs : List X) → length (filter p xs) ≤ length xs
+  pub filter_short : (p : X → Bool) (xs : List X) → length (filter p xs) ≤ length xs
   filter_short p [] = omega arith
   filter_short p (x ∷ xs) = pick (p x) (filter_short p xs)
     where
@@ -18,7 +18,7 @@ module _ {X : Type 0} where
       pick false h = omega arith
 
   -- a weaker test keeps as many, and where it keeps no more it keeps the same
-  more_kept : (p q : X → Bool) → ((x : X) → p x ≡ true → q x ≡ true) → (xs : List X) → (filter q xs ≡ filter p xs) ⊎ (length (filter p xs) < length (filter q xs))
+  pub more_kept : (p q : X → Bool) → ((x : X) → p x ≡ true → q x ≡ true) → (xs : List X) → (filter q xs ≡ filter p xs) ⊎ (length (filter p xs) < length (filter q xs))
   more_kept p q h [] = inl refl
   more_kept p q h (x ∷ xs) = pick (p x) (q x) (h x) (more_kept p q h xs)
     where
@@ -33,7 +33,7 @@ module _ {X : Type 0} where
 
 module _ (records : Records) (at : ℤ) where
   -- what is found stays found
-  grows : (n : ℕ) (thing : Thing) → is_found records.profile at (passes n records at) thing ≡ true → is_found records.profile at (passes (suc n) records at) thing ≡ true
+  pub grows : (n : ℕ) (thing : Thing) → is_found records.profile at (passes n records at) thing ≡ true → is_found records.profile at (passes (suc n) records at) thing ≡ true
   grows zero thing h = elim (or_cases (is_root records.profile at thing) false h) [
     | inl root ↦ or_left (is_root records.profile at thing) (list_any (λ before. has_edge before thing) (passes 1 records at)) root
     | inr none ↦ absurd (both_ways false refl none)

@@ -32,3 +32,5 @@ pub mod Sorted
 pub mod GoingOrder
 pub mod ObjectsPromised
 pub mod ChildrenFirst
+pub mod EachKind
+pub mod Finding

@@ -23,6 +23,8 @@ pub mod Sound
 pub mod Promises
 pub mod PromisedObjects
 pub mod Again
+pub mod EachKind
+pub mod Finding
 pub mod Scripts
 pub mod WorkedTimes
 pub mod Worked

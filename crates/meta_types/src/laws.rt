@@ -3,6 +3,8 @@
 ghost use Rattle.meta_types.specs.Promises.{SomeTestTells, ACollectionHasOneOutcome, ADryRunHasOneReport, NothingReachedIsRemoved, WhatIsNotReachedIsRemoved};
 ghost use Rattle.meta_types.specs.PromisedObjects.{OwnedObjectsStay, UnownedObjectsGo, RemovedSnapshotsAreChildfirst, PlannedSnapshotsAreChildfirst};
 ghost use Rattle.meta_types.specs.Again.{ASecondCollectionChangesNothing, ACollectedStoreIsSound};
+ghost use Rattle.meta_types.specs.EachKind.{ACollectionDividesTheRows, ACollectionDividesAll, ADryRunTellsWhatACollectionWould};
+ghost use Rattle.meta_types.specs.Finding.{ThisTestTells};
 ghost use Rattle.meta_types.specs.WorkedTimes.{TimesAreRead, OthersAreNoTimes};
 ghost use Rattle.meta_types.specs.Worked.{AnImageKeepsItsContent, ACycleGoes, ACycleUnderAnImageStays, BothModesAreScanned, AFlatLeaseFollowsNoLabels, ALeaseHoldsAtItsExpiry, AnExpiredLeaseGoes};
 ghost use Rattle.meta_types.specs.WorkedObjects.{AFlatLeaseKeepsParents, ChildrenGoBeforeParents, AnIngestHoldsForADay, AnIngestGoesAfterADay, OnlyReferenceKeysReference, ContainersAndRootLabelsHold};
@@ -14,6 +16,11 @@ pub fn collections_have_one_outcome()
     ensures some_test_tells { SomeTestTells }
     ensures a_collection_has_one_outcome { ACollectionHasOneOutcome }
     ensures a_dry_run_has_one_report { ADryRunHasOneReport }
+{}
+
+/// Where paths end can be computed, and by this test.
+pub fn paths_are_found()
+    ensures { ThisTestTells }
 {}
 
 /// Nothing that an image, a container, an unexpired lease or ingest or a root label leads to is
@@ -48,6 +55,14 @@ pub fn a_second_collection_changes_nothing()
 /// A collection of a sound store leaves a sound store, whatever removals failed.
 pub fn a_collected_store_is_sound()
     ensures { ACollectedStoreIsSound }
+{}
+
+/// Of each kind of rows and objects a collection keeps exactly what the definitions say, names the
+/// rest in its report, and counts both; a dry run tells what a collection would.
+pub fn collections_divide_each_kind()
+    ensures rows { ACollectionDividesTheRows }
+    ensures all { ACollectionDividesAll }
+    ensures dry_runs { ADryRunTellsWhatACollectionWould }
 {}
 
 /// Times and other texts, as RFC 3339 and our years read them.

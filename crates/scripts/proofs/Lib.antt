@@ -3,4 +3,5 @@ pub mod Scripts
 pub mod Writers
 pub mod Runs
 pub mod Outcomes
+pub mod WholeScripts
 pub mod Served

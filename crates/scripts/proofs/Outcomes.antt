@@ -9,26 +9,25 @@ use Rattle.meta_types.specs.Reports.{Report, Collects, Plans}
 use Rattle.meta_types.specs.Requests.{removal_outcome}
 use Rattle.meta_types.specs.Steps.{Answer, answered, reported, refused, requested, collect, remove_collect, Step, collect_fault, remove_collect_fault}
 use Rattle.meta_types.specs.declared.fault.Fault.{Fault}
-use Rattle.meta_types.proofs.Exists.{a_test_tells}
+use Rattle.meta_types.specs.Finding.{reached_in}
+use Rattle.meta_types.proofs.Finding.{this_test_tells}
 use Rattle.meta_types.proofs.NoFailure.{no_failure}
 use Rattle.meta_types.proofs.Once.{one_state, one_report, one_plan}
-use Rattle.scripts.specs.EventSteps.{reached_in, collection_report, collected_state, collects, plans, EachEventHasThisStep, NoEventHasAnotherStep}
+use Rattle.scripts.specs.EventSteps.{collection_report, collected_state, collects, plans, EachEventHasThisStep, NoEventHasAnotherStep}
 
 -- the test tells
-these_collect : (state : State) (at : ℤ) → Collects state at no_objects (collection_report state at false) (collected_state state at)
-unfolding reached_in
+pub these_collect : (state : State) (at : ℤ) → Collects state at no_objects (collection_report state at false) (collected_state state at)
 these_collect state at = record {
   reached = reached_in state.records at;
-  tells = (a_test_tells state.records at).1;
+  tells = this_test_tells state.records at;
   may_fail = no_failure (collected_records at (reached_in state.records at) state.records).tables state.backends;
   state_is = refl;
   report_is = refl;
 }
 
 -- the test tells
-this_plans : (state : State) (at : ℤ) → Plans state at (collection_report state at true)
-unfolding reached_in
-this_plans state at = record { reached = reached_in state.records at; tells = (a_test_tells state.records at).1; report_is = refl }
+pub this_plans : (state : State) (at : ℤ) → Plans state at (collection_report state at true)
+this_plans state at = record { reached = reached_in state.records at; tells = this_test_tells state.records at; report_is = refl }
 
 -- two collections of one store report the same
 same_report : (state : State) (at : ℤ) (report : Report) (new : State) → Collects state at no_objects report new → report ≡ collection_report state at false

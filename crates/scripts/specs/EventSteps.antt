@@ -1,18 +1,13 @@
 -- What each event answers, and the store after it, where no device fails.
 use Rattle.std.specs.Prelude.{◌≡◌, Bool, true, false, if◌then◌else◌, ℤ}
 use Rattle.std.specs.Option.{option_map_or}
-use Rattle.meta_types.specs.Rows.{Records, State}
-use Rattle.meta_types.specs.Paths.{Thing}
+use Rattle.meta_types.specs.Rows.{State}
+use Rattle.meta_types.specs.Finding.{reached_in}
 use Rattle.meta_types.specs.Backends.{no_objects}
 use Rattle.meta_types.specs.Collected.{collected}
 use Rattle.meta_types.specs.Reports.{Report, report_of}
 use Rattle.meta_types.specs.Requests.{removal_outcome}
 use Rattle.meta_types.specs.Steps.{Answer, reported, refused, Event, requested, collect, remove_collect, Step, answer_to, after, collect_fault, remove_collect_fault}
-use Rattle.meta_types.proofs.Exists.{a_test_tells}
-
--- a test that tells in which things of the store a path ends; all such tests agree on them (ours)
-unfoldable pub reached_in : Records → ℤ → Thing → Bool
-reached_in records at = (a_test_tells records at).0
 
 -- what a collection reports, or a dry run (ours)
 abbrev pub collection_report : State → ℤ → Bool → Report

@@ -3,4 +3,5 @@ pub mod EventSteps
 pub mod LineSteps
 pub mod Served
 pub mod Output
+pub mod WholeScripts
 pub mod Progress
