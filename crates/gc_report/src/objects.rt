@@ -13,7 +13,7 @@ use std::alloc::{AllocError, Global};
 use std::marker::Model;
 
 /// Backend objects by their names, in the order of a report.
-#[derive(Drop)]
+#[derive(Clone, Drop)]
 pub struct Objects {
     pub blobs: Vec<Digest>,
     pub ingests: Vec<u64>,

@@ -16,7 +16,7 @@ use std::marker::Model;
 
 /// What a collection did, or what a dry run would do. In profile 2 images may expire, and it names
 /// them.
-#[derive(Drop)]
+#[derive(Clone, Drop)]
 pub struct Report {
     pub backend: Objects,
     pub dry: bool,

@@ -85,7 +85,7 @@ impl Kept {
 }
 
 /// The rows that went, each list by the bytes of its texts. Images go in profile 2 alone.
-#[derive(Drop)]
+#[derive(Clone, Drop)]
 pub struct Removed {
     pub content: Vec<(ShortName, Digest)>,
     pub images: Vec<(ShortName, Name)>,

@@ -2,289 +2,91 @@
 ghost use Rattle.std.specs.Prelude.{◌≡◌, None, Ok, IfOk};
 ghost use Rattle.meta_types.specs.Faults.{Refuses};
 ghost use Rattle.meta_types.specs.declared.reply.Reply.TheVariants as P;
-ghost use Rattle.meta_types.specs.declared.request.Request.TheVariants as R;
 
 use crate::fault::Fault;
 use crate::reply::{Reply, Row};
 use crate::request::{Removal, Request};
-use crate::words::{Pairs, Words};
-use std::alloc::Global;
+use std::alloc::{AllocError, Global};
 
-fn two(a: &Words, b: &Words) -> Result<(Words, Words), Fault>
-    ensures fault { Refuses result None }
-    ensures ok { IfOk result (λ copies. copies ≡ (a.now, b.now)) }
+fn two<A: Clone, B: Clone>(a: &A, b: &B) -> Result<(A, B), AllocError>
+    ensures { IfOk result (λ r. A.is_clone a.now r.0 × B.is_clone b.now r.1) }
 {
-    let a = a.copy()?;
-    let b = b.copy()?;
+    let a = a.clone()?;
+    let b = b.clone()?;
     Ok((a, b))
 }
 
-fn three(a: &Words, b: &Words, c: &Words) -> Result<(Words, Words, Words), Fault>
-    ensures fault { Refuses result None }
-    ensures ok { IfOk result (λ copies. copies ≡ (a.now, b.now, c.now)) }
+fn three<A: Clone, B: Clone, C: Clone>(a: &A, b: &B, c: &C) -> Result<(A, B, C), AllocError>
+    ensures { IfOk result (λ r. A.is_clone a.now r.0 × B.is_clone b.now r.1 × C.is_clone c.now r.2) }
 {
-    let a = a.copy()?;
-    let b = b.copy()?;
-    let c = c.copy()?;
+    let a = a.clone()?;
+    let b = b.clone()?;
+    let c = c.clone()?;
     Ok((a, b, c))
 }
 
-fn four(a: &Words, b: &Words, c: &Words, d: &Words) -> Result<(Words, Words, Words, Words), Fault>
-    ensures fault { Refuses result None }
-    ensures ok { IfOk result (λ copies. copies ≡ (a.now, b.now, c.now, d.now)) }
+fn four<A: Clone, B: Clone, C: Clone, D: Clone>(
+    a: &A,
+    b: &B,
+    c: &C,
+    d: &D,
+) -> Result<(A, B, C, D), AllocError>
+    ensures { IfOk result (λ r. A.is_clone a.now r.0 × B.is_clone b.now r.1 × C.is_clone c.now r.2 × D.is_clone d.now r.3) }
 {
-    let a = a.copy()?;
-    let b = b.copy()?;
-    let c = c.copy()?;
-    let d = d.copy()?;
+    let a = a.clone()?;
+    let b = b.clone()?;
+    let c = c.clone()?;
+    let d = d.clone()?;
     Ok((a, b, c, d))
 }
 
-fn five(
-    a: &Words,
-    b: &Words,
-    c: &Words,
-    d: &Words,
-    e: &Words,
-) -> Result<(Words, Words, Words, Words, Words), Fault>
-    ensures fault { Refuses result None }
-    ensures ok { IfOk result (λ copies. copies ≡ (a.now, b.now, c.now, d.now, e.now)) }
+fn five<A: Clone, B: Clone, C: Clone, D: Clone, E: Clone>(
+    a: &A,
+    b: &B,
+    c: &C,
+    d: &D,
+    e: &E,
+) -> Result<(A, B, C, D, E), AllocError>
+    ensures { IfOk result (λ r. A.is_clone a.now r.0 × B.is_clone b.now r.1 × C.is_clone c.now r.2 × D.is_clone d.now r.3 × E.is_clone e.now r.4) }
 {
-    let a = a.copy()?;
-    let b = b.copy()?;
-    let c = c.copy()?;
-    let d = d.copy()?;
-    let e = e.copy()?;
+    let a = a.clone()?;
+    let b = b.clone()?;
+    let c = c.clone()?;
+    let d = d.clone()?;
+    let e = e.clone()?;
     Ok((a, b, c, d, e))
 }
 
-fn if_there(words: &Option<Words>) -> Result<Option<Words>, Fault>
-    ensures fault { Refuses result None }
-    ensures ok { IfOk result (λ copy. copy ≡ words.now) }
+fn six<A: Clone, B: Clone, C: Clone, D: Clone, E: Clone, F: Clone>(
+    a: &A,
+    b: &B,
+    c: &C,
+    d: &D,
+    e: &E,
+    f: &F,
+) -> Result<(A, B, C, D, E, F), AllocError>
+    ensures { IfOk result (λ r. A.is_clone a.now r.0 × B.is_clone b.now r.1 × C.is_clone c.now r.2 × D.is_clone d.now r.3 × E.is_clone e.now r.4 × F.is_clone f.now r.5) }
 {
-    match words {
-        Some(words) => Ok(Some(words.copy()?)),
-        None => Ok(None),
-    }
+    let a = a.clone()?;
+    let b = b.clone()?;
+    let c = c.clone()?;
+    let d = d.clone()?;
+    let e = e.clone()?;
+    let f = f.clone()?;
+    Ok((a, b, c, d, e, f))
 }
 
-fn image_add(
-    alloc: Global,
-    ns: &Words,
-    name: &Words,
-    target: &Words,
-    labels: &Pairs,
-) -> Result<Request, Fault>
-    ensures fault { Refuses result None }
-    ensures ok { IfOk result (λ request. request
-        ≡ R.ImageAdd ns.now name.now target.now labels.now) }
-{
-    let (ns, name, target) = three(ns, name, target)?;
-    let labels = labels.copy(alloc)?;
-    Ok(Request::ImageAdd {
-        ns,
-        name,
-        target,
-        labels,
-    })
-}
+impl Clone for Request {
+    ghost is_clone = { λ a b. b ≡ a };
 
-fn container_add(
-    alloc: Global,
-    ns: &Words,
-    name: &Words,
-    snapshotter: &Option<Words>,
-    key: &Option<Words>,
-    labels: &Pairs,
-) -> Result<Request, Fault>
-    ensures fault { Refuses result None }
-    ensures ok { IfOk result (λ request. request
-        ≡ R.ContainerAdd ns.now name.now snapshotter.now key.now labels.now) }
-{
-    let (ns, name) = two(ns, name)?;
-    let snapshotter = if_there(snapshotter)?;
-    let key = if_there(key)?;
-    let labels = labels.copy(alloc)?;
-    Ok(Request::ContainerAdd {
-        ns,
-        name,
-        snapshotter,
-        key,
-        labels,
-    })
-}
-
-fn content_add(
-    alloc: Global,
-    ns: &Words,
-    digest: &Words,
-    labels: &Pairs,
-    lease: &Option<Words>,
-) -> Result<Request, Fault>
-    ensures fault { Refuses result None }
-    ensures ok { IfOk result (λ request. request
-        ≡ R.ContentAdd ns.now digest.now labels.now lease.now) }
-{
-    let (ns, digest) = two(ns, digest)?;
-    let labels = labels.copy(alloc)?;
-    let lease = if_there(lease)?;
-    Ok(Request::ContentAdd {
-        ns,
-        digest,
-        labels,
-        lease,
-    })
-}
-
-fn ingest_begin(
-    ns: &Words,
-    name: &Words,
-    at: &Words,
-    expected: &Option<Words>,
-    lease: &Option<Words>,
-) -> Result<Request, Fault>
-    ensures fault { Refuses result None }
-    ensures ok { IfOk result (λ request. request
-        ≡ R.IngestBegin ns.now name.now at.now expected.now lease.now) }
-{
-    let (ns, name, at) = three(ns, name, at)?;
-    let expected = if_there(expected)?;
-    let lease = if_there(lease)?;
-    Ok(Request::IngestBegin {
-        ns,
-        name,
-        at,
-        expected,
-        lease,
-    })
-}
-
-fn ingest_commit(
-    alloc: Global,
-    ns: &Words,
-    name: &Words,
-    digest: &Words,
-    labels: &Pairs,
-    lease: &Option<Words>,
-) -> Result<Request, Fault>
-    ensures fault { Refuses result None }
-    ensures ok { IfOk result (λ request. request
-        ≡ R.IngestCommit ns.now name.now digest.now labels.now lease.now) }
-{
-    let (ns, name, digest) = three(ns, name, digest)?;
-    let labels = labels.copy(alloc)?;
-    let lease = if_there(lease)?;
-    Ok(Request::IngestCommit {
-        ns,
-        name,
-        digest,
-        labels,
-        lease,
-    })
-}
-
-fn snap_prepare(
-    alloc: Global,
-    ns: &Words,
-    snapshotter: &Words,
-    key: &Words,
-    parent: &Option<Words>,
-    labels: &Pairs,
-    lease: &Option<Words>,
-) -> Result<Request, Fault>
-    ensures fault { Refuses result None }
-    ensures ok { IfOk result (λ request. request
-        ≡ R.SnapPrepare ns.now snapshotter.now key.now parent.now labels.now lease.now) }
-{
-    let (ns, snapshotter, key) = three(ns, snapshotter, key)?;
-    let parent = if_there(parent)?;
-    let labels = labels.copy(alloc)?;
-    let lease = if_there(lease)?;
-    Ok(Request::SnapPrepare {
-        ns,
-        snapshotter,
-        key,
-        parent,
-        labels,
-        lease,
-    })
-}
-
-fn snap_view(
-    alloc: Global,
-    ns: &Words,
-    snapshotter: &Words,
-    key: &Words,
-    parent: &Option<Words>,
-    labels: &Pairs,
-    lease: &Option<Words>,
-) -> Result<Request, Fault>
-    ensures fault { Refuses result None }
-    ensures ok { IfOk result (λ request. request
-        ≡ R.SnapView ns.now snapshotter.now key.now parent.now labels.now lease.now) }
-{
-    let (ns, snapshotter, key) = three(ns, snapshotter, key)?;
-    let parent = if_there(parent)?;
-    let labels = labels.copy(alloc)?;
-    let lease = if_there(lease)?;
-    Ok(Request::SnapView {
-        ns,
-        snapshotter,
-        key,
-        parent,
-        labels,
-        lease,
-    })
-}
-
-fn snap_commit(
-    alloc: Global,
-    ns: &Words,
-    snapshotter: &Words,
-    key: &Words,
-    name: &Words,
-    labels: &Pairs,
-    lease: &Option<Words>,
-) -> Result<Request, Fault>
-    ensures fault { Refuses result None }
-    ensures ok { IfOk result (λ request. request
-        ≡ R.SnapCommit ns.now snapshotter.now key.now name.now labels.now lease.now) }
-{
-    let (ns, snapshotter, key, name) = four(ns, snapshotter, key, name)?;
-    let labels = labels.copy(alloc)?;
-    let lease = if_there(lease)?;
-    Ok(Request::SnapCommit {
-        ns,
-        snapshotter,
-        key,
-        name,
-        labels,
-        lease,
-    })
-}
-
-fn lease_add(alloc: Global, ns: &Words, id: &Words, labels: &Pairs) -> Result<Request, Fault>
-    ensures fault { Refuses result None }
-    ensures ok { IfOk result (λ request. request ≡ R.LeaseAdd ns.now id.now labels.now) }
-{
-    let (ns, id) = two(ns, id)?;
-    let labels = labels.copy(alloc)?;
-    Ok(Request::LeaseAdd { ns, id, labels })
-}
-
-impl Request {
-    /// Another of the same texts.
-    pub fn copy(&self, alloc: Global) -> Result<Request, Fault>
-        ensures fault { Refuses result None }
-        ensures ok { IfOk result (λ request. request ≡ self.now) }
-    {
+    fn clone(&self) -> Result<Request, AllocError> {
         match self {
             Request::NsAdd { ns } => {
-                let ns = ns.copy()?;
+                let ns = ns.clone()?;
                 Ok(Request::NsAdd { ns })
             }
             Request::NsRemove { ns } => {
-                let ns = ns.copy()?;
+                let ns = ns.clone()?;
                 Ok(Request::NsRemove { ns })
             }
             Request::NsList => Ok(Request::NsList),
@@ -293,7 +95,15 @@ impl Request {
                 name,
                 target,
                 labels,
-            } => image_add(alloc, ns, name, target, labels),
+            } => {
+                let (ns, name, target, labels) = four(ns, name, target, labels)?;
+                Ok(Request::ImageAdd {
+                    ns,
+                    name,
+                    target,
+                    labels,
+                })
+            }
             Request::ImageTarget { ns, name, target } => {
                 let (ns, name, target) = three(ns, name, target)?;
                 Ok(Request::ImageTarget { ns, name, target })
@@ -307,7 +117,7 @@ impl Request {
                 Ok(Request::ImageGet { ns, name })
             }
             Request::ImageList { ns } => {
-                let ns = ns.copy()?;
+                let ns = ns.clone()?;
                 Ok(Request::ImageList { ns })
             }
             Request::ImageLabel {
@@ -330,7 +140,22 @@ impl Request {
                 snapshotter,
                 key,
                 labels,
-            } => container_add(alloc, ns, name, snapshotter, key, labels),
+            } => {
+                let (ns, name, snapshotter, key, labels) = five(
+                    ns,
+                    name,
+                    snapshotter,
+                    key,
+                    labels,
+                )?;
+                Ok(Request::ContainerAdd {
+                    ns,
+                    name,
+                    snapshotter,
+                    key,
+                    labels,
+                })
+            }
             Request::ContainerRemove { ns, name } => {
                 let (ns, name) = two(ns, name)?;
                 Ok(Request::ContainerRemove { ns, name })
@@ -340,7 +165,7 @@ impl Request {
                 Ok(Request::ContainerGet { ns, name })
             }
             Request::ContainerList { ns } => {
-                let ns = ns.copy()?;
+                let ns = ns.clone()?;
                 Ok(Request::ContainerList { ns })
             }
             Request::ContainerLabel {
@@ -362,7 +187,15 @@ impl Request {
                 digest,
                 labels,
                 lease,
-            } => content_add(alloc, ns, digest, labels, lease),
+            } => {
+                let (ns, digest, labels, lease) = four(ns, digest, labels, lease)?;
+                Ok(Request::ContentAdd {
+                    ns,
+                    digest,
+                    labels,
+                    lease,
+                })
+            }
             Request::ContentRemove { ns, digest } => {
                 let (ns, digest) = two(ns, digest)?;
                 Ok(Request::ContentRemove { ns, digest })
@@ -386,7 +219,7 @@ impl Request {
                 })
             }
             Request::ContentList { ns } => {
-                let ns = ns.copy()?;
+                let ns = ns.clone()?;
                 Ok(Request::ContentList { ns })
             }
             Request::IngestBegin {
@@ -395,14 +228,32 @@ impl Request {
                 at,
                 expected,
                 lease,
-            } => ingest_begin(ns, name, at, expected, lease),
+            } => {
+                let (ns, name, at, expected, lease) = five(ns, name, at, expected, lease)?;
+                Ok(Request::IngestBegin {
+                    ns,
+                    name,
+                    at,
+                    expected,
+                    lease,
+                })
+            }
             Request::IngestCommit {
                 ns,
                 name,
                 digest,
                 labels,
                 lease,
-            } => ingest_commit(alloc, ns, name, digest, labels, lease),
+            } => {
+                let (ns, name, digest, labels, lease) = five(ns, name, digest, labels, lease)?;
+                Ok(Request::IngestCommit {
+                    ns,
+                    name,
+                    digest,
+                    labels,
+                    lease,
+                })
+            }
             Request::IngestAbort { ns, name } => {
                 let (ns, name) = two(ns, name)?;
                 Ok(Request::IngestAbort { ns, name })
@@ -412,7 +263,7 @@ impl Request {
                 Ok(Request::IngestGet { ns, name })
             }
             Request::IngestList { ns } => {
-                let ns = ns.copy()?;
+                let ns = ns.clone()?;
                 Ok(Request::IngestList { ns })
             }
             Request::SnapPrepare {
@@ -422,7 +273,24 @@ impl Request {
                 parent,
                 labels,
                 lease,
-            } => snap_prepare(alloc, ns, snapshotter, key, parent, labels, lease),
+            } => {
+                let (ns, snapshotter, key, parent, labels, lease) = six(
+                    ns,
+                    snapshotter,
+                    key,
+                    parent,
+                    labels,
+                    lease,
+                )?;
+                Ok(Request::SnapPrepare {
+                    ns,
+                    snapshotter,
+                    key,
+                    parent,
+                    labels,
+                    lease,
+                })
+            }
             Request::SnapView {
                 ns,
                 snapshotter,
@@ -430,7 +298,24 @@ impl Request {
                 parent,
                 labels,
                 lease,
-            } => snap_view(alloc, ns, snapshotter, key, parent, labels, lease),
+            } => {
+                let (ns, snapshotter, key, parent, labels, lease) = six(
+                    ns,
+                    snapshotter,
+                    key,
+                    parent,
+                    labels,
+                    lease,
+                )?;
+                Ok(Request::SnapView {
+                    ns,
+                    snapshotter,
+                    key,
+                    parent,
+                    labels,
+                    lease,
+                })
+            }
             Request::SnapCommit {
                 ns,
                 snapshotter,
@@ -438,7 +323,24 @@ impl Request {
                 name,
                 labels,
                 lease,
-            } => snap_commit(alloc, ns, snapshotter, key, name, labels, lease),
+            } => {
+                let (ns, snapshotter, key, name, labels, lease) = six(
+                    ns,
+                    snapshotter,
+                    key,
+                    name,
+                    labels,
+                    lease,
+                )?;
+                Ok(Request::SnapCommit {
+                    ns,
+                    snapshotter,
+                    key,
+                    name,
+                    labels,
+                    lease,
+                })
+            }
             Request::SnapRemove {
                 ns,
                 snapshotter,
@@ -483,7 +385,10 @@ impl Request {
                 let (ns, snapshotter) = two(ns, snapshotter)?;
                 Ok(Request::SnapList { ns, snapshotter })
             }
-            Request::LeaseAdd { ns, id, labels } => lease_add(alloc, ns, id, labels),
+            Request::LeaseAdd { ns, id, labels } => {
+                let (ns, id, labels) = three(ns, id, labels)?;
+                Ok(Request::LeaseAdd { ns, id, labels })
+            }
             Request::LeaseRemove { ns, id } => {
                 let (ns, id) = two(ns, id)?;
                 Ok(Request::LeaseRemove { ns, id })
@@ -497,7 +402,7 @@ impl Request {
                 Ok(Request::LeaseLabel { ns, id, key, value })
             }
             Request::LeaseList { ns } => {
-                let ns = ns.copy()?;
+                let ns = ns.clone()?;
                 Ok(Request::LeaseList { ns })
             }
             Request::LeaseHold {
@@ -537,57 +442,43 @@ impl Request {
     }
 }
 
+impl Request {
+    /// Another of the same texts.
+    pub fn copy(&self, _alloc: Global) -> Result<Request, Fault>
+        ensures fault { Refuses result None }
+        ensures ok { IfOk result (λ request. request ≡ self.now) }
+    {
+        Ok(self.clone()?)
+    }
+}
+
 impl Removal {
     /// Another of the same texts.
     pub fn copy(&self) -> Result<Removal, Fault>
         ensures fault { Refuses result None }
         ensures ok { IfOk result (λ removal. removal ≡ self.now) }
     {
-        match self {
-            Removal::Image { ns, name } => {
-                let (ns, name) = two(ns, name)?;
-                Ok(Removal::Image { ns, name })
-            }
-            Removal::Lease { ns, id } => {
-                let (ns, id) = two(ns, id)?;
-                Ok(Removal::Lease { ns, id })
-            }
-        }
+        Ok(self.clone()?)
     }
 }
 
 impl Row {
     /// Another of the same row.
-    pub fn copy(&self, alloc: Global) -> Result<Row, Fault>
+    pub fn copy(&self, _alloc: Global) -> Result<Row, Fault>
         ensures fault { Refuses result None }
         ensures ok { IfOk result (λ row. row ≡ self.now) }
     {
-        match self {
-            Row::Image(row) => Ok(Row::Image(row.copy(alloc)?)),
-            Row::Container(row) => Ok(Row::Container(row.copy(alloc)?)),
-            Row::Content(row) => Ok(Row::Content(row.copy(alloc)?)),
-            Row::Ingest(row) => Ok(Row::Ingest(row.copy()?)),
-            Row::Snap(row) => Ok(Row::Snap(row.copy(alloc)?)),
-            Row::Lease(id, labels) => {
-                let id = id.copy()?;
-                Ok(Row::Lease(id, labels.copy(alloc)?))
-            }
-        }
+        Ok(self.clone()?)
     }
 }
 
 impl Reply {
     /// Another of the same reply. That of `Done` takes no memory, so it is always there.
-    pub fn copy(&self, alloc: Global) -> Result<Reply, Fault>
+    pub fn copy(&self, _alloc: Global) -> Result<Reply, Fault>
         ensures fault { Refuses result None }
         ensures ok { IfOk result (λ reply. reply ≡ self.now) }
         ensures done { self.now ≡ P.Done → result ≡ Ok P.Done }
     {
-        match self {
-            Reply::Done => Ok(Reply::Done),
-            Reply::Names(names) => Ok(Reply::Names(names.copy(alloc)?)),
-            Reply::Row(row) => Ok(Reply::Row(row.copy(alloc)?)),
-            Reply::Resources(held) => Ok(Reply::Resources(held.copy(alloc)?)),
-        }
+        Ok(self.clone()?)
     }
 }

@@ -87,6 +87,15 @@ impl Hash for Digest {
     }
 }
 
+impl Clone for Digest {
+    ghost is_clone = { λ a b. b ≡ a };
+
+    fn clone(&self) -> Result<Digest, AllocError> {
+        let text = self.text.clone()?;
+        Ok(Digest { text })
+    }
+}
+
 impl Digest {
     /// Reads a text. Its bytes are copied once; all copies of the digest share them.
     pub fn read(alloc: Global, text: &str) -> Result<Digest, Fault>
@@ -113,8 +122,7 @@ impl Digest {
     pub fn copy(&self) -> Result<Digest, AllocError>
         ensures ok { IfOk result (λ n. n ≡ self.now) }
     {
-        let text = self.text.clone()?;
-        Ok(Digest { text })
+        self.clone()
     }
 
     /// The text as it was read.

@@ -12,7 +12,7 @@ ghost use Rattle.meta_types.specs.Faults.{Refuses, unless};
 ghost use Rattle.meta_types.specs.declared.fault.Fault.TheVariants.{InvalidArgument};
 
 use crate::fault::Fault;
-use std::alloc::Global;
+use std::alloc::{AllocError, Global};
 use std::cmp::Ordering;
 use std::marker::Model;
 use std::slice;
@@ -48,6 +48,15 @@ impl PartialEq for Labels {
 
     fn eq(&self, other: &Labels) -> bool {
         self.entries == other.entries
+    }
+}
+
+impl Clone for Labels {
+    ghost is_clone = { λ a b. b ≡ a };
+
+    fn clone(&self) -> Result<Labels, AllocError> {
+        let entries = self.entries.clone()?;
+        Ok(Labels { entries })
     }
 }
 
@@ -99,12 +108,11 @@ impl Labels {
     }
 
     /// The same labels once more.
-    pub fn copy(&self, alloc: Global) -> Result<Labels, Fault>
+    pub fn copy(&self, _alloc: Global) -> Result<Labels, Fault>
         ensures fault { Refuses result None }
         ensures ok { IfOk result (λ l. l ≡ self.now) }
     {
-        let entries = Vec::from_clones(alloc, &self.entries)?;
-        Ok(Labels { entries })
+        Ok(self.clone()?)
     }
 
     /// Whether the label may be put: a caller may ask before it changes anything.

@@ -87,6 +87,15 @@ impl Hash for Name {
     }
 }
 
+impl Clone for Name {
+    ghost is_clone = { λ a b. b ≡ a };
+
+    fn clone(&self) -> Result<Name, AllocError> {
+        let text = self.text.clone()?;
+        Ok(Name { text })
+    }
+}
+
 impl Name {
     /// Reads a text. Its bytes are copied once; all copies of the name share them.
     pub fn read(alloc: Global, text: &str) -> Result<Name, Fault>
@@ -113,8 +122,7 @@ impl Name {
     pub fn copy(&self) -> Result<Name, AllocError>
         ensures ok { IfOk result (λ n. n ≡ self.now) }
     {
-        let text = self.text.clone()?;
-        Ok(Name { text })
+        self.clone()
     }
 
     /// The text as it was read.

@@ -13,7 +13,7 @@ use crate::name::Name;
 use crate::resource::Resource;
 use crate::rows::{ContainerRow, ContentRow, ImageRow, IngestRow, SnapRow};
 use crate::short_name::ShortName;
-use std::alloc::Global;
+use std::alloc::{AllocError, Global};
 use std::marker::Model;
 use std::sync::ArcStr;
 
@@ -42,6 +42,15 @@ impl PartialEq for Listing {
     }
 }
 
+impl Clone for Listing {
+    ghost is_clone = { λ a b. b ≡ a };
+
+    fn clone(&self) -> Result<Listing, AllocError> {
+        let names = self.names.clone()?;
+        Ok(Listing { names })
+    }
+}
+
 impl Listing {
     /// No name.
     pub fn new(alloc: Global) -> Listing
@@ -60,12 +69,11 @@ impl Listing {
     }
 
     /// Another of the same names, which share their texts.
-    pub fn copy(&self, alloc: Global) -> Result<Listing, Fault>
+    pub fn copy(&self, _alloc: Global) -> Result<Listing, Fault>
         ensures fault { Refuses result None }
         ensures ok { IfOk result (λ names. names ≡ self.now) }
     {
-        let names = Vec::from_clones(alloc, &self.names)?;
-        Ok(Listing { names })
+        Ok(self.clone()?)
     }
 
     fn push(&mut self, text: ArcStr) -> Result<(), Fault>
@@ -109,7 +117,7 @@ impl Listing {
 }
 
 /// The resources of one lease, in the order of their types and ids.
-#[derive(Drop)]
+#[derive(Clone, Drop)]
 pub struct Holdings {
     resources: Vec<Resource>,
 }
@@ -132,12 +140,11 @@ impl Holdings {
     }
 
     /// Another of the same resources.
-    pub fn copy(&self, alloc: Global) -> Result<Holdings, Fault>
+    pub fn copy(&self, _alloc: Global) -> Result<Holdings, Fault>
         ensures fault { Refuses result None }
         ensures ok { IfOk result (λ holdings. holdings ≡ self.now) }
     {
-        let resources = copies_of(alloc, &self.resources)?;
-        Ok(Holdings { resources })
+        Ok(self.clone()?)
     }
 
     /// The resources.
@@ -148,20 +155,8 @@ impl Holdings {
     }
 }
 
-fn copies_of(alloc: Global, resources: &[Resource]) -> Result<Vec<Resource>, Fault>
-    ensures fault { Refuses result None }
-    ensures ok { IfOk result (λ copies. copies.items ≡ resources.now) }
-{
-    let mut copies = Vec::with_capacity(alloc, resources.len())?;
-    for resource in resources {
-        let copy = resource.copy()?;
-        copies.push(copy)?;
-    }
-    Ok(copies)
-}
-
 /// A row that was asked for; of a lease its id and its labels.
-#[derive(PartialEq, Drop)]
+#[derive(PartialEq, Clone, Drop)]
 pub enum Row {
     Image(ImageRow),
     Container(ContainerRow),
@@ -172,7 +167,7 @@ pub enum Row {
 }
 
 /// What a request answers. One that changes the store answers `Done`.
-#[derive(Drop)]
+#[derive(Clone, Drop)]
 pub enum Reply {
     Done,
     Names(Listing),

@@ -201,7 +201,7 @@ pub enum Request {
 }
 
 /// A removal that is done with a collection, as one event.
-#[derive(PartialEq, Drop)]
+#[derive(PartialEq, Clone, Drop)]
 pub enum Removal {
     Image { ns: Words, name: Words },
     Lease { ns: Words, id: Words },

@@ -30,7 +30,7 @@ pub enum Mode {
 }
 
 /// What a lease holds (containerd leases service, Resource). It needn't be there.
-#[derive(PartialEq, Eq, Hash, Drop)]
+#[derive(PartialEq, Eq, Hash, Clone, Drop)]
 pub enum Resource {
     Content(Digest),
     Snapshot(ShortName, Name),
@@ -61,13 +61,7 @@ impl Resource {
         ensures fault { Refuses result None }
         ensures ok { IfOk result (λ resource. resource ≡ self.now) }
     {
-        match self {
-            Resource::Content(digest) => Ok(Resource::Content(digest.copy()?)),
-            Resource::Snapshot(snapshotter, name) => {
-                Ok(Resource::Snapshot(snapshotter.copy()?, name.copy()?))
-            }
-            Resource::Ingest(name) => Ok(Resource::Ingest(name.copy()?)),
-        }
+        Ok(self.clone()?)
     }
 }
 

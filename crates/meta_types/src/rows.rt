@@ -11,7 +11,7 @@ use crate::short_name::ShortName;
 use std::alloc::Global;
 
 /// An image: a name for the content that it runs from (containerd image store).
-#[derive(PartialEq, Drop)]
+#[derive(PartialEq, Clone, Drop)]
 pub struct ImageRow {
     pub ns: ShortName,
     pub name: Name,
@@ -21,25 +21,16 @@ pub struct ImageRow {
 
 impl ImageRow {
     /// Another of the same row.
-    pub fn copy(&self, alloc: Global) -> Result<ImageRow, Fault>
+    pub fn copy(&self, _alloc: Global) -> Result<ImageRow, Fault>
         ensures fault { Refuses result None }
         ensures ok { IfOk result (λ row. row ≡ self.now) }
     {
-        let ns = self.ns.copy()?;
-        let name = self.name.copy()?;
-        let target = self.target.copy()?;
-        let labels = self.labels.copy(alloc)?;
-        Ok(ImageRow {
-            ns,
-            name,
-            target,
-            labels,
-        })
+        Ok(self.clone()?)
     }
 }
 
 /// A container, with the snapshot that it runs on, if any (containerd container store).
-#[derive(PartialEq, Drop)]
+#[derive(PartialEq, Clone, Drop)]
 pub struct ContainerRow {
     pub ns: ShortName,
     pub name: Name,
@@ -49,28 +40,16 @@ pub struct ContainerRow {
 
 impl ContainerRow {
     /// Another of the same row.
-    pub fn copy(&self, alloc: Global) -> Result<ContainerRow, Fault>
+    pub fn copy(&self, _alloc: Global) -> Result<ContainerRow, Fault>
         ensures fault { Refuses result None }
         ensures ok { IfOk result (λ row. row ≡ self.now) }
     {
-        let ns = self.ns.copy()?;
-        let name = self.name.copy()?;
-        let snapshot = match &self.snapshot {
-            Some((snapshotter, key)) => Some((snapshotter.copy()?, key.copy()?)),
-            None => None,
-        };
-        let labels = self.labels.copy(alloc)?;
-        Ok(ContainerRow {
-            ns,
-            name,
-            snapshot,
-            labels,
-        })
+        Ok(self.clone()?)
     }
 }
 
 /// A blob as one namespace sees it: the blob itself is kept once (containerd content-flow.md).
-#[derive(PartialEq, Drop)]
+#[derive(PartialEq, Clone, Drop)]
 pub struct ContentRow {
     pub ns: ShortName,
     pub digest: Digest,
@@ -79,20 +58,17 @@ pub struct ContentRow {
 
 impl ContentRow {
     /// Another of the same row.
-    pub fn copy(&self, alloc: Global) -> Result<ContentRow, Fault>
+    pub fn copy(&self, _alloc: Global) -> Result<ContentRow, Fault>
         ensures fault { Refuses result None }
         ensures ok { IfOk result (λ row. row ≡ self.now) }
     {
-        let ns = self.ns.copy()?;
-        let digest = self.digest.copy()?;
-        let labels = self.labels.copy(alloc)?;
-        Ok(ContentRow { ns, digest, labels })
+        Ok(self.clone()?)
     }
 }
 
 /// Content that is being written (containerd content-flow.md, ingests). `expires` is its own end,
 /// which one that was begun under a lease doesn't have; `number` names it in the backend.
-#[derive(PartialEq, Drop)]
+#[derive(PartialEq, Clone, Drop)]
 pub struct IngestRow {
     pub ns: ShortName,
     pub name: Name,
@@ -107,24 +83,12 @@ impl IngestRow {
         ensures fault { Refuses result None }
         ensures ok { IfOk result (λ row. row ≡ self.now) }
     {
-        let ns = self.ns.copy()?;
-        let name = self.name.copy()?;
-        let expected = match &self.expected {
-            Some(digest) => Some(digest.copy()?),
-            None => None,
-        };
-        Ok(IngestRow {
-            ns,
-            name,
-            expected,
-            expires: self.expires,
-            number: self.number,
-        })
+        Ok(self.clone()?)
     }
 }
 
 /// Which snapshot: its namespace, its snapshotter and its name there.
-#[derive(PartialEq, Drop)]
+#[derive(PartialEq, Clone, Drop)]
 pub struct SnapKey {
     pub ns: ShortName,
     pub snapshotter: ShortName,
@@ -137,14 +101,7 @@ impl SnapKey {
         ensures fault { Refuses result None }
         ensures ok { IfOk result (λ key. key ≡ self.now) }
     {
-        let ns = self.ns.copy()?;
-        let snapshotter = self.snapshotter.copy()?;
-        let name = self.name.copy()?;
-        Ok(SnapKey {
-            ns,
-            snapshotter,
-            name,
-        })
+        Ok(self.clone()?)
     }
 }
 
@@ -158,7 +115,7 @@ pub enum SnapKind {
 
 /// A snapshot. `parent` is a name of the same namespace and snapshotter; `number` names it in the
 /// backend.
-#[derive(PartialEq, Drop)]
+#[derive(PartialEq, Clone, Drop)]
 pub struct SnapRow {
     pub key: SnapKey,
     pub kind: SnapKind,
@@ -169,22 +126,10 @@ pub struct SnapRow {
 
 impl SnapRow {
     /// Another of the same row.
-    pub fn copy(&self, alloc: Global) -> Result<SnapRow, Fault>
+    pub fn copy(&self, _alloc: Global) -> Result<SnapRow, Fault>
         ensures fault { Refuses result None }
         ensures ok { IfOk result (λ row. row ≡ self.now) }
     {
-        let key = self.key.copy()?;
-        let parent = match &self.parent {
-            Some(name) => Some(name.copy()?),
-            None => None,
-        };
-        let labels = self.labels.copy(alloc)?;
-        Ok(SnapRow {
-            key,
-            kind: self.kind,
-            parent,
-            number: self.number,
-            labels,
-        })
+        Ok(self.clone()?)
     }
 }

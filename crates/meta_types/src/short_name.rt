@@ -87,6 +87,15 @@ impl Hash for ShortName {
     }
 }
 
+impl Clone for ShortName {
+    ghost is_clone = { λ a b. b ≡ a };
+
+    fn clone(&self) -> Result<ShortName, AllocError> {
+        let text = self.text.clone()?;
+        Ok(ShortName { text })
+    }
+}
+
 impl ShortName {
     /// Reads a text. Its bytes are copied once; all copies of the name share them.
     pub fn read(alloc: Global, text: &str) -> Result<ShortName, Fault>
@@ -113,8 +122,7 @@ impl ShortName {
     pub fn copy(&self) -> Result<ShortName, AllocError>
         ensures ok { IfOk result (λ n. n ≡ self.now) }
     {
-        let text = self.text.clone()?;
-        Ok(ShortName { text })
+        self.clone()
     }
 
     /// The text as it was read.

@@ -7,7 +7,7 @@ ghost use Rattle.meta_types.specs.Text.{texts_of};
 ghost use Rattle.meta_types.specs.Faults.{Refuses};
 
 use crate::fault::Fault;
-use std::alloc::Global;
+use std::alloc::{AllocError, Global};
 use std::marker::Model;
 
 /// A text that was not yet read as a name, a digest or a time.
@@ -34,6 +34,15 @@ impl PartialEq for Words {
     }
 }
 
+impl Clone for Words {
+    ghost is_clone = { λ a b. b ≡ a };
+
+    fn clone(&self) -> Result<Words, AllocError> {
+        let text = self.text.clone()?;
+        Ok(Words { text })
+    }
+}
+
 impl Words {
     /// The text as it came.
     pub fn new(text: String) -> Words
@@ -54,8 +63,7 @@ impl Words {
         ensures fault { Refuses result None }
         ensures ok { IfOk result (λ words. words ≡ self.now) }
     {
-        let text = self.text.clone()?;
-        Ok(Words { text })
+        Ok(self.clone()?)
     }
 }
 
@@ -85,6 +93,15 @@ impl PartialEq for Pairs {
     }
 }
 
+impl Clone for Pairs {
+    ghost is_clone = { λ a b. b ≡ a };
+
+    fn clone(&self) -> Result<Pairs, AllocError> {
+        let entries = self.entries.clone()?;
+        Ok(Pairs { entries })
+    }
+}
+
 impl Pairs {
     /// The pairs as they came.
     pub fn new(entries: Vec<(String, String)>) -> Pairs
@@ -94,12 +111,11 @@ impl Pairs {
     }
 
     /// Others of the same texts.
-    pub fn copy(&self, alloc: Global) -> Result<Pairs, Fault>
+    pub fn copy(&self, _alloc: Global) -> Result<Pairs, Fault>
         ensures fault { Refuses result None }
         ensures ok { IfOk result (λ pairs. pairs ≡ self.now) }
     {
-        let entries = Vec::from_clones(alloc, &self.entries)?;
-        Ok(Pairs { entries })
+        Ok(self.clone()?)
     }
 
     /// The keys and values as they came.

@@ -1,7 +1,7 @@
-use Rattle.std.proofs.Common.{◌≡◌, ◌∙◌, ap, ℕ, List, [], ◌∷◌, map, refl}
+use Rattle.std.proofs.Common.{◌≡◌, ◌∙◌, ℕ, List, [], ◌∷◌, map, refl}
 use Rattle.std.specs.List.{AllZip}
 use Rattle.std.specs.Arc.{arc_str_bytes}
-use Rattle.meta_types.proofs.reply.Listing.copy.Goals as goal
+use Rattle.meta_types.proofs.reply.ListingClone.clone.Goals as goal
 
 shared : {Shared : Type 0} (text_of : Shared → List ℕ) (names copies : List Shared) → AllZip (λ x y. text_of y ≡ text_of x) names copies → map text_of copies ≡ map text_of names
 shared text_of [] [] same = refl
@@ -10,5 +10,5 @@ shared text_of (x ∷ xs) [] same = absurd same
 shared text_of (x ∷ xs) (y ∷ ys) same = λ i. same.0 i ∷ shared text_of xs ys same.1 i
 
 -- the names share their texts
-pub returns-clause-ok : goal.returns-clause-ok
-returns-clause-ok c = shared arc_str_bytes c.deref.result.now c.in_ok-names.names.items c.in_ok-names.ensures.items ∙ ap (map arc_str_bytes) c.deref.ensures.value ∙ c.self.view_is
+pub returns : goal.returns
+returns c = record { cases = shared arc_str_bytes c.self.inside.names.items c.in_ok-names.names.items c.in_ok-names.ensures.cases.0 ∙ c.self.view_is }
