@@ -17,11 +17,11 @@ use std::mem::drop;
 use std::sync::Wait;
 use std::sync::ledger::Ledger;
 use std::thread::Threads;
-use store_front::{Locked, Session};
+use store_front::{Keeps, MemLocked, Session};
 
 // What a line asks for, done.
-fn serve_line<L: Ledger, R: Threads + Wait + Sync>(
-    locked: &mut Locked<L>,
+fn serve_line<L: Ledger, K: Keeps, R: Threads + Wait + Sync>(
+    locked: &mut MemLocked<L, K>,
     rt: &R,
     alloc: Global,
     session: &mut Session<L>,
@@ -46,8 +46,8 @@ fn serve_line<L: Ledger, R: Threads + Wait + Sync>(
 }
 
 // The answer to a line that isn't empty.
-fn answer_to<L: Ledger, R: Threads + Wait + Sync>(
-    locked: &mut Locked<L>,
+fn answer_to<L: Ledger, K: Keeps, R: Threads + Wait + Sync>(
+    locked: &mut MemLocked<L, K>,
     rt: &R,
     alloc: Global,
     session: &mut Session<L>,
@@ -70,8 +70,8 @@ fn answer_to<L: Ledger, R: Threads + Wait + Sync>(
 
 /// Answers one line, without its line feed: nothing for an empty one. Where the text of an
 /// answer can't be made, what the line asked for is done all the same.
-pub fn answer_line<L: Ledger, R: Threads + Wait + Sync>(
-    locked: &mut Locked<L>,
+pub fn answer_line<L: Ledger, K: Keeps, R: Threads + Wait + Sync>(
+    locked: &mut MemLocked<L, K>,
     rt: &R,
     alloc: Global,
     session: &mut Session<L>,

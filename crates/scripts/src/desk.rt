@@ -10,19 +10,16 @@ use meta_types::Fault;
 use request_core::State;
 use std::alloc::Global;
 use std::marker::Model;
-use std::slice;
 use std::sync::Wait;
 use std::sync::ledger::{Blank, Ledger};
 use std::thread::Threads;
-use store_front::{Locked, Session};
+use store_front::{Locked, MemLocked, Session, Unkept};
 
-/// A history is begun anew once it has this many entries, and as many as the store has rows. Ours.
-const HISTORY_LIMIT: usize = 65536;
-
-/// The store of a script, in memory, with its one session, and how many workers collect.
+/// The store of a script, in memory, with its one session, and how many workers collect. It keeps
+/// no history, since nobody can ask for one.
 #[derive(Drop)]
 pub struct Desk<L: Ledger> {
-    locked: Locked<L>,
+    locked: MemLocked<L, Unkept>,
     session: Session<L>,
     workers: usize,
 }
@@ -51,7 +48,7 @@ impl<L: Ledger> Desk<L> {
         ensures fault { Refuses result None }
         ensures ok { IfOk result (λ desk. desk ≡ empty_store) }
     {
-        let mut locked = Locked::open(alloc, blank, State::empty(alloc))?;
+        let mut locked = Locked::open_unkept(alloc, blank, State::empty(alloc));
         let session = locked.session(alloc)?;
         Ok(Desk {
             locked,
@@ -82,36 +79,5 @@ impl<L: Ledger> Desk<L> {
             line,
             self.workers,
         )
-    }
-
-    // Whether the history is long enough to be begun anew. It takes no memory.
-    fn is_long(&self) -> bool {
-        let entries = self.session.list().len();
-        if entries < HISTORY_LIMIT {
-            return false;
-        }
-        let counts = self.locked.records().tables.counts();
-        let objects = counts.images.saturating_add(counts.containers);
-        let stored = counts.content.saturating_add(counts.ingests);
-        let rows = objects
-            .saturating_add(stored)
-            .saturating_add(counts.snapshots);
-        rows <= entries as u128
-    }
-
-    /// Begins the history anew where it is long, so that memory grows with the store and not with
-    /// the requests. Where memory is wanting for that, it goes on as it is.
-    pub fn shorten_history(&mut self, alloc: Global)
-        ensures { self.new ≡ self.old }
-    {
-        if !self.is_long() {
-            return;
-        }
-        let Desk {
-            locked,
-            session,
-            ..
-        } = self;
-        let _history = locked.begin_anew(alloc, slice::from_mut(session));
     }
 }

@@ -191,7 +191,6 @@ fn take_block<T: Threads + Wait + Sync, L: Ledger, R: Read, W: Write>(
         }
         Ok(count) => {
             feed(rt, alloc, desk, buffer, writer, &bytes[..count])?;
-            desk.shorten_history(alloc);
             Ok(Run::GoesOn)
         }
         Err(fault) => Err(fault),

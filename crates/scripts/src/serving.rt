@@ -17,11 +17,11 @@ use std::sync::Wait;
 use std::sync::ledger::Ledger;
 use std::thread::Threads;
 use steal_mark::OpenGate;
-use store_front::{Locked, Session};
+use store_front::{Keeps, MemLocked, Session};
 
 // Answers a request.
-fn request<L: Ledger>(
-    locked: &mut Locked<L>,
+fn request<L: Ledger, K: Keeps>(
+    locked: &mut MemLocked<L, K>,
     alloc: Global,
     session: &mut Session<L>,
     request: &Request,
@@ -40,8 +40,8 @@ fn request<L: Ledger>(
 }
 
 // Collects at a moment, where the text is one.
-fn collect<L: Ledger, R: Threads + Wait + Sync>(
-    locked: &mut Locked<L>,
+fn collect<L: Ledger, K: Keeps, R: Threads + Wait + Sync>(
+    locked: &mut MemLocked<L, K>,
     rt: &R,
     alloc: Global,
     session: &mut Session<L>,
@@ -76,8 +76,8 @@ fn collect<L: Ledger, R: Threads + Wait + Sync>(
 }
 
 // Removes an image or a lease, and collects at a moment, where the text is one.
-fn remove<L: Ledger, R: Threads + Wait + Sync>(
-    locked: &mut Locked<L>,
+fn remove<L: Ledger, K: Keeps, R: Threads + Wait + Sync>(
+    locked: &mut MemLocked<L, K>,
     rt: &R,
     alloc: Global,
     session: &mut Session<L>,
@@ -112,8 +112,8 @@ fn remove<L: Ledger, R: Threads + Wait + Sync>(
 }
 
 /// Does what a line asks for, with so many workers where it is a collection.
-pub fn serve_asked<L: Ledger, R: Threads + Wait + Sync>(
-    locked: &mut Locked<L>,
+pub fn serve_asked<L: Ledger, K: Keeps, R: Threads + Wait + Sync>(
+    locked: &mut MemLocked<L, K>,
     rt: &R,
     alloc: Global,
     session: &mut Session<L>,

@@ -1,7 +1,7 @@
 -- A request that was answered is its step, and a history with its entry more is legal.
 use Rattle.meta_types.specs.declared.reply.Reply.TheVariants as P
 use Rattle.std.proofs.Common.{inl, inr, add-zero, rules, ◌<◌, ◌+◌, ◌⊎◌, ◌≢◌, ◌≡◌, ℕ, List, [], ◌∷◌, ◌++◌, refl, sym, ap, ◌∙◌, subst}
-use Rattle.std.specs.Prelude.{Option, Some, None, Result, Ok, Err, IsOk, IfErr, is_some, if◌then◌else◌}
+use Rattle.std.specs.Prelude.{Bool, true, false, IsTrue, Option, Some, None, Result, Ok, Err, IsOk, IfErr, is_some, if◌then◌else◌}
 use Rattle.std.specs.Option.{option_map_or}
 use Rattle.meta_types.specs.Rows.{State}
 use Rattle.meta_types.specs.Outcomes.{least_fault}
@@ -84,7 +84,7 @@ opened_after opened number log event (Some answer) all here =
 
 -- ---- refusals, and failures of the device
 
-fails : (old : Store) (request : Request) (result : Result Reply Fault) (new : Store)
+pub fails : (old : Store) (request : Request) (result : Result Reply Fault) (new : Store)
     → Answers old request result new
     → IfErr result (λ f. Fails f (least_fault (outcome old.state request)))
 unfolding Answers
@@ -115,7 +115,7 @@ counted old request (Err ReadFailed) new h = absurd h.0
 counted old request (Err WriteFailed) new h = absurd h.0
 counted old request (Err (Mismatch place)) new h = absurd h.0
 
-counts : (old : Store) (request : Request) (result : Result Reply Fault) (new : Store)
+pub counts : (old : Store) (request : Request) (result : Result Reply Fault) (new : Store)
     → Answers old request result new → new.failures ≡ old.failures + reply_failures result
 unfolding Answers
 counts old request result new h = counted old request result new h
@@ -131,3 +131,9 @@ pub failures_of : (old : Store) (request : Request) (outcome result : Result Rep
 failures_of old request outcome result new h (inl same) = counts old request outcome new h ∙ ap (λ (r : Result Reply Fault). old.failures + reply_failures r) (sym same)
 failures_of old request outcome result new h (inr lost) =
     counts old request outcome new h ∙ ap (λ (n : ℕ). old.failures + n) (none_failed outcome lost.1 ∙ ap reply_failures (sym lost.0))
+
+-- ---- where nothing is kept
+
+-- of a store that keeps nothing, what holds where it keeps one isn't asked
+pub not_kept : (X : Type 0) (read kept : Bool) → read ≡ false → read ≡ kept → IsTrue kept → X
+not_kept X read kept none is some = absurd cc

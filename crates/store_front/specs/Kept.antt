@@ -1,5 +1,5 @@
 -- What is kept of an answer, what an event did, and what refuses it.
-use Rattle.std.specs.Prelude.{◌≡◌, ℕ, List, [], ◌∷◌, ◌++◌, Option, Some, None, Result, Ok, Err}
+use Rattle.std.specs.Prelude.{◌≡◌, Bool, true, false, ℕ, List, [], ◌∷◌, ◌++◌, Option, Some, None, Result, Ok, Err}
 use Rattle.meta_types.specs.Rows.{State}
 use Rattle.meta_types.specs.Reports.{Report}
 use Rattle.meta_types.specs.Steps.{Answer, answered, reported, refused, Event, Step, Entry, failed_in}
@@ -33,6 +33,11 @@ kept_reply (Err fault) = kept_fault fault
 abbrev pub kept_report : Result Report Fault → Option Answer
 kept_report (Ok report) = Some (reported report)
 kept_report (Err fault) = kept_fault fault
+
+-- what a store keeps of an answer: nothing, where it keeps no history (ours)
+abbrev pub kept_if : Bool → Option Answer → Option Answer
+kept_if true kept = kept
+kept_if false kept = None
 
 -- an event did its step with the failures that its answer names, or nothing (ours)
 abbrev pub Takes : State → Event → Option Answer → State → Type 0

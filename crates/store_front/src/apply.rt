@@ -4,9 +4,10 @@ ghost use Rattle.meta_types.specs.Steps.{requested};
 ghost use Rattle.meta_types.specs.Outcomes.{least_fault};
 ghost use Rattle.meta_types.specs.Requests.{outcome};
 ghost use Rattle.request_core.specs.Follows.{Fails};
-ghost use Rattle.store_front.specs.Kept.{kept_reply, Takes, log_after, list_after, reply_failures};
+ghost use Rattle.store_front.specs.Kept.{kept_if, kept_reply, Takes, log_after, list_after, reply_failures};
 
 use crate::keeping::{keep_reply, make_room};
+use crate::keeps::Keeps;
 use crate::locked::Locked;
 use crate::session::Session;
 use crate::twice::Events;
@@ -15,9 +16,9 @@ use meta_types::{Fault, Reply, Request};
 use std::alloc::Global;
 use std::sync::ledger::Ledger;
 
-impl<L: Ledger, S: SnapBackend, B: BlobBackend, I: IngestBackend> Locked<L, S, B, I> {
+impl<L: Ledger, S: SnapBackend, B: BlobBackend, I: IngestBackend, K: Keeps> Locked<L, S, B, I, K> {
     /// Answers a request. It is an entry, in the log and in the session's list, unless memory was
-    /// wanting or the device failed.
+    /// wanting, the device failed, or the store keeps none.
     pub fn apply(
         &mut self,
         alloc: Global,
@@ -30,9 +31,9 @@ impl<L: Ledger, S: SnapBackend, B: BlobBackend, I: IngestBackend> Locked<L, S, B
         ensures fault { IfErr result (λ f. Fails f
             (least_fault (outcome self.old.store.state request.now))) }
         ensures log { self.new.log ≡ log_after self.old.log session.old.number
-            (requested request.now) (kept_reply result) }
+            (requested request.now) (kept_if K.KEPT (kept_reply result)) }
         ensures list { session.new.list ≡ list_after session.old.list (requested request.now)
-            (kept_reply result) }
+            (kept_if K.KEPT (kept_reply result)) }
         ensures number { session.new.number ≡ session.old.number }
         ensures base { self.new.base ≡ self.old.base }
         ensures opened { self.new.opened ≡ self.old.opened }
@@ -45,6 +46,9 @@ impl<L: Ledger, S: SnapBackend, B: BlobBackend, I: IngestBackend> Locked<L, S, B
             book,
             ..
         } = self;
+        if !K::KEPT {
+            return state.apply(alloc, request);
+        }
         let Session {
             number,
             list,

@@ -2,9 +2,10 @@
 ghost use Rattle.std.specs.Prelude.{◌≡◌, ◌+◌, ◌<◌, IfErr};
 ghost use Rattle.meta_types.specs.Steps.{collect, collect_fault, remove_collect, remove_collect_fault};
 ghost use Rattle.collecting.specs.Refused.{CollectFails};
-ghost use Rattle.store_front.specs.Kept.{kept_report, Takes, log_after, list_after, report_failures};
+ghost use Rattle.store_front.specs.Kept.{kept_if, kept_report, Takes, log_after, list_after, report_failures};
 
-use crate::keeping::{keep_report, make_room};
+use crate::keeping::{keep_report, make_room, report_alone};
+use crate::keeps::Keeps;
 use crate::locked::Locked;
 use crate::running::{run_collect, run_removal};
 use crate::session::Session;
@@ -19,7 +20,7 @@ use std::sync::ledger::Ledger;
 use std::thread::Threads;
 use steal_mark::Gate;
 
-impl<L: Ledger, S: SnapBackend, B: BlobBackend, I: IngestBackend> Locked<L, S, B, I> {
+impl<L: Ledger, S: SnapBackend, B: BlobBackend, I: IngestBackend, K: Keeps> Locked<L, S, B, I, K> {
     /// Collects with so many workers, or with `dry` only reports what would go. It is an entry
     /// unless memory or a thread was wanting; from the first removal on nothing is refused.
     pub fn collect<R: Threads + Wait + Sync, G: Gate, H: SweepGate>(
@@ -39,9 +40,9 @@ impl<L: Ledger, S: SnapBackend, B: BlobBackend, I: IngestBackend> Locked<L, S, B
         ensures fault { IfErr result (λ f. CollectFails f
             (collect_fault self.old.store.state.records workers)) }
         ensures log { self.new.log ≡ log_after self.old.log session.old.number
-            (collect at.0 dry workers) (kept_report result) }
+            (collect at.0 dry workers) (kept_if K.KEPT (kept_report result)) }
         ensures list { session.new.list ≡ list_after session.old.list (collect at.0 dry workers)
-            (kept_report result) }
+            (kept_if K.KEPT (kept_report result)) }
         ensures number { session.new.number ≡ session.old.number }
         ensures base { self.new.base ≡ self.old.base }
         ensures opened { self.new.opened ≡ self.old.opened }
@@ -54,6 +55,10 @@ impl<L: Ledger, S: SnapBackend, B: BlobBackend, I: IngestBackend> Locked<L, S, B
             book,
             ..
         } = self;
+        if !K::KEPT {
+            let reports = run_collect(rt, alloc, state, at, dry, workers, gate, sweep_gate);
+            return report_alone(reports);
+        }
         let Session {
             number,
             list,
@@ -86,9 +91,9 @@ impl<L: Ledger, S: SnapBackend, B: BlobBackend, I: IngestBackend> Locked<L, S, B
         ensures fault { IfErr result (λ f. CollectFails f
             (remove_collect_fault self.old.store.state removal.now workers)) }
         ensures log { self.new.log ≡ log_after self.old.log session.old.number
-            (remove_collect removal.now at.0 workers) (kept_report result) }
+            (remove_collect removal.now at.0 workers) (kept_if K.KEPT (kept_report result)) }
         ensures list { session.new.list ≡ list_after session.old.list
-            (remove_collect removal.now at.0 workers) (kept_report result) }
+            (remove_collect removal.now at.0 workers) (kept_if K.KEPT (kept_report result)) }
         ensures number { session.new.number ≡ session.old.number }
         ensures base { self.new.base ≡ self.old.base }
         ensures opened { self.new.opened ≡ self.old.opened }
@@ -101,6 +106,10 @@ impl<L: Ledger, S: SnapBackend, B: BlobBackend, I: IngestBackend> Locked<L, S, B
             book,
             ..
         } = self;
+        if !K::KEPT {
+            let reports = run_removal(rt, alloc, state, removal, at, workers, gate, sweep_gate);
+            return report_alone(reports);
+        }
         let Session {
             number,
             list,

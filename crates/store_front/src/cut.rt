@@ -62,6 +62,7 @@ impl<L: Ledger, S: SnapBackend, B: BlobBackend, I: IngestBackend> Locked<L, S, B
             opened: _,
             book: _,
             rest: _,
+            keeps: _,
         } = self;
         History { base, log }
     }

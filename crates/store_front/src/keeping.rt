@@ -139,3 +139,20 @@ pub(crate) fn keep_report<L: Ledger>(
         }
     }
 }
+
+// The report, where nothing is kept of it.
+pub(crate) fn report_alone(outcome: Result<Reports, Fault>) -> Result<Report, Fault>
+    ensures { result ≡ outcome }
+{
+    match outcome {
+        Ok(reports) => {
+            let Reports {
+                caller,
+                log: _,
+                list: _,
+            } = reports;
+            Ok(caller)
+        }
+        Err(fault) => Err(fault),
+    }
+}

@@ -1,17 +1,21 @@
 //! The value behind the lock.
 ghost use Rattle.std.specs.Prelude.{◌≡◌, ◌+◌, [], None, IfOk, IfErr, OnOk, OnErr, max};
 ghost use Rattle.meta_types.specs.Faults.{Refuses};
+ghost use Rattle.meta_types.specs.Scripts.{empty_store};
 ghost use Rattle.meta_types.specs.Sound.{IsSound};
 ghost use Rattle.meta_types.specs.declared.fault.Fault.TheVariants.{FailedPrecondition};
 
 use crate::base::Base;
 use crate::entries::Entry;
+use crate::keeps::{Keeps, Kept, Unkept};
 use crate::session::Session;
-use back_model::{BlobBackend, IngestBackend, MemBackend, MemBlobs, MemIngests, SnapBackend};
+use back_model::{
+    BackLists, BlobBackend, IngestBackend, MemBackend, MemBlobs, MemIngests, SnapBackend,
+};
 use meta_types::Fault;
-use request_core::State;
+use request_core::{Records, State};
 use std::alloc::Global;
-use std::marker::Model;
+use std::marker::{Model, PhantomData};
 use std::sync::ledger::{Blank, Book, Ledger, Share};
 
 /// How many sessions a store may open.
@@ -24,6 +28,7 @@ pub struct Locked<
     S: SnapBackend = MemBackend,
     B: BlobBackend = MemBlobs,
     I: IngestBackend = MemIngests,
+    K: Keeps = Kept,
 > {
     pub(crate) state: State<S, B, I>,
     pub(crate) base: Base,
@@ -31,10 +36,15 @@ pub struct Locked<
     pub(crate) opened: u32,
     pub(crate) book: Book<L>,
     pub(crate) rest: Share<L>,
+    pub(crate) keeps: PhantomData<K>,
 }
 
-impl<L: Ledger, S: SnapBackend, B: BlobBackend, I: IngestBackend> Model for Locked<L, S, B, I> {
-    ghost use Rattle.std.specs.Prelude.{◌≡◌, ◌≤◌, ◌+◌};
+/// Such a one over models in memory.
+pub type MemLocked<L, K> = Locked<L, MemBackend, MemBlobs, MemIngests, K>;
+
+impl<L: Ledger, S: SnapBackend, B: BlobBackend, I: IngestBackend, K: Keeps> Model
+    for Locked<L, S, B, I, K> {
+    ghost use Rattle.std.specs.Prelude.{◌≡◌, ◌≤◌, ◌+◌, IsTrue};
     ghost use Rattle.std.specs.Vec.{vec_len};
     ghost use Rattle.store_front.specs.Front.{Front};
 
@@ -52,7 +62,7 @@ impl<L: Ledger, S: SnapBackend, B: BlobBackend, I: IngestBackend> Model for Lock
     } };
 
     ghost invariant = { λ s. record {
-      legal : IsLegal s.base s.log.items s.state.state;
+      legal : IsTrue K.KEPT → IsLegal s.base s.log.items s.state.state;
       sound : IsSound s.state.state;
       opened : AreOpened s.opened s.log.items;
       total : s.book.total ≡ vec_len s.log;
@@ -89,9 +99,43 @@ impl<L: Ledger, S: SnapBackend, B: BlobBackend, I: IngestBackend> Locked<L, S, B
             opened: 0,
             book,
             rest,
+            keeps: PhantomData,
         })
     }
+}
 
+impl<L: Ledger, S: SnapBackend, B: BlobBackend, I: IngestBackend> Locked<L, S, B, I, Unkept> {
+    /// A store over this state that keeps no history, with no session. It takes no memory. The
+    /// blank has 65,536 parts.
+    pub fn open_unkept(
+        alloc: Global,
+        blank: Blank,
+        state: State<S, B, I>,
+    ) -> Locked<L, S, B, I, Unkept>
+        requires sound { IsSound state.state }
+        requires name { blank.name ≡ L.name }
+        requires parts { (blank.parts ≡ L.parts) × (blank.parts ≡ 65536) }
+        ensures { result ≡ record {
+          store = state;
+          base = empty_store;
+          log = [];
+          opened = 0;
+        } }
+    {
+        let (book, rest) = blank.open::<L>();
+        Locked {
+            state,
+            base: empty_base(alloc),
+            log: Vec::new(alloc),
+            opened: 0,
+            book,
+            rest,
+            keeps: PhantomData,
+        }
+    }
+}
+
+impl<L: Ledger, S: SnapBackend, B: BlobBackend, I: IngestBackend, K: Keeps> Locked<L, S, B, I, K> {
     /// A new session, refused where as many are open as may be. It takes no memory.
     pub fn session(&mut self, alloc: Global) -> Result<Session<L>, Fault>
         ensures ok { IfOk result (λ session. session
@@ -124,6 +168,20 @@ impl<L: Ledger, S: SnapBackend, B: BlobBackend, I: IngestBackend> Locked<L, S, B
         if self.opened <= session.number {
             self.opened = session.number + 1;
         }
+    }
+}
+
+// Nothing stored. It takes no memory.
+fn empty_base(alloc: Global) -> Base
+    ensures { result ≡ empty_store }
+{
+    Base {
+        records: Records::empty(alloc),
+        lists: BackLists {
+            blobs: Vec::new(alloc),
+            snapshots: Vec::new(alloc),
+            ingests: Vec::new(alloc),
+        },
     }
 }
 

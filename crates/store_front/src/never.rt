@@ -1,10 +1,11 @@
 //! Stores over models in memory, whose devices never fail.
 ghost use Rattle.std.specs.Prelude.{◌≡◌};
 
-use crate::locked::Locked;
+use crate::keeps::Keeps;
+use crate::locked::MemLocked;
 use std::sync::ledger::Ledger;
 
-impl<L: Ledger> Locked<L> {
+impl<L: Ledger, K: Keeps> MemLocked<L, K> {
     /// No device of a store in memory ever failed. It does nothing, and serves a proof alone.
     pub fn never_failed(&self)
         ensures { self.now.store.failures ≡ 0 }

@@ -1,12 +1,13 @@
 //! The records of a store.
 ghost use Rattle.std.specs.Prelude.{◌≡◌};
 
+use crate::keeps::Keeps;
 use crate::locked::Locked;
 use back_model::{BlobBackend, IngestBackend, SnapBackend};
 use request_core::Records;
 use std::sync::ledger::Ledger;
 
-impl<L: Ledger, S: SnapBackend, B: BlobBackend, I: IngestBackend> Locked<L, S, B, I> {
+impl<L: Ledger, S: SnapBackend, B: BlobBackend, I: IngestBackend, K: Keeps> Locked<L, S, B, I, K> {
     /// The records of the store.
     pub fn records(&self) -> &Records
         ensures tables { result.now.tables ≡ self.now.store.state.records.tables }

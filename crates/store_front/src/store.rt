@@ -4,17 +4,18 @@ ghost use Rattle.meta_types.specs.Faults.{Refuses};
 ghost use Rattle.meta_types.specs.Limits.{is_worker_count};
 ghost use Rattle.meta_types.specs.Outcomes.{least_fault};
 ghost use Rattle.meta_types.specs.Requests.{outcome};
-ghost use Rattle.meta_types.specs.Rows.{State as Kept};
+ghost use Rattle.meta_types.specs.Rows.{State as Stored};
 ghost use Rattle.meta_types.specs.Sound.{IsSound};
 ghost use Rattle.meta_types.specs.Steps.{Entry, requested, collect, collect_fault, remove_collect, remove_collect_fault};
 ghost use Rattle.meta_types.specs.declared.fault.Fault.TheVariants.{InvalidArgument, FailedPrecondition};
 ghost use Rattle.request_core.specs.Follows.{Fails};
 ghost use Rattle.collecting.specs.Refused.{CollectFails};
-ghost use Rattle.store_front.specs.Kept.{kept_reply, kept_report, Takes, list_after};
+ghost use Rattle.store_front.specs.Kept.{kept_if, kept_reply, kept_report, Takes, list_after};
 ghost use Rattle.store_front.specs.Finish.{IsHistory, AreOfThese, CutFails, FinishFails, fresh};
 ghost use Rattle.store_front.specs.Parts.{IsPart, part};
 
 use crate::base::History;
+use crate::keeps::{Keeps, Kept, Unkept};
 use crate::locked::Locked;
 use crate::session::Session;
 use back_model::{BlobBackend, IngestBackend, MemBackend, MemBlobs, MemIngests, SnapBackend};
@@ -35,8 +36,9 @@ pub struct Store<
     S: SnapBackend = MemBackend,
     B: BlobBackend = MemBlobs,
     I: IngestBackend = MemIngests,
+    K: Keeps = Kept,
 > {
-    pub(crate) inner: Mutex<Locked<L, S, B, I>>,
+    pub(crate) inner: Mutex<Locked<L, S, B, I, K>>,
 }
 
 impl<L: Ledger, S: SnapBackend, B: BlobBackend, I: IngestBackend> Store<L, S, B, I> {
@@ -55,7 +57,27 @@ impl<L: Ledger, S: SnapBackend, B: BlobBackend, I: IngestBackend> Store<L, S, B,
             inner: Mutex::new(Locked::open(alloc, blank, state)?),
         })
     }
+}
 
+impl<L: Ledger, S: SnapBackend, B: BlobBackend, I: IngestBackend> Store<L, S, B, I, Unkept> {
+    /// A store over this state that keeps no history, with no session. It takes no memory. The
+    /// blank has 65,536 parts.
+    pub fn new_unkept(
+        alloc: Global,
+        blank: Blank,
+        state: State<S, B, I>,
+    ) -> Store<L, S, B, I, Unkept>
+        requires sound { IsSound state.state }
+        requires name { blank.name ≡ L.name }
+        requires parts { (blank.parts ≡ L.parts) × (blank.parts ≡ 65536) }
+    {
+        Store {
+            inner: Mutex::new(Locked::open_unkept(alloc, blank, state)),
+        }
+    }
+}
+
+impl<L: Ledger, S: SnapBackend, B: BlobBackend, I: IngestBackend, K: Keeps> Store<L, S, B, I, K> {
     /// A new session, refused where as many are open as may be.
     pub fn session(&self, rt: &impl Wait, alloc: Global) -> Result<Session<L>, Fault>
         ensures ok { IfOk result (λ s. s.list ≡ []) }
@@ -73,11 +95,11 @@ impl<L: Ledger, S: SnapBackend, B: BlobBackend, I: IngestBackend> Store<L, S, B,
         session: &mut Session<L>,
         request: &Request,
     ) -> Result<Reply, Fault>
-        ensures step { (old : Kept) × (new : Kept) × IsSound old
+        ensures step { (old : Stored) × (new : Stored) × IsSound old
             × Takes old (requested request.now) (kept_reply result) new
             × IfErr result (λ f. Fails f (least_fault (outcome old request.now))) }
         ensures list { session.new.list ≡ list_after session.old.list (requested request.now)
-            (kept_reply result) }
+            (kept_if K.KEPT (kept_reply result)) }
         ensures number { session.new.number ≡ session.old.number }
     {
         let mut guard = self.inner.lock(rt);
@@ -98,11 +120,11 @@ impl<L: Ledger, S: SnapBackend, B: BlobBackend, I: IngestBackend> Store<L, S, B,
         gate: &G,
         sweep_gate: &H,
     ) -> Result<Report, Fault>
-        ensures step { (old : Kept) × (new : Kept) × IsSound old
+        ensures step { (old : Stored) × (new : Stored) × IsSound old
             × Takes old (collect at.0 dry workers) (kept_report result) new
             × IfErr result (λ f. CollectFails f (collect_fault old.records workers)) }
         ensures list { session.new.list ≡ list_after session.old.list (collect at.0 dry workers)
-            (kept_report result) }
+            (kept_if K.KEPT (kept_report result)) }
         ensures number { session.new.number ≡ session.old.number }
     {
         let mut guard = self.inner.lock(rt);
@@ -123,11 +145,11 @@ impl<L: Ledger, S: SnapBackend, B: BlobBackend, I: IngestBackend> Store<L, S, B,
         gate: &G,
         sweep_gate: &H,
     ) -> Result<Report, Fault>
-        ensures step { (old : Kept) × (new : Kept) × IsSound old
+        ensures step { (old : Stored) × (new : Stored) × IsSound old
             × Takes old (remove_collect removal.now at.0 workers) (kept_report result) new
             × IfErr result (λ f. CollectFails f (remove_collect_fault old removal.now workers)) }
         ensures list { session.new.list ≡ list_after session.old.list
-            (remove_collect removal.now at.0 workers) (kept_report result) }
+            (remove_collect removal.now at.0 workers) (kept_if K.KEPT (kept_report result)) }
         ensures number { session.new.number ≡ session.old.number }
     {
         let mut guard = self.inner.lock(rt);
@@ -135,7 +157,9 @@ impl<L: Ledger, S: SnapBackend, B: BlobBackend, I: IngestBackend> Store<L, S, B,
         locked.admit(session);
         locked.remove_collect(rt, alloc, session, removal, at, workers, gate, sweep_gate)
     }
+}
 
+impl<L: Ledger, S: SnapBackend, B: BlobBackend, I: IngestBackend> Store<L, S, B, I> {
     /// A history so far, in which the session's part is its list.
     pub fn cut(&self, rt: &impl Wait, alloc: Global, session: &Session<L>) -> Result<History, Fault>
         ensures ok { IfOk result (λ h. IsPart h.log session.now × IsHistory h) }

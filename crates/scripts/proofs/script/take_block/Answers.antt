@@ -25,7 +25,7 @@ returns-in_ok-finish-in-Ok-eq0-clause-ok g c = (
 -- the lines that are whole now are answered
 pub returns-in_ok-feed-in-Ok-clause-ok : goal.returns-in_ok-feed-in-Ok-clause-ok
 returns-in_ok-feed-in-Ok-clause-ok g c = λ left held run.
-    rw c.shorten_history.ensures (Runs-feed _ run c.in-Ok.ensures.bytes.0 c.in_ok-feed-in-Ok.ensures.ok)
+    Runs-feed _ run c.in-Ok.ensures.bytes.0 c.in_ok-feed-in-Ok.ensures.ok
 
 -- the reader failed
 pub returns-in-Err-clause-read_failed : goal.returns-in-Err-clause-read_failed

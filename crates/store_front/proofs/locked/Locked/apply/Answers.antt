@@ -3,7 +3,7 @@ use Rattle.meta_types.specs.Steps.{IsLegal, Entry, requested}
 use Rattle.store_front.specs.Front.{Front}
 use Rattle.store_front.specs.Kept.{kept_reply, log_after, Takes, reply_failures}
 use Rattle.store_front.specs.Parts.{AreOpened}
-use Rattle.store_front.proofs.Growth.{step_of, fails_of, failures_of, legal_after, opened_after}
+use Rattle.store_front.proofs.Growth.{takes, fails, counts, step_of, fails_of, failures_of, legal_after, opened_after, not_kept}
 use Rattle.store_front.proofs.locked.Locked.apply.Goals as goal
 
 -- the request is its step
@@ -32,11 +32,38 @@ invariant_of-self-2 g c =
     let log = c.keep_reply.ensures.log ∙ (λ i. log_after (c.make_room.ensures.log i) number (c.in-Ok.ensures.ok i) kept) in
     let here : number < old.opened = search rules in
     record {
-      legal = subst (λ (l : List Entry). IsLegal old.base l c.apply-result.new.self.state) (sym log)
-          (legal_after old.base old.state.state old.log.items number event kept c.apply-result.new.self.state c.self.invariant.legal took);
+      legal = λ k. subst (λ (l : List Entry). IsLegal old.base l c.apply-result.new.self.state) (sym log)
+          (legal_after old.base old.state.state old.log.items number event kept c.apply-result.new.self.state (c.self.invariant.legal k) took);
       sound = c.apply-result.ensures.sound;
       opened = subst (AreOpened old.opened) (sym log) (opened_after old.opened number old.log.items event kept c.self.invariant.opened here);
       total = search rules;
+      few = c.self.invariant.few;
+      parts = c.self.invariant.parts;
+      none = c.self.invariant.none;
+    }
+
+-- ---- where nothing is kept
+
+pub returns-then-not-KEPT-clause-step : goal.returns-then-not-KEPT-clause-step
+returns-then-not-KEPT-clause-step g c =
+    subst (λ (f : Front). Takes f.store.state (requested c.args.request.now) (kept_reply c.apply.result) c.apply.new.self.state) c.self.view_is (takes c.self.inside.state c.args.request.now c.apply.result c.apply.new.self c.apply.ensures.step)
+
+pub returns-then-not-KEPT-clause-fault : goal.returns-then-not-KEPT-clause-fault
+returns-then-not-KEPT-clause-fault g c =
+    rw (sym (ap (λ (f : Front). f.store) c.self.view_is)) (fails c.self.inside.state c.args.request.now c.apply.result c.apply.new.self c.apply.ensures.step)
+
+pub returns-then-not-KEPT-clause-failures : goal.returns-then-not-KEPT-clause-failures
+returns-then-not-KEPT-clause-failures g c =
+    counts c.self.inside.state c.args.request.now c.apply.result c.apply.new.self c.apply.ensures.step
+    ∙ ap (λ (f : Front). f.store.failures + reply_failures c.apply.result) c.self.view_is
+
+pub invariant_of-self : goal.invariant_of-self
+invariant_of-self g c =
+    record {
+      legal = λ k. not_kept _ c.KEPT.result g.K.Keeps.KEPT c.if-not-KEPT.true c.KEPT.ensures k;
+      sound = c.apply.ensures.sound;
+      opened = c.self.invariant.opened;
+      total = c.self.invariant.total;
       few = c.self.invariant.few;
       parts = c.self.invariant.parts;
       none = c.self.invariant.none;

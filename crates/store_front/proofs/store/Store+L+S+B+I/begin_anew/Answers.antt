@@ -1,5 +1,5 @@
 use Rattle.store_front.proofs.Finishing.{outside}
-use Rattle.store_front.proofs.store.Store.begin_anew.Goals as goal
+use Rattle.store_front.proofs.store.Store+L+S+B+I.begin_anew.Goals as goal
 
 pub returns-clause-ok : goal.returns-clause-ok
 returns-clause-ok g c =

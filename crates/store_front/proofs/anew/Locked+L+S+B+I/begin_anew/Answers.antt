@@ -6,7 +6,7 @@ use Rattle.store_front.specs.Finish.{told_to}
 use Rattle.store_front.specs.Parts.{AreOpened}
 use Rattle.store_front.proofs.Finishing.{each_refused}
 use Rattle.store_front.proofs.ToldAll.{told_all}
-use Rattle.store_front.proofs.locked.Locked.begin_anew.Goals as goal
+use Rattle.store_front.proofs.anew.Locked+L+S+B+I.begin_anew.Goals as goal
 
 -- the numbers were wrong, or they weren't
 pub returns-in_err-check_sessions-clause-each : goal.returns-in_err-check_sessions-clause-each
@@ -25,7 +25,7 @@ invariant_of-self g c =
     let long : length c.deref.result.now ≡ vec_len old.log = ap length c.deref.ensures.value ∙ sym old.log.ok.0 in
     let spent : c.clear_all.new.book.total + told_to c.args.sessions.now ≡ vec_len old.log = c.clear_all.ensures.total ∙ c.self.invariant.total in
     record {
-      legal = subst (λ (l : List Entry). IsLegal c.replace-base.new.dest l old.state.state) (sym empty) base;
+      legal = λ k. subst (λ (l : List Entry). IsLegal c.replace-base.new.dest l old.state.state) (sym empty) base;
       sound = c.self.invariant.sound;
       opened = subst (AreOpened old.opened) (sym empty) (λ k d l. absurd (omega (arith, l)));
       total = omega (arith, none, told, long, spent);

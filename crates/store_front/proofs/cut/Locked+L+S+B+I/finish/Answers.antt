@@ -4,7 +4,7 @@ use Rattle.store_front.specs.Front.{Front}
 use Rattle.store_front.specs.Told.{Course}
 use Rattle.store_front.specs.Parts.{AreOpened}
 use Rattle.store_front.proofs.Finishing.{each_refused, each_given, own_as, each_as}
-use Rattle.store_front.proofs.locked.Locked.finish.Goals as goal
+use Rattle.store_front.proofs.cut.Locked+L+S+B+I.finish.Goals as goal
 
 -- the numbers were wrong, or they weren't
 pub returns-in_err-check_sessions-clause-each : goal.returns-in_err-check_sessions-clause-each
