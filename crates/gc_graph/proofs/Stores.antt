@@ -53,7 +53,7 @@ module _ (profile : ℕ) (at : ℤ) where
       ∙ ap (λ l. root_places profile at n (map full rs) ++ l) (no_places profile at flat none (n + length (map full rs)) rs)
       ∙ append-nil (root_places profile at n (map full rs))
 
-module _ (stored : StoreRows) (at : ℤ) (book : List Node) (graph : Graph) where
+module _ (stored : StoreRows) (at : ℤ) (book : List Node) where
   abbrev records : Records
   records = records_of stored
 
@@ -94,40 +94,12 @@ module _ (stored : StoreRows) (at : ℤ) (book : List Node) (graph : Graph) wher
       ∙ ap (fold put_node []) (assoc5 i cf cl sf sl ∙ nodes)
       ∙ book_is records apart
 
-  abbrev Edged : Type 0
-  Edged = rows graph ≡ map (λ row. targets_in book (ingest row.now)) ingests
-      ++ map (λ row. targets_in book (content Full row.now)) contents ++ map (λ row. targets_in book (content Flat row.now)) contents
-      ++ map (λ row. targets_in book (snapshot Full row.now)) snaps ++ map (λ row. targets_in book (snapshot Flat row.now)) snaps
-
   -- one kind of borrowed rows
   edged : {Row X : Type 0} (thing : X → Thing) (now : Row → X) (rs : List Row) → map (λ row. targets_in book (thing (now row))) rs ≡ map (targets_in book) (map thing (map now rs))
   edged thing now rs = sym (map_of_map (targets_in book) thing (map now rs) ∙ map_of_map (λ x. targets_in book (thing x)) now rs)
 
-  edges_of_things : Edged → rows graph ≡ map (targets_in book) (node_things records)
-  edges_of_things made =
-      let t = targets_in book in
-      let i = map ingest records.tables.ingests in
-      let cf = map (content Full) records.tables.content in
-      let cl = map (content Flat) records.tables.content in
-      let sf = map (snapshot Full) records.tables.snapshots in
-      let sl = map (snapshot Flat) records.tables.snapshots in
-      let whole : map t (i ++ ((cf ++ cl) ++ (sf ++ sl))) ≡ map t i ++ ((map t cf ++ map t cl) ++ (map t sf ++ map t sl))
-      = map-append t i ((cf ++ cl) ++ (sf ++ sl)) ∙ ap (λ l. map t i ++ l) (map-append t (cf ++ cl) (sf ++ sl) ∙ (λ j. map-append t cf cl j ++ map-append t sf sl j)) in
-      made
-      ∙ (λ j. edged ingest (λ (row : Bor IngestRow). row.now) ingests j ++ edged (content Full) (λ (row : Bor ContentRow). row.now) contents j ++ edged (content Flat) (λ (row : Bor ContentRow). row.now) contents j
-      ++ edged (snapshot Full) (λ (row : Bor SnapRow). row.now) snaps j ++ edged (snapshot Flat) (λ (row : Bor SnapRow). row.now) snaps j)
-      ∙ assoc5 (map t i) (map t cf) (map t cl) (map t sf) (map t sl) ∙ sym whole
-
-  abbrev Rooted : Type 0
-  Rooted = graph.roots.items ≡ flat_map (λ row. root_targets profile at book (image row.now)) stored.images.now
-      ++ flat_map (λ row. targets_in book (container row.now)) stored.containers.now
-      ++ flat_map (λ row. root_targets profile at book (lease row.now)) stored.leases.now
-      ++ places (λ row. ingest_holds_itself at row.now) 0 ingests
-      ++ places (λ row. is_marked_root row.now.labels) (length ingests) contents
-      ++ places (λ row. is_marked_root row.now.labels) (length ingests + 2 * length contents) snaps
-
   -- images, containers and leases
-  thing_roots : flat_map (λ row. root_targets profile at book (image row.now)) stored.images.now
+  pub thing_roots : flat_map (λ row. root_targets profile at book (image row.now)) stored.images.now
       ++ flat_map (λ row. targets_in book (container row.now)) stored.containers.now
       ++ flat_map (λ row. root_targets profile at book (lease row.now)) stored.leases.now
       ≡ flat_map (targets_in book) (filter (is_root profile at) (root_things records))
@@ -142,7 +114,7 @@ module _ (stored : StoreRows) (at : ℤ) (book : List Node) (graph : Graph) wher
       ∙ sym (rooted-append profile at book (xs ++ ys) zs)
 
   -- the rows that are roots of their own
-  row_roots : places (λ row. ingest_holds_itself at row.now) 0 ingests
+  pub row_roots : places (λ row. ingest_holds_itself at row.now) 0 ingests
       ++ (places (λ row. is_marked_root row.now.labels) (length ingests) contents
       ++ places (λ row. is_marked_root row.now.labels) (length ingests + 2 * length contents) snaps)
       ≡ root_places profile at 0 (node_things records)
@@ -169,17 +141,56 @@ module _ (stored : StoreRows) (at : ℤ) (book : List Node) (graph : Graph) wher
       ∙ ap (λ l. root_places profile at 0 i ++ l) (sym (root_places-append profile at (0 + length i) (cf ++ cl) (sf ++ sl)))
       ∙ sym (root_places-append profile at 0 i ((cf ++ cl) ++ (sf ++ sl)))
 
-  -- what the code made is the graph of the store
-  pub built : AreApart records → Filled → Edged → Rooted → IsBuilt records at book graph
-  built apart filled made rooted_all =
-      is_built records at book graph apart (nodes_filled apart filled) (record {
-        edges = edges_of_things made;
-        roots = rooted_all
-            ∙ assoc6 (flat_map (λ row. root_targets profile at book (image row.now)) stored.images.now)
-            (flat_map (λ row. targets_in book (container row.now)) stored.containers.now)
-            (flat_map (λ row. root_targets profile at book (lease row.now)) stored.leases.now)
-            (places (λ row. ingest_holds_itself at row.now) 0 ingests)
-            (places (λ row. is_marked_root row.now.labels) (length ingests) contents)
-            (places (λ row. is_marked_root row.now.labels) (length ingests + 2 * length contents) snaps)
-            ∙ (λ j. thing_roots j ++ row_roots j);
-      })
+  pub own_roots : places (λ row. ingest_holds_itself at row.now) 0 ingests
+      ++ places (λ row. is_marked_root row.now.labels) (length ingests) contents
+      ++ places (λ row. is_marked_root row.now.labels) (length ingests + 2 * length contents) snaps
+      ≡ root_places profile at 0 (node_things records)
+  own_roots =
+      append_assoc (places (λ (row : Bor IngestRow). ingest_holds_itself at row.now) 0 ingests)
+      (places (λ (row : Bor ContentRow). is_marked_root row.now.labels) (length ingests) contents)
+      (places (λ (row : Bor SnapRow). is_marked_root row.now.labels) (length ingests + 2 * length contents) snaps)
+      ∙ row_roots
+
+  module _ (graph : Graph) where
+    abbrev Edged : Type 0
+    Edged = rows graph ≡ map (λ row. targets_in book (ingest row.now)) ingests
+        ++ map (λ row. targets_in book (content Full row.now)) contents ++ map (λ row. targets_in book (content Flat row.now)) contents
+        ++ map (λ row. targets_in book (snapshot Full row.now)) snaps ++ map (λ row. targets_in book (snapshot Flat row.now)) snaps
+
+    edges_of_things : Edged → rows graph ≡ map (targets_in book) (node_things records)
+    edges_of_things made =
+        let t = targets_in book in
+        let i = map ingest records.tables.ingests in
+        let cf = map (content Full) records.tables.content in
+        let cl = map (content Flat) records.tables.content in
+        let sf = map (snapshot Full) records.tables.snapshots in
+        let sl = map (snapshot Flat) records.tables.snapshots in
+        let whole : map t (i ++ ((cf ++ cl) ++ (sf ++ sl))) ≡ map t i ++ ((map t cf ++ map t cl) ++ (map t sf ++ map t sl))
+        = map-append t i ((cf ++ cl) ++ (sf ++ sl)) ∙ ap (λ l. map t i ++ l) (map-append t (cf ++ cl) (sf ++ sl) ∙ (λ j. map-append t cf cl j ++ map-append t sf sl j)) in
+        made
+        ∙ (λ j. edged ingest (λ (row : Bor IngestRow). row.now) ingests j ++ edged (content Full) (λ (row : Bor ContentRow). row.now) contents j ++ edged (content Flat) (λ (row : Bor ContentRow). row.now) contents j
+        ++ edged (snapshot Full) (λ (row : Bor SnapRow). row.now) snaps j ++ edged (snapshot Flat) (λ (row : Bor SnapRow). row.now) snaps j)
+        ∙ assoc5 (map t i) (map t cf) (map t cl) (map t sf) (map t sl) ∙ sym whole
+
+    abbrev Rooted : Type 0
+    Rooted = graph.roots.items ≡ flat_map (λ row. root_targets profile at book (image row.now)) stored.images.now
+        ++ flat_map (λ row. targets_in book (container row.now)) stored.containers.now
+        ++ flat_map (λ row. root_targets profile at book (lease row.now)) stored.leases.now
+        ++ places (λ row. ingest_holds_itself at row.now) 0 ingests
+        ++ places (λ row. is_marked_root row.now.labels) (length ingests) contents
+        ++ places (λ row. is_marked_root row.now.labels) (length ingests + 2 * length contents) snaps
+
+    -- what the code made is the graph of the store
+    pub built : AreApart records → Filled → Edged → Rooted → IsBuilt records at book graph
+    built apart filled made rooted_all =
+        is_built records at book graph apart (nodes_filled apart filled) (record {
+          edges = edges_of_things made;
+          roots = rooted_all
+              ∙ assoc6 (flat_map (λ row. root_targets profile at book (image row.now)) stored.images.now)
+              (flat_map (λ row. targets_in book (container row.now)) stored.containers.now)
+              (flat_map (λ row. root_targets profile at book (lease row.now)) stored.leases.now)
+              (places (λ row. ingest_holds_itself at row.now) 0 ingests)
+              (places (λ row. is_marked_root row.now.labels) (length ingests) contents)
+              (places (λ row. is_marked_root row.now.labels) (length ingests + 2 * length contents) snaps)
+              ∙ (λ j. thing_roots j ++ row_roots j);
+        })

@@ -33,16 +33,16 @@ module _ (records : Records) where
     name_at : (i : ℕ) (d : Thing) → get_or book i (name_of d) ≡ name_of (get_or numbered_things i d)
     name_at i d = ap (λ (b : List Node). get_or b i (name_of d)) (numbered ∙ nodes_are records) ∙ get_or-map_at name_of numbered_things i d
 
-    targets_at : (i : ℕ) (d : Thing) → i < length numbered_things → targets graph i ≡ targets_in book (get_or numbered_things i d)
+    pub targets_at : (i : ℕ) (d : Thing) → i < length numbered_things → targets graph i ≡ targets_in book (get_or numbered_things i d)
     targets_at i d lt = ap (λ (rs : List (List ℕ)). get_or rs i []) g.edges ∙ get_or-map (targets_in book) numbered_things i d [] lt
 
-    edge_number : (a : Thing) (i : ℕ) (d : Thing) → i < length numbered_things → has_edge a (get_or numbered_things i d) ≡ true → Contains (targets_in book a) i
+    pub edge_number : (a : Thing) (i : ℕ) (d : Thing) → i < length numbered_things → has_edge a (get_or numbered_things i d) ≡ true → Contains (targets_in book a) i
     edge_number a i d lt h =
         let b = get_or numbered_things i d in
         let found = found_by_any (λ t. is_node t (name_of b)) (targets_of a) (sym (edge_says a b (with_nodes records i d lt)) ∙ h) in
         in_filter_map (number_of book) (targets_of a) found.0 i found.1 (number_at book once found.0 i (name_of d) (omega (arith, long)) (name_at i d ∙ sym (node_known found.0 (name_of b) found.2)))
 
-    number_edge : (a : Thing) (k : ℕ) → Contains (targets_in book a) k → (k < length numbered_things) × ((d : Thing) → has_edge a (get_or numbered_things k d) ≡ true)
+    pub number_edge : (a : Thing) (k : ℕ) → Contains (targets_in book a) k → (k < length numbered_things) × ((d : Thing) → has_edge a (get_or numbered_things k d) ≡ true)
     number_edge a k c =
         let found = from_filter_map (number_of book) (targets_of a) k c in
         let lt : k < length numbered_things = omega (arith, long, (numbered_at book once found.0 k found.0 found.2).0) in (
@@ -57,7 +57,7 @@ module _ (records : Records) where
     abbrev IsEnd : ℕ → Type 0
     IsEnd n = (n < length numbered_things) × ((d : Thing) → IsReached records at (get_or numbered_things n d))
 
-    at_place : (i : ℕ) (d : Thing) → i < length numbered_things → Contains (things records) (get_or numbered_things i d)
+    pub at_place : (i : ℕ) (d : Thing) → i < length numbered_things → Contains (things records) (get_or numbered_things i d)
     at_place i d lt = is_thing records (get_or numbered_things i d) (Contains-get_or numbered_things i d lt)
 
     root_ends : (r : ℕ) → Contains graph.roots.items r → IsEnd r
@@ -85,7 +85,7 @@ module _ (records : Records) where
 
     -- ---- paths are walks
 
-    in_store : (last : Thing) (path : List Thing) → IsPath records at last path → Contains (things records) last
+    pub in_store : (last : Thing) (path : List Thing) → IsPath records at last path → Contains (things records) last
     in_store last [] p = p.0
     in_store last (before ∷ path) p = p.0
 
@@ -93,7 +93,7 @@ module _ (records : Records) where
     no_edge_to_root a b (k, lt, is) h = false≢true (sym (no_edge a b (subst HasNone is (without_nodes records k b lt))) ∙ h)
 
     -- a path that ends in an image, a container or a lease is that root alone
-    ends_alone : (last : Thing) (path : List Thing) → IsPath records at last path → Contains (root_things records) last → is_root records.profile at last ≡ true
+    pub ends_alone : (last : Thing) (path : List Thing) → IsPath records at last path → Contains (root_things records) last → is_root records.profile at last ≡ true
     ends_alone last [] p c = p.1
     ends_alone last (before ∷ path) p c = absurd (no_edge_to_root before last c p.1)
 
@@ -127,7 +127,7 @@ module _ (records : Records) where
     node_name (content mode row) node e = (cc, refl)
     node_name (snapshot mode row) node e = (cc, refl)
 
-    thing_at : (thing : Thing) (node : Node) (n : ℕ) → Contains (things records) thing → node_of thing ≡ Some node → number_of book node ≡ Some n → (n < length numbered_things) × (get_or numbered_things n thing ≡ thing)
+    pub thing_at : (thing : Thing) (node : Node) (n : ℕ) → Contains (things records) thing → node_of thing ≡ Some node → number_of book node ≡ Some n → (n < length numbered_things) × (get_or numbered_things n thing ≡ thing)
     thing_at thing node n c e at_n =
         let name = node_name thing node e in
         let found = numbered_at book once node n (name_of thing) at_n in
@@ -166,6 +166,7 @@ is_built records at book graph apart numbered g =
     record {
       numbered = numbered;
       once = once;
+      graph_of = g;
       range = in_range records at book graph numbered once g;
       count = count_is records at book graph numbered once g;
       each = each_thing records at book graph numbered once g;

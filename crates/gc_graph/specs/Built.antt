@@ -53,6 +53,8 @@ pub record IsBuilt (records : Records) (at : ℤ) (book : List Node) (graph : Gr
   -- each content and snapshot row in both modes and each ingest has a number, and only one
   pub numbered : book ≡ nodes_of records
   pub once : AllPairs (λ a b. a ≢ b) book
+  -- its rows are the targets of the things, and its roots where paths begin
+  pub graph_of : IsGraphOf records at book graph
   -- each number names a row of the graph
   pub range : IsInRange graph
   pub count : node_count graph ≡ length book

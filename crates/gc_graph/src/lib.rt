@@ -19,4 +19,4 @@ pub use ends::{image_stays, lease_stays};
 pub use ignored::Ignored;
 pub use node::Node;
 pub use rows::StoreRows;
-pub use whole::build;
+pub use whole::{Starts, build, find_starts};

@@ -1,15 +1,15 @@
 //! The whole graph.
-ghost use Rattle.std.specs.Prelude.{◌≡◌, ◌+◌, ◌*◌, ◌≤◌, ◌++◌, [], map, fold, length, None, IfOk, not};
+ghost use Rattle.std.specs.Prelude.{◌≡◌, ◌+◌, ◌*◌, ◌≤◌, ◌++◌, [], map, filter, fold, length, None, IfOk, not};
 ghost use Rattle.std.specs.List.{flat_map};
 ghost use Rattle.meta_types.specs.Faults.{Refuses, unless};
 ghost use Rattle.meta_types.specs.Limits.{is_too_large};
 ghost use Rattle.meta_types.specs.Labels.{is_marked_root};
 ghost use Rattle.meta_types.specs.Reports.{ignored_of, ignored_images_of};
-ghost use Rattle.meta_types.specs.Paths.{image, container, lease, ingest, content, snapshot, ingest_holds_itself};
+ghost use Rattle.meta_types.specs.Paths.{image, container, lease, ingest, content, snapshot, ingest_holds_itself, is_root};
 ghost use Rattle.meta_types.specs.declared.fault.Fault.TheVariants.{FailedPrecondition};
 ghost use Rattle.meta_types.specs.declared.resource.Mode.TheVariants.{Full, Flat};
-ghost use Rattle.gc_graph.specs.Targets.{ingest_node, content_node, snapshot_node};
-ghost use Rattle.gc_graph.specs.Built.{put_node, targets_in, root_targets, places, AreApart, IsBuilt};
+ghost use Rattle.gc_graph.specs.Targets.{ingest_node, content_node, snapshot_node, node_things, root_things};
+ghost use Rattle.gc_graph.specs.Built.{put_node, targets_in, root_targets, root_places, places, AreApart, IsBuilt};
 ghost use Rattle.gc_graph.specs.Stored.{records_of, IsSmall};
 
 use crate::book::NodeBook;
@@ -112,6 +112,76 @@ fn roots_of(
     push_marked_content(content, rows.content, &mut roots)?;
     push_marked_snapshots(snapshots, rows.snapshots, &mut roots)?;
     Ok(roots)
+}
+
+// The numbers of what images, containers and leases reference that haven't ended.
+fn held_of(
+    alloc: Global,
+    book: &NodeBook,
+    rows: &StoreRows<'_>,
+    at: Instant,
+) -> Result<Vec<u32>, Fault>
+    ensures fault { Refuses result None }
+    ensures ok { IfOk result (λ roots. roots.items
+        ≡ flat_map (λ row. root_targets rows.now.profile at.0 book.now (image row.now))
+        rows.now.images.now
+        ++ flat_map (λ row. targets_in book.now (container row.now)) rows.now.containers.now
+        ++ flat_map (λ row. root_targets rows.now.profile at.0 book.now (lease row.now))
+        rows.now.leases.now) }
+{
+    let mut roots = Vec::new(alloc);
+    push_images(alloc, book, rows.images, rows.profile, at, &mut roots)?;
+    push_containers(alloc, book, rows.containers, &mut roots)?;
+    push_leases(alloc, book, rows.leases, rows.profile, at, &mut roots)?;
+    Ok(roots)
+}
+
+// The numbers of what is a root of its own.
+fn own_of(alloc: Global, rows: &StoreRows<'_>, at: Instant) -> Result<Vec<u32>, Fault>
+    requires { IsSmall rows.now }
+    ensures fault { Refuses result None }
+    ensures ok { IfOk result (λ roots. roots.items
+        ≡ places (λ row. ingest_holds_itself at.0 row.now) 0 rows.now.ingests.now
+        ++ places (λ row. is_marked_root row.now.labels) (length rows.now.ingests.now)
+        rows.now.content.now
+        ++ places (λ row. is_marked_root row.now.labels)
+        (length rows.now.ingests.now + 2 * length rows.now.content.now) rows.now.snapshots.now) }
+{
+    let mut roots = Vec::new(alloc);
+    let content = rows.ingests.len() as u32;
+    let snapshots = content + 2 * (rows.content.len() as u32);
+    push_own_ingests(0, rows.ingests, at, &mut roots)?;
+    push_marked_content(content, rows.content, &mut roots)?;
+    push_marked_snapshots(snapshots, rows.snapshots, &mut roots)?;
+    Ok(roots)
+}
+
+/// Where the paths of a moment begin, as numbers.
+#[derive(Drop)]
+pub struct Starts {
+    /// What is a root of its own: ingests that hold themselves, and rows with a root label.
+    pub own: Vec<u32>,
+    /// What an image, a container or a lease references that hasn't ended.
+    pub held: Vec<u32>,
+}
+
+/// Where the paths of a moment begin. No edge depends on the moment, so one graph serves many.
+pub fn find_starts(
+    alloc: Global,
+    book: &NodeBook,
+    rows: &StoreRows<'_>,
+    at: Instant,
+) -> Result<Starts, Fault>
+    requires { IsSmall rows.now }
+    ensures fault { Refuses result None }
+    ensures own { IfOk result (λ s. s.own.items
+        ≡ root_places rows.now.profile at.0 0 (node_things (records_of rows.now))) }
+    ensures held { IfOk result (λ s. s.held.items ≡ flat_map (targets_in book.now)
+        (filter (is_root rows.now.profile at.0) (root_things (records_of rows.now)))) }
+{
+    let held = held_of(alloc, book, rows, at)?;
+    let own = own_of(alloc, rows, at)?;
+    Ok(Starts { own, held })
 }
 
 fn ignored_of(alloc: Global, rows: &StoreRows<'_>) -> Result<Ignored, Fault>
