@@ -77,6 +77,12 @@ module _ {Row : Type 0} (key_of : Row → Key) where
       let parts = and_parts (is_first key_of row rows) (are_in_order key_of rows) o in
       AllPairs-cons (λ a b. is_before (key_of a) (key_of b) ≡ true) row rows (before_all row rows parts.0 parts.1) (pairs_in_order rows parts.1) i j d lt within
 
+  -- rows in the order of their keys have keys of their own
+  pub distinct_in_order : (rows : List Row) → are_in_order key_of rows ≡ true → AllPairs (λ a b. key_of a ≢ key_of b) rows
+  distinct_in_order rows o i j d lt within e =
+      not_before_itself (key_of (get_or rows j d))
+      (subst (λ (k : Key). is_before k (key_of (get_or rows j d)) ≡ true) e (pairs_in_order rows o i j d lt within))
+
 -- ---- nodes
 
 abbrev Differ : List Node → List Node → Type 0
@@ -99,14 +105,14 @@ resource_key (Ingest name) = name ∷ []
 abbrev node_key : Node → Key
 node_key n = n.ns ∷ resource_key n.resource
 
-apart_by_key : (a b : Node) → is_before (node_key a) (node_key b) ≡ true → a ≢ b
-apart_by_key a b h e = not_before_itself (node_key b) (subst (λ (k : Key). is_before k (node_key b) ≡ true) (ap node_key e) h)
+apart_by_key : (a b : Node) → node_key a ≢ node_key b → a ≢ b
+apart_by_key a b h e = h (ap node_key e)
 
 module _ {Row : Type 0} (key_of : Row → Key) (node : Row → Node) (same : (row : Row) → node_key (node row) ≡ key_of row) where
-  apart_in_mode : (rows : List Row) → are_in_order key_of rows ≡ true → AllPairs (λ a b. a ≢ b) (map node rows)
+  apart_in_mode : (rows : List Row) → AllPairs (λ a b. key_of a ≢ key_of b) rows → AllPairs (λ a b. a ≢ b) (map node rows)
   apart_in_mode rows o =
-      AllPairs-map (λ a b. is_before (key_of a) (key_of b) ≡ true) (λ a b. a ≢ b) node
-      (λ a b h. apart_by_key (node a) (node b) ((λ i. is_before (same a i) (same b i)) ∙ h)) rows (pairs_in_order key_of rows o)
+      AllPairs-map (λ a b. key_of a ≢ key_of b) (λ a b. a ≢ b) node
+      (λ a b h. apart_by_key (node a) (node b) (λ e. h (sym (same a) ∙ e ∙ same b))) rows o
 
 modes_differ : (a b : Node) → a.mode ≡ Full → b.mode ≡ Flat → a ≢ b
 modes_differ a b f t e = let m : Full ≡ Flat = sym f ∙ ap (λ (n : Node). n.mode) e ∙ t in absurd cc

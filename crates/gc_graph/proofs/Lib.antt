@@ -10,3 +10,4 @@ pub mod Numbers
 pub mod Tells
 pub mod Places
 pub mod Stores
+pub mod Orders

@@ -1,7 +1,6 @@
 -- The graph of a store.
-use Rattle.std.specs.Prelude.{◌≡◌, Bool, ℕ, ◌≢◌, suc, AllPairs, List, [], ◌∷◌, ◌++◌, map, length, filter, position, Option, Some, if◌then◌else◌, ℤ, Contains, ◌↔◌, IsTrue}
+use Rattle.std.specs.Prelude.{◌≡◌, Bool, ℕ, ◌≢◌, suc, AllPairs, List, [], ◌∷◌, ◌++◌, map, length, filter, position, Option, Some, if◌then◌else◌, ℤ, Contains, ◌↔◌}
 use Rattle.std.specs.List.{flat_map, filter_map, list_any}
-use Rattle.meta_types.specs.Keys.{are_in_order}
 use Rattle.meta_types.specs.Rows.{content_key, ingest_key, snap_key}
 use Rattle.meta_types.specs.Rows.{Records}
 use Rattle.meta_types.specs.Paths.{Thing, things, is_root, IsReached}
@@ -42,11 +41,11 @@ pub record IsGraphOf (records : Records) (at : ℤ) (book : List Node) (graph : 
   pub edges : rows graph ≡ map (targets_in book) (node_things records)
   pub roots : graph.roots.items ≡ flat_map (targets_in book) (filter (is_root records.profile at) (root_things records)) ++ root_places records.profile at 0 (node_things records)
 
--- rows that have numbers stand in the order of their keys, so no key stands twice (ours)
+-- of rows that have numbers no key stands twice; they may stand in any order (ours)
 pub record AreApart (records : Records) : Type 0 where
-  pub content : IsTrue (are_in_order content_key records.tables.content)
-  pub ingests : IsTrue (are_in_order ingest_key records.tables.ingests)
-  pub snapshots : IsTrue (are_in_order snap_key records.tables.snapshots)
+  pub content : AllPairs (λ a b. content_key a ≢ content_key b) records.tables.content
+  pub ingests : AllPairs (λ a b. ingest_key a ≢ ingest_key b) records.tables.ingests
+  pub snapshots : AllPairs (λ a b. snap_key a ≢ snap_key b) records.tables.snapshots
 
 -- what the graph says of the store (ours; paths: containerd garbage-collection.md)
 pub record IsBuilt (records : Records) (at : ℤ) (book : List Node) (graph : Graph) : Type 0 where
