@@ -5,7 +5,8 @@ use Rattle.std.specs.List.{list_any}
 use Rattle.std.specs.Option.{option_map_or}
 use Rattle.std.proofs.lemmas.List.Folds.{list_any-append}
 use Rattle.meta_types.specs.Text.{Text}
-use Rattle.meta_types.specs.Labels.{LabelList, is_content_key, snapshotter_in, references_content, references_snapshot}
+use Rattle.meta_types.specs.Labels.{LabelList}
+use Rattle.meta_types.specs.CollectorLabels.{is_content_key, snapshotter_in, references_content, references_snapshot}
 use Rattle.meta_types.specs.Paths.{Thing, image, container, lease, ingest, content, snapshot, has_edge, references, namespace_of, is_label_ref, is_content, is_snapshot, is_ingest, is_resource, is_parent, lease_mode, is_same_mode}
 use Rattle.meta_types.specs.declared.rows.ContentRow.{ContentRow}
 use Rattle.meta_types.specs.declared.rows.SnapRow.{SnapRow}

@@ -4,7 +4,7 @@ use Rattle.std.specs.List.{flat_map}
 use Rattle.std.proofs.lemmas.List.{map-append, length-map}
 use Rattle.std.proofs.lemmas.List.Elements.{filter-append}
 use Rattle.std.proofs.lemmas.Grind.{flat_map-append}
-use Rattle.meta_types.specs.Labels.{is_marked_root}
+use Rattle.meta_types.specs.CollectorLabels.{is_marked_root}
 use Rattle.meta_types.specs.Rows.{Records, LeaseRow}
 use Rattle.meta_types.specs.Paths.{Thing, image, container, lease, ingest, content, snapshot, is_root, ingest_holds_itself}
 use Rattle.meta_types.specs.declared.rows.ImageRow.{ImageRow}

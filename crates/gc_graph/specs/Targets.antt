@@ -3,7 +3,8 @@ use Rattle.std.specs.Prelude.{List, [], ◌∷◌, ◌++◌, map, Option, Some, 
 use Rattle.std.specs.List.{flat_map}
 use Rattle.std.specs.Option.{option_map_or}
 use Rattle.meta_types.specs.Text.{Text}
-use Rattle.meta_types.specs.Labels.{LabelList, is_content_key, snapshotter_in}
+use Rattle.meta_types.specs.Labels.{LabelList}
+use Rattle.meta_types.specs.CollectorLabels.{is_content_key, snapshotter_in}
 use Rattle.meta_types.specs.Rows.{Records}
 use Rattle.meta_types.specs.Paths.{Thing, image, container, lease, ingest, content, snapshot, lease_mode, in_both_modes}
 use Rattle.meta_types.specs.declared.rows.ContentRow.{ContentRow}

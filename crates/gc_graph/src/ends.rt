@@ -1,6 +1,6 @@
 //! What has ended, and what holds itself.
 ghost use Rattle.std.specs.Prelude.{◌≡◌, ◌&&◌};
-ghost use Rattle.meta_types.specs.Labels.{is_expired, is_unreadable};
+ghost use Rattle.meta_types.specs.CollectorLabels.{is_expired, is_unreadable};
 ghost use Rattle.meta_types.specs.Paths.{images_expire, image_stays, lease_stays, ingest_holds_itself};
 
 use gc_labels::{Expiry, expiry};

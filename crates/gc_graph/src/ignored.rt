@@ -2,7 +2,7 @@
 ghost use Rattle.std.specs.Prelude.{◌≡◌, ◌++◌, ◌∷◌, ◌&&◌, [], map, filter, if◌then◌else◌, OnOk, None, IfOk};
 ghost use Rattle.std.specs.List.{flat_map};
 ghost use Rattle.meta_types.specs.Faults.{Refuses};
-ghost use Rattle.meta_types.specs.Labels.{is_unreadable};
+ghost use Rattle.meta_types.specs.CollectorLabels.{is_unreadable};
 ghost use Rattle.meta_types.specs.Paths.{images_expire};
 
 use crate::ends::{image_is_unreadable, is_unreadable};

@@ -2,7 +2,7 @@
 ghost use Rattle.std.specs.Prelude.{◌≡◌, ◌+◌, ◌≤◌, ◌++◌, ◌∷◌, [], map, length, if◌then◌else◌, OnOk, None, IfOk};
 ghost use Rattle.std.specs.List.{flat_map};
 ghost use Rattle.meta_types.specs.Faults.{Refuses};
-ghost use Rattle.meta_types.specs.Labels.{is_marked_root};
+ghost use Rattle.meta_types.specs.CollectorLabels.{is_marked_root};
 ghost use Rattle.meta_types.specs.Paths.{image, container, lease, lease_mode, ingest_holds_itself};
 ghost use Rattle.gc_graph.specs.Targets.{node, resource_mode, resource_targets};
 ghost use Rattle.gc_graph.specs.Built.{numbers_in, targets_in, root_targets, places};

@@ -3,7 +3,7 @@ ghost use Rattle.std.specs.Prelude.{◌≡◌, ◌+◌, ◌*◌, ◌≤◌, ◌+
 ghost use Rattle.std.specs.List.{flat_map};
 ghost use Rattle.meta_types.specs.Faults.{Refuses, unless};
 ghost use Rattle.meta_types.specs.Limits.{is_too_large};
-ghost use Rattle.meta_types.specs.Labels.{is_marked_root};
+ghost use Rattle.meta_types.specs.CollectorLabels.{is_marked_root};
 ghost use Rattle.meta_types.specs.Reports.{ignored_of, ignored_images_of};
 ghost use Rattle.meta_types.specs.Paths.{image, container, lease, ingest, content, snapshot, ingest_holds_itself, is_root};
 ghost use Rattle.meta_types.specs.declared.fault.Fault.TheVariants.{FailedPrecondition};

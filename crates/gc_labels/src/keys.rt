@@ -1,6 +1,7 @@
 //! Label keys, and what they say to the collector.
 ghost use Rattle.std.specs.Prelude.{◌≡◌, option_map};
-ghost use Rattle.meta_types.specs.Labels.{begins_with, is_content_key, snapshotter_in, is_marked_root, is_flat, expiry_of, is_unreadable};
+ghost use Rattle.meta_types.specs.Text.{begins_with};
+ghost use Rattle.meta_types.specs.CollectorLabels.{is_content_key, snapshotter_in, is_marked_root, is_flat, expiry_of, is_unreadable};
 ghost use Rattle.gc_labels.specs.Ends.{end_of, is_unread};
 
 use crate::ends::Expiry;

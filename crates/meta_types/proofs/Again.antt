@@ -9,7 +9,7 @@ use Rattle.meta_types.specs.Rows.{Records}
 use Rattle.meta_types.specs.Paths.{Thing, image, container, lease, ingest, content, snapshot, things, namespace_of, is_content, is_snapshot, is_ingest, is_resource, is_label_ref, is_parent, references, has_edge, image_stays, lease_stays, lease_mode, IsPath, TellsReached}
 use Rattle.meta_types.specs.Collected.{content_stays, snapshot_stays, ingest_stays, collected_records}
 use Rattle.meta_types.specs.Reports.{removed_of}
-use Rattle.meta_types.specs.Again.{no_rows}
+use Rattle.meta_types.specs.Promises.{no_rows}
 use Rattle.meta_types.specs.declared.rows.ContainerRow.{ContainerRow}
 use Rattle.meta_types.specs.declared.rows.SnapRow.{SnapRow}
 use Rattle.meta_types.specs.declared.resource.Resource.{Resource}

@@ -9,7 +9,7 @@ use Rattle.meta_types.specs.Paths.{Thing, TellsReached}
 use Rattle.meta_types.specs.Backends.{BackNames, no_objects, owns_snapshot, is_named, object_name, ancestors_of, is_below_one, blob_stays, ingest_object_stays, snapshot_object_stays, collected_backends, removed_objects, goes_before}
 use Rattle.meta_types.specs.Collected.{collected_records, collected}
 use Rattle.meta_types.specs.Reports.{Report, Collects, report_of, kept_of}
-use Rattle.meta_types.specs.Again.{ChangesNothing}
+use Rattle.meta_types.specs.Promises.{ChangesNothing}
 use Rattle.meta_types.proofs.NoFailure.{no_failure}
 use Rattle.meta_types.proofs.Once.{same_records, one_state, one_report}
 use Rattle.meta_types.proofs.Filtered.{none_passes, filter_again, none_goes}

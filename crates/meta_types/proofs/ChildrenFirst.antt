@@ -12,7 +12,7 @@ use Rattle.meta_types.specs.Backends.{BackNames, no_objects, is_named, object_na
 use Rattle.meta_types.specs.Collected.{collected_records}
 use Rattle.meta_types.specs.Reports.{Report, Collects, Plans}
 use Rattle.meta_types.specs.Sound.{IsSound, IsChildfirst}
-use Rattle.meta_types.specs.PromisedObjects.{numbers_of, shard_of}
+use Rattle.meta_types.specs.Promises.{numbers_of, shard_of}
 use Rattle.meta_types.proofs.Members.{in_filter, from_filter, any_from}
 use Rattle.meta_types.proofs.Kept.{from_map, in_map}
 use Rattle.meta_types.proofs.Found.{finds, found_is}

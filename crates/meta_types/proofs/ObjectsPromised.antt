@@ -9,7 +9,7 @@ use Rattle.meta_types.specs.Paths.{Thing}
 use Rattle.meta_types.specs.Backends.{BackNames, is_named, object_name, is_below_one, goes_before, owns_snapshot, owns_ingest, snapshot_object_stays, ingest_object_stays}
 use Rattle.meta_types.specs.Collected.{collected, collected_records}
 use Rattle.meta_types.specs.Reports.{Report, Collects, report_of}
-use Rattle.meta_types.specs.PromisedObjects.{KeepsOwnedObjects, RemovesUnownedObjects}
+use Rattle.meta_types.specs.Promises.{KeepsOwnedObjects, RemovesUnownedObjects}
 use Rattle.meta_types.proofs.Members.{in_filter, from_filter}
 use Rattle.meta_types.proofs.Kept.{from_map, in_map}
 use Rattle.meta_types.proofs.Found.{first_of}

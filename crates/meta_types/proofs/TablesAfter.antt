@@ -12,7 +12,7 @@ use Rattle.meta_types.specs.Keys.{Key, is_key, row_at}
 use Rattle.meta_types.specs.Rows.{Records, image_key, content_key, ingest_key, snap_key}
 use Rattle.meta_types.specs.Paths.{Thing, snapshot, has_edge, is_parent, is_snapshot, is_label_ref, image_stays, TellsReached}
 use Rattle.meta_types.specs.Collected.{content_stays, snapshot_stays, ingest_stays, collected_records}
-use Rattle.meta_types.specs.SnapshotOps.{is_committed, parent_row}
+use Rattle.meta_types.specs.Ops.Snapshots.{is_committed, parent_row}
 use Rattle.meta_types.specs.Sound.{AreRows, parent_of, HasParent, AreNumbered, AreTables}
 use Rattle.meta_types.specs.declared.rows.ImageRow.{ImageRow}
 use Rattle.meta_types.specs.declared.rows.ContentRow.{ContentRow}

@@ -1,9 +1,9 @@
 -- The worked script with a device that fails, computed.
 use Rattle.std.proofs.Common.{refl, [], ◌∷◌}
 use Rattle.std.specs.Prelude.{Some, None}
-use Rattle.meta_types.specs.Scripts.{first_of_march, overlayfs}
-use Rattle.meta_types.specs.WorkedObjects.{chain_object, used_up_to}
-use Rattle.meta_types.specs.WorkedFailures.{TheFirstRemovalFails, TheSecondRemovalFails, TheThirdRemovalFails, TheLastRemovalFails, ALaterCollectionRemovesTheRest, free_chain, snapshots_named, with_objects}
+use Rattle.meta_types.specs.Worked.{first_of_march, overlayfs}
+use Rattle.meta_types.specs.Worked.Objects.{chain_object, used_up_to}
+use Rattle.meta_types.specs.Worked.Failures.{TheFirstRemovalFails, TheSecondRemovalFails, TheThirdRemovalFails, TheLastRemovalFails, ALaterCollectionRemovesTheRest, free_chain, snapshots_named, with_objects}
 use Rattle.meta_types.proofs.Works.{collects, collects_but}
 
 pub the_first_removal_fails : TheFirstRemovalFails

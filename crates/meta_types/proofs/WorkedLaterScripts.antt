@@ -1,7 +1,7 @@
 -- The worked scripts with images that expire and a removal with a collection, computed.
 use Rattle.std.proofs.Common.{refl}
-use Rattle.meta_types.specs.Scripts.{first_of_march, just_after}
-use Rattle.meta_types.specs.WorkedLater.{AnEmptyStoreIsCollected, AnImageHoldsAtItsExpiry, AnExpiredImageGoes, ALeaseGoesWithACollection, expiring, image_to_expire, expired_image_gone, without_lease, without_lease_row}
+use Rattle.meta_types.specs.Worked.{first_of_march, just_after}
+use Rattle.meta_types.specs.Worked.Later.{AnEmptyStoreIsCollected, AnImageHoldsAtItsExpiry, AnExpiredImageGoes, ALeaseGoesWithACollection, expiring, image_to_expire, expired_image_gone, without_lease, without_lease_row}
 use Rattle.meta_types.proofs.Works.{collects}
 
 pub an_empty_store_is_collected : AnEmptyStoreIsCollected

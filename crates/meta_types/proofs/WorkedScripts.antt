@@ -1,8 +1,8 @@
 -- The worked scripts, computed.
 use Rattle.std.proofs.Common.{refl, pos}
-use Rattle.meta_types.specs.Scripts.{first_of_march, just_after}
-use Rattle.meta_types.specs.Worked.{AnImageKeepsItsContent, ACycleGoes, ACycleUnderAnImageStays, BothModesAreScanned, AFlatLeaseFollowsNoLabels, ALeaseHoldsAtItsExpiry, AnExpiredLeaseGoes, cycle_alone, cycle_under_image, held_flat, held_in_both_modes, image_alone, image_removed, leased, namespace_alone, with_image}
-use Rattle.meta_types.specs.WorkedObjects.{AFlatLeaseKeepsParents, ChildrenGoBeforeParents, AnIngestHoldsForADay, AnIngestGoesAfterADay, OnlyReferenceKeysReference, ContainersAndRootLabelsHold, chain_alone, chain_and_content, ingesting, many_keys_alone, many_keys_and_content, rooted, two_chains, used_up_to}
+use Rattle.meta_types.specs.Worked.{first_of_march, just_after}
+use Rattle.meta_types.specs.Worked.Images.{AnImageKeepsItsContent, ACycleGoes, ACycleUnderAnImageStays, BothModesAreScanned, AFlatLeaseFollowsNoLabels, ALeaseHoldsAtItsExpiry, AnExpiredLeaseGoes, cycle_alone, cycle_under_image, held_flat, held_in_both_modes, image_alone, image_removed, leased, namespace_alone, with_image}
+use Rattle.meta_types.specs.Worked.Objects.{AFlatLeaseKeepsParents, ChildrenGoBeforeParents, AnIngestHoldsForADay, AnIngestGoesAfterADay, OnlyReferenceKeysReference, ContainersAndRootLabelsHold, chain_alone, chain_and_content, ingesting, many_keys_alone, many_keys_and_content, rooted, two_chains, used_up_to}
 use Rattle.meta_types.proofs.Works.{collects}
 
 pub an_image_keeps_its_content : AnImageKeepsItsContent

@@ -3,7 +3,8 @@ use Rattle.std.specs.Prelude.{ℕ, ◌==◌, Bool, true, false, not, ◌&&◌, �
 use Rattle.std.specs.List.{list_any}
 use Rattle.std.specs.Option.{option_map_or}
 use Rattle.meta_types.specs.Text.{Text}
-use Rattle.meta_types.specs.Labels.{LabelList, is_marked_root, is_flat, is_expired, references_content, references_snapshot}
+use Rattle.meta_types.specs.Labels.{LabelList}
+use Rattle.meta_types.specs.CollectorLabels.{is_marked_root, is_flat, is_expired, references_content, references_snapshot}
 use Rattle.meta_types.specs.Rows.{LeaseRow, Records}
 use Rattle.meta_types.specs.declared.rows.ImageRow.{ImageRow}
 use Rattle.meta_types.specs.declared.rows.ContainerRow.{ContainerRow}

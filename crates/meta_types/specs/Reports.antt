@@ -1,7 +1,7 @@
 -- What a collection reports, and when a store and a report are those of a collection.
 use Rattle.std.specs.Prelude.{◌≡◌, ℕ, Bool, true, false, not, ◌&&◌, List, map, length, filter, ℤ}
 use Rattle.meta_types.specs.Text.{Text}
-use Rattle.meta_types.specs.Labels.{is_unreadable}
+use Rattle.meta_types.specs.CollectorLabels.{is_unreadable}
 use Rattle.meta_types.specs.Rows.{Records, State}
 use Rattle.meta_types.specs.Paths.{Thing, ingest, content, snapshot, things, image_stays, lease_stays, images_expire, TellsReached}
 use Rattle.meta_types.specs.Backends.{BackNames, no_objects, removed_objects, IsFailure}

@@ -1,11 +1,13 @@
 -- What each request comes to.
 use Rattle.meta_types.specs.Rows.{State}
-use Rattle.meta_types.specs.Outcomes.{Outcome}
-use Rattle.meta_types.specs.NamespaceOps.{adds_namespace, removes_namespace, lists_namespaces, chooses_profile}
-use Rattle.meta_types.specs.ImageOps.{adds_image, targets_image, removes_image, gets_image, lists_images, labels_image, adds_container, removes_container, gets_container, lists_containers, labels_container}
-use Rattle.meta_types.specs.ContentOps.{adds_content, removes_content, gets_content, labels_content, lists_content, begins_ingest, commits_ingest, aborts_ingest, gets_ingest, lists_ingests}
-use Rattle.meta_types.specs.SnapshotOps.{prepares, commits_snapshot, removes_snapshot, gets_snapshot, labels_snapshot, lists_snapshots}
-use Rattle.meta_types.specs.LeaseOps.{adds_lease, removes_lease, gets_lease, labels_lease, lists_leases, holds_resource, drops_resource, lists_resources}
+use Rattle.meta_types.specs.Ops.{Outcome}
+use Rattle.meta_types.specs.Ops.Namespaces.{adds_namespace, removes_namespace, lists_namespaces, chooses_profile}
+use Rattle.meta_types.specs.Ops.Images.{adds_image, targets_image, removes_image, gets_image, lists_images, labels_image}
+use Rattle.meta_types.specs.Ops.Containers.{adds_container, removes_container, gets_container, lists_containers, labels_container}
+use Rattle.meta_types.specs.Ops.Content.{adds_content, removes_content, gets_content, labels_content, lists_content}
+use Rattle.meta_types.specs.Ops.Ingests.{begins_ingest, commits_ingest, aborts_ingest, gets_ingest, lists_ingests}
+use Rattle.meta_types.specs.Ops.Snapshots.{prepares, commits_snapshot, removes_snapshot, gets_snapshot, labels_snapshot, lists_snapshots}
+use Rattle.meta_types.specs.Ops.Leases.{adds_lease, removes_lease, gets_lease, labels_lease, lists_leases, holds_resource, drops_resource, lists_resources}
 use Rattle.meta_types.specs.declared.rows.SnapKind.TheVariants.{Active, View}
 use Rattle.meta_types.specs.declared.request.Request.{Request}
 use Rattle.meta_types.specs.declared.request.Request.TheVariants.{NsAdd, NsRemove, NsList, ImageAdd, ImageTarget, ImageRemove, ImageGet, ImageList, ImageLabel, ContainerAdd, ContainerRemove, ContainerGet, ContainerList, ContainerLabel, ContentAdd, ContentRemove, ContentGet, ContentLabel, ContentList, IngestBegin, IngestCommit, IngestAbort, IngestGet, IngestList, SnapPrepare, SnapView, SnapCommit, SnapRemove, SnapGet, SnapLabel, SnapList, LeaseAdd, LeaseRemove, LeaseGet, LeaseLabel, LeaseList, LeaseHold, LeaseDrop, LeaseResources, Profile}

@@ -1,8 +1,7 @@
 -- What a lease may hold: its type and its id as texts.
 use Rattle.std.specs.Prelude.{◌&&◌, ◌++◌, List, [], ◌∷◌, Option, Some, None, if◌then◌else◌, bytes_eq, codes, drop}
-use Rattle.meta_types.specs.Text.{Text, is_short_name, is_name, is_digest}
+use Rattle.meta_types.specs.Text.{Text, is_short_name, is_name, is_digest, begins_with}
 use Rattle.meta_types.specs.Keys.{Key, has_row, add_row}
-use Rattle.meta_types.specs.Labels.{begins_with}
 use Rattle.meta_types.specs.declared.resource.Resource.{Resource}
 use Rattle.meta_types.specs.declared.resource.Resource.TheVariants.{Content, Snapshot, Ingest}
 

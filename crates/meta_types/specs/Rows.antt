@@ -81,3 +81,15 @@ pub record BackLists : Type 0 where
 pub record State : Type 0 where
   pub records : Records
   pub backends : BackLists
+
+-- the empty store (ours)
+abbrev pub empty_store : State
+empty_store = record {
+  records = record {
+    tables = record { namespaces = []; images = []; containers = []; content = []; ingests = []; snapshots = [] };
+    leases = [];
+    next = 1;
+    profile = 1;
+  };
+  backends = record { blobs = []; snapshots = []; ingests = [] };
+}

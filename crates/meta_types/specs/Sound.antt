@@ -6,7 +6,7 @@ use Rattle.meta_types.specs.Text.{Text}
 use Rattle.meta_types.specs.Keys.{Key, are_in_order}
 use Rattle.meta_types.specs.Rows.{Tables, BackSnap, State, LeaseRow, image_key, container_key, content_key, ingest_key, snap_key, lease_key, namespace_key}
 use Rattle.meta_types.specs.Changes.{stands_before}
-use Rattle.meta_types.specs.SnapshotOps.{is_committed, parent_row}
+use Rattle.meta_types.specs.Ops.Snapshots.{is_committed, parent_row}
 use Rattle.meta_types.specs.Backends.{is_named}
 use Rattle.meta_types.specs.declared.rows.ImageRow.{ImageRow}
 use Rattle.meta_types.specs.declared.rows.ContainerRow.{ContainerRow}

@@ -1,6 +1,6 @@
 -- Texts: how they compare, and which are names and digests.
-use Rattle.std.specs.Prelude.{ℕ, Bool, false, not, ◌&&◌, ◌||◌, nat_le, ◌==◌, List, [], ◌∷◌, map, length, take, drop, String, string_bytes, codes, bytes_eq, IsTrue}
-use Rattle.std.specs.List.{list_all}
+use Rattle.std.specs.Prelude.{ℕ, Bool, false, not, ◌&&◌, ◌||◌, nat_le, ◌==◌, List, [], ◌∷◌, map, length, take, drop, String, string_bytes, codes, bytes_eq, IsTrue, nat_eq}
+use Rattle.std.specs.List.{list_all, starts_with}
 use Rattle.std.specs.Cmp.Lexicographic.{slice_cmp}
 use Rattle.std.specs.Ordering.{nat_cmp}
 use Rattle.std.specs.declared.cmp.Ordering.{Ordering}
@@ -16,6 +16,10 @@ text_cmp = slice_cmp nat_cmp
 -- pairs of texts, as the program stores them (ours)
 abbrev pub texts_of : {A : Type 0} → List (String A × String A) → List (Text × Text)
 texts_of entries = map (λ e. (string_bytes e.0, string_bytes e.1)) entries
+
+-- the text begins with the prefix (ours)
+abbrev pub begins_with : Text → Text → Bool
+begins_with prefix text = starts_with nat_eq text prefix
 
 -- ---- names
 

@@ -1,88 +1,122 @@
--- Whole scripts with images, content and leases: the report of a collection, and the store that it leaves. All of them are ours.
-use Rattle.std.specs.Prelude.{List, [], ◌∷◌, ◌++◌, codes, Some}
+-- Whole scripts, worked out: names, requests and reports that they share.
+pub mod Times
+pub mod Images
+pub mod Objects
+pub mod Later
+pub mod Failures
+use Rattle.std.specs.Prelude.{ℕ, false, List, [], ◌∷◌, ◌++◌, replicate, codes, Some, None, ℤ, pos}
 use Rattle.meta_types.specs.Text.{Text}
 use Rattle.meta_types.specs.Rows.{State}
-use Rattle.meta_types.specs.Backends.{no_objects}
-use Rattle.meta_types.specs.Reports.{Collects}
-use Rattle.meta_types.specs.Steps.{after}
-use Rattle.meta_types.specs.Scripts.{empty_store, after_all, a, b, c, x, i, l, first_of_march, first_of_march_text, just_after, adds, content_label, one_namespace, nothing_removed, plain_report}
+use Rattle.meta_types.specs.Backends.{BackNames, no_objects}
+use Rattle.meta_types.specs.Reports.{Kept, Removed, Report}
+use Rattle.meta_types.specs.Steps.{Answer, answer_to, after}
 use Rattle.meta_types.specs.declared.request.Request.{Request}
-use Rattle.meta_types.specs.declared.request.Request.TheVariants.{NsAdd, ImageAdd, ImageRemove, ContentAdd, LeaseAdd, LeaseHold}
+use Rattle.meta_types.specs.declared.request.Request.TheVariants.{ContentAdd, SnapPrepare, SnapCommit}
 
--- content that an image leads to, and other content
-abbrev pub with_image : State
-with_image = after_all empty_store (NsAdd x ∷ adds b [] ∷ adds a (content_label b) ∷ adds c [] ∷ ImageAdd x i a [] ∷ [])
+-- the store after these requests (ours)
+abbrev pub after_all : State → List Request → State
+after_all state [] = state
+after_all state (request ∷ requests) = after_all (after state request) requests
 
--- the same without the other content
-abbrev pub image_alone : State
-image_alone = after_all empty_store (NsAdd x ∷ adds b [] ∷ adds a (content_label b) ∷ ImageAdd x i a [] ∷ [])
+-- what they answer (ours)
+abbrev pub answers_to : State → List Request → List Answer
+answers_to state [] = []
+answers_to state (request ∷ requests) = answer_to state request ∷ answers_to (after state request) requests
 
--- content that an image leads to stays; other content goes, as if it had never been added
-abbrev pub AnImageKeepsItsContent : Type 0
-AnImageKeepsItsContent = Collects with_image first_of_march no_objects
-    (plain_report (record no_objects { blobs = c ∷ [] }) (record one_namespace { content = 2; images = 1 }) (record nothing_removed { content = (x, c) ∷ [] }) 2) image_alone
+-- ---- names
 
--- two blobs that reference each other
-abbrev pub cycle : List Request
-cycle = adds a (content_label b) ∷ adds b (content_label a) ∷ []
+-- a digest of one letter (ours)
+abbrev pub digest_of : ℕ → Text
+digest_of letter = codes "sha256:" ++ replicate 64 letter
 
--- the cycle, and nothing that leads to it
-abbrev pub cycle_alone : State
-cycle_alone = after_all empty_store (NsAdd x ∷ cycle)
+-- four digests (ours)
+abbrev pub a : Text
+a = digest_of 97
 
--- a namespace with nothing in it
-abbrev pub namespace_alone : State
-namespace_alone = after_all empty_store (NsAdd x ∷ [])
+-- another digest (ours)
+abbrev pub b : Text
+b = digest_of 98
 
--- a cycle that nothing leads to goes
-abbrev pub ACycleGoes : Type 0
-ACycleGoes = Collects cycle_alone first_of_march no_objects
-    (plain_report (record no_objects { blobs = a ∷ b ∷ [] }) one_namespace (record nothing_removed { content = (x, a) ∷ (x, b) ∷ [] }) 0) namespace_alone
+-- another digest (ours)
+abbrev pub c : Text
+c = digest_of 99
 
--- the cycle under an image
-abbrev pub cycle_under_image : State
-cycle_under_image = after_all empty_store (NsAdd x ∷ cycle ++ (ImageAdd x i b [] ∷ []))
+-- another digest (ours)
+abbrev pub d : Text
+d = digest_of 100
 
--- and stays where an image leads into it
-abbrev pub ACycleUnderAnImageStays : Type 0
-ACycleUnderAnImageStays = Collects cycle_under_image first_of_march no_objects
-    (plain_report no_objects (record one_namespace { content = 2; images = 1 }) nothing_removed 2) cycle_under_image
+-- a namespace (ours)
+abbrev pub x : Text
+x = codes "x"
 
--- the label of a flat lease
-abbrev pub flat_label : List (Text × Text)
-flat_label = (codes "containerd.io/gc.flat", codes "t") ∷ []
+-- an image (ours)
+abbrev pub i : Text
+i = codes "i"
 
--- content that an image holds in full and a lease holds flat
-abbrev pub held_in_both_modes : State
-held_in_both_modes = after_all empty_store (NsAdd x ∷ adds b [] ∷ adds a (content_label b) ∷ LeaseAdd x l flat_label ∷ LeaseHold x l (codes "content") a ∷ ImageAdd x i a [] ∷ [])
+-- a lease (ours)
+abbrev pub l : Text
+l = codes "l"
 
--- is scanned in both modes, and its labels are followed
-abbrev pub BothModesAreScanned : Type 0
-BothModesAreScanned = Collects held_in_both_modes first_of_march no_objects
-    (plain_report no_objects (record one_namespace { content = 2; images = 1; leases = 1 }) nothing_removed 3) held_in_both_modes
+-- a snapshotter (ours)
+abbrev pub overlayfs : Text
+overlayfs = codes "overlayfs"
 
--- the same after the image was removed
-abbrev pub image_removed : State
-image_removed = after held_in_both_modes (ImageRemove x i)
+-- another snapshotter (ours)
+abbrev pub native : Text
+native = codes "native"
 
--- content that a flat lease holds, alone
-abbrev pub held_flat : State
-held_flat = after_all empty_store (NsAdd x ∷ adds a (content_label b) ∷ LeaseAdd x l flat_label ∷ LeaseHold x l (codes "content") a ∷ [])
+-- ---- moments
 
--- once the image has gone, the flat lease keeps the content and not what its labels name
-abbrev pub AFlatLeaseFollowsNoLabels : Type 0
-AFlatLeaseFollowsNoLabels = Collects image_removed first_of_march no_objects
-    (plain_report (record no_objects { blobs = b ∷ [] }) (record one_namespace { content = 1; leases = 1 }) (record nothing_removed { content = (x, b) ∷ [] }) 1) held_flat
+-- 2024-03-01T00:00:00Z (ours)
+abbrev pub first_of_march : ℤ
+first_of_march = pos 1709251200000000000
 
--- a lease that ends on the first of March, with content
-abbrev pub leased : State
-leased = after_all empty_store (NsAdd x ∷ LeaseAdd x l ((codes "containerd.io/gc.expire", first_of_march_text) ∷ []) ∷ ContentAdd x a [] (Some l) ∷ [])
+-- the same as a text (ours)
+abbrev pub first_of_march_text : Text
+first_of_march_text = codes "2024-03-01T00:00:00Z"
 
--- at that very moment it still holds
-abbrev pub ALeaseHoldsAtItsExpiry : Type 0
-ALeaseHoldsAtItsExpiry = Collects leased first_of_march no_objects (plain_report no_objects (record one_namespace { content = 1; leases = 1 }) nothing_removed 1) leased
+-- a nanosecond later (ours)
+abbrev pub just_after : ℤ
+just_after = pos 1709251200000000001
 
--- a nanosecond later both go
-abbrev pub AnExpiredLeaseGoes : Type 0
-AnExpiredLeaseGoes = Collects leased just_after no_objects
-    (plain_report (record no_objects { blobs = a ∷ [] }) one_namespace (record nothing_removed { content = (x, a) ∷ []; leases = (x, l) ∷ [] }) 0) namespace_alone
+-- ---- requests
+
+-- content with these labels (ours)
+abbrev pub adds : Text → List (Text × Text) → Request
+adds digest labels = ContentAdd x digest labels None
+
+-- a label that references content (ours)
+abbrev pub content_label : Text → List (Text × Text)
+content_label digest = (codes "containerd.io/gc.ref.content.0", digest) ∷ []
+
+-- a snapshot over no parent, committed under a name (ours)
+abbrev pub layer : Text → Text → Text → List Request
+layer snapshotter key name = SnapPrepare x snapshotter key None [] None ∷ SnapCommit x snapshotter key name [] None ∷ []
+
+-- the same over a parent (ours)
+abbrev pub layer_over : Text → Text → Text → Text → List Request
+layer_over snapshotter key name parent = SnapPrepare x snapshotter key (Some parent) [] None ∷ SnapCommit x snapshotter key name [] None ∷ []
+
+-- three committed layers, one over the other, and an active one with these labels over them (ours)
+abbrev pub chain : Text → List (Text × Text) → List Request
+chain snapshotter labels = layer snapshotter (codes "p1") (codes "c1") ++ layer_over snapshotter (codes "p2") (codes "c2") (codes "c1")
+    ++ layer_over snapshotter (codes "p3") (codes "c3") (codes "c2") ++ (SnapPrepare x snapshotter (codes "t") (Some (codes "c3")) labels None ∷ [])
+
+-- ---- reports
+
+-- nothing kept but one namespace (ours)
+abbrev pub one_namespace : Kept
+one_namespace = record { containers = 0; content = 0; images = 0; ingests = 0; leases = 0; namespaces = 1; snapshots = 0 }
+
+-- nothing removed (ours)
+abbrev pub nothing_removed : Removed
+nothing_removed = record { content = []; images = []; ingests = []; leases = []; snapshots = [] }
+
+-- the report of a collection where nothing failed and nothing was ignored (ours)
+abbrev pub report_with : ℕ → BackNames → Kept → Removed → ℕ → Report
+report_with profile backend kept removed scanned =
+    record { backend = backend; dry = false; failed = no_objects; ignored = []; ignored_images = []; kept = kept; profile = profile; removed = removed; scanned = scanned }
+
+-- the same of profile 1 (ours)
+abbrev pub plain_report : BackNames → Kept → Removed → ℕ → Report
+plain_report = report_with 1

@@ -1,15 +1,13 @@
 //! Laws of the definitions, each as the contract of a function that does nothing. They say what
 //! every collection promises, and compute worked examples; nothing else forces them.
-ghost use Rattle.meta_types.specs.Promises.{SomeTestTells, ACollectionHasOneOutcome, ADryRunHasOneReport, NothingReachedIsRemoved, WhatIsNotReachedIsRemoved};
-ghost use Rattle.meta_types.specs.PromisedObjects.{OwnedObjectsStay, UnownedObjectsGo, RemovedSnapshotsAreChildfirst, PlannedSnapshotsAreChildfirst};
-ghost use Rattle.meta_types.specs.Again.{ASecondCollectionChangesNothing, ACollectedStoreIsSound};
+ghost use Rattle.meta_types.specs.Promises.{SomeTestTells, ACollectionHasOneOutcome, ADryRunHasOneReport, NothingReachedIsRemoved, WhatIsNotReachedIsRemoved, OwnedObjectsStay, UnownedObjectsGo, RemovedSnapshotsAreChildfirst, PlannedSnapshotsAreChildfirst, ASecondCollectionChangesNothing, ACollectedStoreIsSound};
 ghost use Rattle.meta_types.specs.EachKind.{ACollectionDividesTheRows, ACollectionDividesAll, ADryRunTellsWhatACollectionWould};
 ghost use Rattle.meta_types.specs.Finding.{ThisTestTells};
-ghost use Rattle.meta_types.specs.WorkedTimes.{TimesAreRead, OthersAreNoTimes};
-ghost use Rattle.meta_types.specs.Worked.{AnImageKeepsItsContent, ACycleGoes, ACycleUnderAnImageStays, BothModesAreScanned, AFlatLeaseFollowsNoLabels, ALeaseHoldsAtItsExpiry, AnExpiredLeaseGoes};
-ghost use Rattle.meta_types.specs.WorkedObjects.{AFlatLeaseKeepsParents, ChildrenGoBeforeParents, AnIngestHoldsForADay, AnIngestGoesAfterADay, OnlyReferenceKeysReference, ContainersAndRootLabelsHold};
-ghost use Rattle.meta_types.specs.WorkedLater.{AnEmptyStoreIsCollected, AnImageHoldsAtItsExpiry, AnExpiredImageGoes, ALeaseGoesWithACollection};
-ghost use Rattle.meta_types.specs.WorkedFailures.{TheFirstRemovalFails, TheSecondRemovalFails, TheThirdRemovalFails, TheLastRemovalFails, ALaterCollectionRemovesTheRest};
+ghost use Rattle.meta_types.specs.Worked.Times.{TimesAreRead, OthersAreNoTimes};
+ghost use Rattle.meta_types.specs.Worked.Images.{AnImageKeepsItsContent, ACycleGoes, ACycleUnderAnImageStays, BothModesAreScanned, AFlatLeaseFollowsNoLabels, ALeaseHoldsAtItsExpiry, AnExpiredLeaseGoes};
+ghost use Rattle.meta_types.specs.Worked.Objects.{AFlatLeaseKeepsParents, ChildrenGoBeforeParents, AnIngestHoldsForADay, AnIngestGoesAfterADay, OnlyReferenceKeysReference, ContainersAndRootLabelsHold};
+ghost use Rattle.meta_types.specs.Worked.Later.{AnEmptyStoreIsCollected, AnImageHoldsAtItsExpiry, AnExpiredImageGoes, ALeaseGoesWithACollection};
+ghost use Rattle.meta_types.specs.Worked.Failures.{TheFirstRemovalFails, TheSecondRemovalFails, TheThirdRemovalFails, TheLastRemovalFails, ALaterCollectionRemovesTheRest};
 
 /// A collection is always defined, and what it reports and leaves is one; so of a dry run.
 pub fn collections_have_one_outcome()

@@ -8,7 +8,7 @@ use Rattle.meta_types.specs.Text.{Text}
 use Rattle.meta_types.specs.Keys.{Key, is_key, is_before, row_at, has_row, add_row, remove_row}
 use Rattle.meta_types.specs.Labels.{LabelList}
 use Rattle.meta_types.specs.Rows.{snap_key}
-use Rattle.meta_types.specs.SnapshotOps.{is_committed, is_active, parent_row, committed}
+use Rattle.meta_types.specs.Ops.Snapshots.{is_committed, is_active, parent_row, committed}
 use Rattle.meta_types.specs.Sound.{HasParent, AreNumbered}
 use Rattle.meta_types.specs.declared.rows.IngestRow.{IngestRow}
 use Rattle.meta_types.specs.declared.rows.SnapRow.{SnapRow}

@@ -6,7 +6,7 @@ use Rattle.meta_types.specs.Text.{Text}
 use Rattle.meta_types.specs.Keys.{Key, has_row, add_row, remove_row, change_row}
 use Rattle.meta_types.specs.Labels.{LabelList}
 use Rattle.meta_types.specs.Rows.{ingest_key, snap_key}
-use Rattle.meta_types.specs.SnapshotOps.{is_child_of}
+use Rattle.meta_types.specs.Ops.Snapshots.{is_child_of}
 use Rattle.meta_types.specs.Faults.{Refuses, least_of}
 use Rattle.meta_types.specs.Sound.{AreNumbered}
 use Rattle.meta_types.specs.declared.fault.Fault.{Fault}

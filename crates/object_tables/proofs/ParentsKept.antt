@@ -8,7 +8,7 @@ use Rattle.meta_types.specs.Text.{Text}
 use Rattle.meta_types.specs.Keys.{Key, is_key, row_at, has_row, add_row, remove_row, change_row}
 use Rattle.meta_types.specs.Labels.{LabelList}
 use Rattle.meta_types.specs.Rows.{snap_key}
-use Rattle.meta_types.specs.SnapshotOps.{is_committed, parent_row, is_child_of}
+use Rattle.meta_types.specs.Ops.Snapshots.{is_committed, parent_row, is_child_of}
 use Rattle.meta_types.specs.Sound.{parent_of, HasParent}
 use Rattle.meta_types.specs.declared.rows.SnapRow.{SnapRow}
 use Rattle.meta_types.proofs.Found.{no_none}

@@ -8,7 +8,7 @@ use Rattle.meta_types.specs.Keys.{Key, has_row, row_at, add_row, remove_row, cha
 use Rattle.meta_types.specs.Labels.{LabelList}
 use Rattle.meta_types.specs.Rows.{Tables, snap_key}
 use Rattle.meta_types.specs.Changes.{has_namespace}
-use Rattle.meta_types.specs.SnapshotOps.{is_active, committed, is_child_of}
+use Rattle.meta_types.specs.Ops.Snapshots.{is_active, committed, is_child_of}
 use Rattle.meta_types.specs.Sound.{parent_of, HasParent, AreTables}
 use Rattle.meta_types.specs.declared.rows.IngestRow.{IngestRow}
 use Rattle.meta_types.specs.declared.rows.SnapRow.{SnapRow}

@@ -9,7 +9,7 @@ use Rattle.std.proofs.lemmas.Slice.Eq.{bytes_eq-Decides}
 use Rattle.meta_types.specs.Text.{Text}
 use Rattle.meta_types.specs.Keys.{row_at, has_row, add_row}
 use Rattle.meta_types.specs.Rows.{snap_key}
-use Rattle.meta_types.specs.SnapshotOps.{is_committed, parent_row, is_child_of}
+use Rattle.meta_types.specs.Ops.Snapshots.{is_committed, parent_row, is_child_of}
 use Rattle.meta_types.specs.Sound.{parent_of, HasParent, AreNumbered}
 use Rattle.meta_types.specs.declared.rows.IngestRow.{IngestRow}
 use Rattle.meta_types.specs.declared.rows.SnapRow.{SnapRow}

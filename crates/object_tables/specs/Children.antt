@@ -4,7 +4,7 @@ use Rattle.std.proofs.Common.{ap, ◌∙◌}
 use Rattle.meta_types.specs.Text.{Text}
 use Rattle.meta_types.specs.Keys.{Key, is_key, row_at, has_row, add_row, remove_row, change_row}
 use Rattle.meta_types.specs.Faults.{Refuses, least_of}
-use Rattle.meta_types.specs.SnapshotOps.{is_child_of}
+use Rattle.meta_types.specs.Ops.Snapshots.{is_child_of}
 use Rattle.meta_types.specs.declared.fault.Fault.{Fault}
 use Rattle.meta_types.specs.declared.rows.SnapRow.{SnapRow}
 use Rattle.meta_types.specs.declared.rows.SnapKey.{SnapKey}

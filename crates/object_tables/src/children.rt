@@ -6,7 +6,7 @@ ghost use Rattle.meta_types.specs.Keys.{has_row, row_at, add_row, remove_row, ch
 ghost use Rattle.meta_types.specs.Labels.{put_label};
 ghost use Rattle.meta_types.specs.Rows.{snap_key};
 ghost use Rattle.meta_types.specs.Faults.{Refuses};
-ghost use Rattle.meta_types.specs.SnapshotOps.{is_child_of};
+ghost use Rattle.meta_types.specs.Ops.Snapshots.{is_child_of};
 ghost use Rattle.object_tables.specs.Calls.{children_of, labelling_fault, kept};
 ghost use Rattle.object_tables.specs.Children.{child_named, families_parted};
 

@@ -9,7 +9,7 @@ ghost use Rattle.meta_types.specs.Labels.{put_label};
 ghost use Rattle.meta_types.specs.Rows.{snap_key};
 ghost use Rattle.meta_types.specs.Faults.{Refuses, OnlyRefuses};
 ghost use Rattle.meta_types.specs.Sound.{AreNumbered};
-ghost use Rattle.meta_types.specs.SnapshotOps.{is_child_of, committed, snapshots_in, parent_row};
+ghost use Rattle.meta_types.specs.Ops.Snapshots.{is_child_of, committed, snapshots_in, parent_row};
 ghost use Rattle.meta_types.specs.Changes.{has_namespace};
 ghost use Rattle.meta_types.specs.declared.rows.SnapKind.TheVariants.{Committed};
 ghost use Rattle.object_tables.specs.Calls.{adding_snap_fault, removing_snap_fault, committing_fault, without_snap, labelling_fault, missing_fault, children_of, kept, snapshotters_in};

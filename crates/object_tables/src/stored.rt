@@ -5,7 +5,7 @@ ghost use Rattle.meta_types.specs.Keys.{row_at, change_row};
 ghost use Rattle.meta_types.specs.Labels.{LabelList, put_label, takes_label};
 ghost use Rattle.meta_types.specs.Rows.{snap_key};
 ghost use Rattle.meta_types.specs.Faults.{Refuses, unless};
-ghost use Rattle.meta_types.specs.Outcomes.{names_in};
+ghost use Rattle.meta_types.specs.Ops.{names_in};
 ghost use Rattle.meta_types.specs.declared.fault.Fault.TheVariants.{InvalidArgument};
 ghost use Rattle.arrival_table.specs.Namespaces.{full_key};
 ghost use Rattle.object_tables.specs.Calls.{labelling_fault};

@@ -9,8 +9,8 @@ use Rattle.meta_types.specs.Keys.{Key, row_at, has_row, add_row, remove_row}
 use Rattle.meta_types.specs.Labels.{LabelList, labels_of}
 use Rattle.meta_types.specs.Rows.{State, BackSnap, snap_key}
 use Rattle.meta_types.specs.Changes.{with_snapshots}
-use Rattle.meta_types.specs.SnapshotOps.{is_active, committed}
-use Rattle.meta_types.specs.Outcomes.{least_fault, lacks}
+use Rattle.meta_types.specs.Ops.Snapshots.{is_active, committed}
+use Rattle.meta_types.specs.Ops.{least_fault, lacks}
 use Rattle.meta_types.specs.Requests.{outcome}
 use Rattle.meta_types.specs.Sound.{HasParent, IsSound, object_of}
 use Rattle.meta_types.specs.declared.rows.SnapRow.{SnapRow}

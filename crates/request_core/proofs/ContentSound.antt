@@ -10,7 +10,7 @@ use Rattle.meta_types.specs.Labels.{labels_of, put_label}
 use Rattle.meta_types.specs.Resources.{resource_key, resource_of, held}
 use Rattle.meta_types.specs.Rows.{State, LeaseRow, content_key, lease_key}
 use Rattle.meta_types.specs.Changes.{with_content, with_blob, put_blob, hold_in, drop_in}
-use Rattle.meta_types.specs.Outcomes.{least_fault}
+use Rattle.meta_types.specs.Ops.{least_fault}
 use Rattle.meta_types.specs.Requests.{outcome}
 use Rattle.meta_types.specs.Sound.{AreRows, IsSound}
 use Rattle.meta_types.specs.declared.rows.ContentRow.{ContentRow}

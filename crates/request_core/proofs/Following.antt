@@ -1,7 +1,7 @@
 -- What follows for a call that answers a request.
 use Rattle.std.proofs.Common.{◌≡◌, Option, None, refl, sym, ap, ◌∙◌, subst, ◌⊎◌, inl, inr}
 use Rattle.std.specs.Prelude.{Result, Ok, Err}
-use Rattle.meta_types.specs.Outcomes.{Outcome, least_fault}
+use Rattle.meta_types.specs.Ops.{Outcome, least_fault}
 use Rattle.meta_types.specs.Requests.{outcome}
 use Rattle.meta_types.specs.Sound.{IsSound}
 use Rattle.meta_types.specs.declared.reply.Reply.{Reply}

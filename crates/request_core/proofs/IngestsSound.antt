@@ -10,8 +10,8 @@ use Rattle.meta_types.specs.Keys.{Key, has_row, add_row, remove_row, put_in_orde
 use Rattle.meta_types.specs.Labels.{labels_of}
 use Rattle.meta_types.specs.Rows.{State, ingest_key, content_key}
 use Rattle.meta_types.specs.Changes.{has_namespace, with_ingests, with_content, with_blob, with_ingest_object, put_blob}
-use Rattle.meta_types.specs.ContentOps.{own_end}
-use Rattle.meta_types.specs.Outcomes.{least_fault, lacks}
+use Rattle.meta_types.specs.Ops.Ingests.{own_end}
+use Rattle.meta_types.specs.Ops.{least_fault, lacks}
 use Rattle.meta_types.specs.Requests.{outcome}
 use Rattle.meta_types.specs.Sound.{AreTables, IsSound}
 use Rattle.meta_types.specs.declared.rows.ContentRow.{ContentRow}

@@ -7,7 +7,7 @@ use Rattle.meta_types.specs.Text.{Text}
 use Rattle.meta_types.specs.Keys.{is_key, row_at}
 use Rattle.meta_types.specs.Labels.{LabelList}
 use Rattle.meta_types.specs.Rows.{LeaseRow, lease_key}
-use Rattle.meta_types.specs.Outcomes.{row_reply}
+use Rattle.meta_types.specs.Ops.{row_reply}
 use Rattle.meta_types.specs.declared.reply.Row.TheVariants as W
 use Rattle.meta_types.specs.declared.reply.Reply.TheVariants as R
 

@@ -10,7 +10,7 @@ use Rattle.meta_types.specs.Resources.{held}
 use Rattle.meta_types.specs.Rows.{State, LeaseRow, BackSnap, namespace_key, content_key, lease_key}
 use Rattle.meta_types.specs.Changes.{with_images, with_containers, with_leases, put_blob, held_by}
 use Rattle.meta_types.specs.Faults.{least_of}
-use Rattle.meta_types.specs.Outcomes.{Outcome, least_fault}
+use Rattle.meta_types.specs.Ops.{Outcome, least_fault}
 use Rattle.meta_types.specs.Sound.{AreRows, AreTables, HaveBlobs, HaveObjects, IsSound}
 use Rattle.meta_types.specs.declared.rows.ImageRow.{ImageRow}
 use Rattle.meta_types.specs.declared.rows.ContainerRow.{ContainerRow}

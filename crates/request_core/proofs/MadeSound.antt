@@ -9,7 +9,7 @@ use Rattle.meta_types.specs.Keys.{has_row, add_row, put_in_order}
 use Rattle.meta_types.specs.Rows.{State, BackSnap, snap_key}
 use Rattle.meta_types.specs.Changes.{stands_before, has_namespace}
 use Rattle.meta_types.specs.Backends.{is_named}
-use Rattle.meta_types.specs.SnapshotOps.{parent_row}
+use Rattle.meta_types.specs.Ops.Snapshots.{parent_row}
 use Rattle.meta_types.specs.Sound.{AreTables, HasParent, IsSound, parent_of, object_of}
 use Rattle.meta_types.specs.declared.rows.IngestRow.{IngestRow}
 use Rattle.meta_types.specs.declared.rows.SnapRow.{SnapRow}

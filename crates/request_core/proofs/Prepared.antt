@@ -12,7 +12,7 @@ use Rattle.meta_types.specs.Rows.{Tables, BackSnap, snap_key}
 use Rattle.meta_types.specs.Changes.{has_namespace}
 use Rattle.meta_types.specs.Faults.{least_of}
 use Rattle.meta_types.specs.Backends.{is_named}
-use Rattle.meta_types.specs.SnapshotOps.{parent_row}
+use Rattle.meta_types.specs.Ops.Snapshots.{parent_row}
 use Rattle.meta_types.specs.declared.rows.SnapRow.{SnapRow}
 use Rattle.object_tables.specs.Calls.{adding_snap_fault}
 use Rattle.request_core.proofs.Numbers.{apart}

@@ -9,8 +9,8 @@ use Rattle.meta_types.specs.Labels.{labels_of}
 use Rattle.meta_types.specs.Rows.{State, snap_key}
 use Rattle.meta_types.specs.Limits.{is_out_of_numbers}
 use Rattle.meta_types.specs.Changes.{with_snapshots, with_snapshot_object}
-use Rattle.meta_types.specs.SnapshotOps.{is_committed, parent_row, prepares}
-use Rattle.meta_types.specs.Outcomes.{least_fault, lacks}
+use Rattle.meta_types.specs.Ops.Snapshots.{is_committed, parent_row, prepares}
+use Rattle.meta_types.specs.Ops.{least_fault, lacks}
 use Rattle.meta_types.specs.Requests.{outcome}
 use Rattle.meta_types.specs.Sound.{IsSound}
 use Rattle.meta_types.specs.declared.rows.SnapRow.{SnapRow}

@@ -6,7 +6,7 @@ use Rattle.meta_types.specs.Labels.{LabelList}
 use Rattle.meta_types.specs.Rows.{State}
 use Rattle.meta_types.specs.Changes.{all_of}
 use Rattle.meta_types.specs.Faults.{Refuses, OnlyRefuses, least_of, unless}
-use Rattle.meta_types.specs.Outcomes.{Outcome, least_fault, labelled, done}
+use Rattle.meta_types.specs.Ops.{Outcome, least_fault, labelled, done}
 use Rattle.meta_types.specs.declared.reply.Reply.{Reply}
 use Rattle.meta_types.specs.declared.fault.Fault.{Fault}
 use Rattle.meta_types.specs.declared.fault.Fault.TheVariants.{InvalidArgument, NotFound, AlreadyExists, FailedPrecondition, OutOfMemory}

@@ -1,7 +1,7 @@
 -- Every request keeps a state sound. None of it speaks of code.
 use Rattle.std.proofs.Common.{◌≡◌, None}
 use Rattle.meta_types.specs.Rows.{State}
-use Rattle.meta_types.specs.Outcomes.{least_fault}
+use Rattle.meta_types.specs.Ops.{least_fault}
 use Rattle.meta_types.specs.Requests.{outcome}
 use Rattle.meta_types.specs.Sound.{IsSound}
 use Rattle.meta_types.specs.declared.request.Request.{Request}

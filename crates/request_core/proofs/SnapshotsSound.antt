@@ -6,8 +6,8 @@ use Rattle.meta_types.specs.Text.{Text}
 use Rattle.meta_types.specs.Keys.{Key, remove_row, change_row}
 use Rattle.meta_types.specs.Labels.{LabelList, put_label}
 use Rattle.meta_types.specs.Rows.{State, snap_key}
-use Rattle.meta_types.specs.SnapshotOps.{is_child_of}
-use Rattle.meta_types.specs.Outcomes.{least_fault}
+use Rattle.meta_types.specs.Ops.Snapshots.{is_child_of}
+use Rattle.meta_types.specs.Ops.{least_fault}
 use Rattle.meta_types.specs.Requests.{outcome}
 use Rattle.meta_types.specs.Sound.{HaveObjects, HasParent, IsSound}
 use Rattle.meta_types.specs.declared.rows.SnapRow.{SnapRow}

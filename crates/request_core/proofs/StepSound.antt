@@ -7,7 +7,7 @@ use Rattle.meta_types.specs.Text.{Text}
 use Rattle.meta_types.specs.Keys.{is_before, add_row, remove_row}
 use Rattle.meta_types.specs.Labels.{labels_of, put_label}
 use Rattle.meta_types.specs.Rows.{State, LeaseRow, namespace_key, lease_key}
-use Rattle.meta_types.specs.Outcomes.{least_fault}
+use Rattle.meta_types.specs.Ops.{least_fault}
 use Rattle.meta_types.specs.Requests.{outcome}
 use Rattle.meta_types.specs.Sound.{IsSound}
 use Rattle.meta_types.specs.declared.rows.ImageRow.{ImageRow}

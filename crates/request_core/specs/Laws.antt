@@ -4,7 +4,8 @@ use Rattle.meta_types.specs.Rows.{State}
 use Rattle.meta_types.specs.Backends.{BackNames}
 use Rattle.meta_types.specs.Requests.{removal_outcome}
 use Rattle.meta_types.specs.Sound.{IsSound}
-use Rattle.meta_types.specs.Steps.{Answer, Event, Entry, after, Step, IsLegal}
+use Rattle.meta_types.specs.Steps.{Answer, Event, after}
+use Rattle.meta_types.specs.Histories.{Entry, Step, IsLegal}
 use Rattle.meta_types.specs.declared.request.Request.{Request}
 use Rattle.meta_types.specs.declared.request.Removal.{Removal}
 

@@ -5,9 +5,9 @@ use Rattle.meta_types.specs.Text.{Text}
 use Rattle.meta_types.specs.Keys.{has_row}
 use Rattle.meta_types.specs.Rows.{LeaseRow, Records, State, lease_key}
 use Rattle.meta_types.specs.Changes.{dropped_by}
-use Rattle.meta_types.specs.Outcomes.{found_fault, in_store}
-use Rattle.meta_types.specs.SnapshotOps.{commit_findings, prepare_findings}
-use Rattle.meta_types.specs.ContentOps.{ingest_commit_findings}
+use Rattle.meta_types.specs.Ops.{found_fault, in_store}
+use Rattle.meta_types.specs.Ops.Snapshots.{commit_findings, prepare_findings}
+use Rattle.meta_types.specs.Ops.Ingests.{ingest_commit_findings}
 use Rattle.meta_types.specs.declared.rows.SnapRow.{SnapRow}
 use Rattle.request_core.specs.declared.refusal.Refusal.{Refusal}
 use Rattle.meta_types.specs.declared.resource.Resource.{Resource}

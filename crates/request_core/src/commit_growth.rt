@@ -1,6 +1,6 @@
 //! A commit of a snapshot that happens whole or not at all.
 ghost use Rattle.std.specs.Prelude.{◌≡◌, true, None, OnOk, OnErr, IfOk, Err};
-ghost use Rattle.meta_types.specs.SnapshotOps.{committed};
+ghost use Rattle.meta_types.specs.Ops.Snapshots.{committed};
 ghost use Rattle.meta_types.specs.Changes.{held_by};
 ghost use Rattle.meta_types.specs.declared.fault.Fault.TheVariants as F;
 ghost use Rattle.meta_types.specs.declared.resource.Resource.TheVariants as H;

@@ -7,7 +7,7 @@ ghost use Rattle.meta_types.specs.Keys.{has_row};
 ghost use Rattle.meta_types.specs.Rows.{content_key, ingest_key};
 ghost use Rattle.meta_types.specs.Changes.{has_namespace};
 ghost use Rattle.meta_types.specs.Limits.{is_out_of_numbers};
-ghost use Rattle.meta_types.specs.Outcomes.{lacks};
+ghost use Rattle.meta_types.specs.Ops.{lacks};
 ghost use Rattle.meta_types.specs.Faults.{OnlyRefuses, least_of};
 ghost use Rattle.meta_types.specs.Sound.{IsSound};
 ghost use Rattle.back_model.specs.Objects.{has_number};

@@ -6,7 +6,7 @@ ghost use Rattle.std.specs.Prelude.{◌≡◌, ◌≤◌, true, false, None, OnO
 ghost use Rattle.std.specs.List.{list_any};
 ghost use Rattle.std.specs.Option.{option_map_or};
 ghost use Rattle.meta_types.specs.Backends.{is_named};
-ghost use Rattle.meta_types.specs.SnapshotOps.{parent_row, prepares};
+ghost use Rattle.meta_types.specs.Ops.Snapshots.{parent_row, prepares};
 ghost use Rattle.meta_types.specs.Sound.{IsSound};
 ghost use Rattle.meta_types.specs.Faults.{OnlyRefuses};
 ghost use Rattle.object_tables.specs.Calls.{committing_fault, adding_snap_fault};

@@ -2,7 +2,7 @@
 ghost use Rattle.std.specs.Prelude.{◌≡◌, ◌∷◌, [], None, IfOk, true};
 ghost use Rattle.std.specs.Bool.{OnFalse};
 ghost use Rattle.meta_types.specs.Changes.{has_namespace};
-ghost use Rattle.meta_types.specs.Outcomes.{lacks};
+ghost use Rattle.meta_types.specs.Ops.{lacks};
 ghost use Rattle.meta_types.specs.Faults.{Refuses};
 ghost use Rattle.meta_types.specs.Sound.{IsSound};
 ghost use Rattle.request_core.specs.Parts.{is_lease_there};

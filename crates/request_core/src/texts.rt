@@ -3,7 +3,7 @@ ghost use Rattle.std.specs.Prelude.{◌≡◌, ◌∷◌, [], is_some, is_none, 
 ghost use Rattle.meta_types.specs.Resources.{resource_of};
 ghost use Rattle.request_core.specs.Parts.{some_of, some_third};
 ghost use Rattle.meta_types.specs.Time.{instant_of};
-ghost use Rattle.meta_types.specs.ContentOps.{end_of, own_end};
+ghost use Rattle.meta_types.specs.Ops.Ingests.{end_of, own_end};
 ghost use Rattle.meta_types.specs.Text.{is_short_name, is_name, is_digest};
 ghost use Rattle.meta_types.specs.Changes.{all_of, is_allowed_if};
 ghost use Rattle.meta_types.specs.Labels.{are_labels, labels_of};

@@ -7,13 +7,15 @@ use Rattle.meta_types.specs.Backends.{no_objects}
 use Rattle.meta_types.specs.Collected.{collected_records}
 use Rattle.meta_types.specs.Reports.{Report, Collects, Plans}
 use Rattle.meta_types.specs.Requests.{removal_outcome}
-use Rattle.meta_types.specs.Steps.{Answer, answered, reported, refused, requested, collect, remove_collect, Step, collect_fault, remove_collect_fault}
+use Rattle.meta_types.specs.Steps.{Answer, answered, reported, refused, requested, collect, remove_collect, collect_fault, remove_collect_fault}
+use Rattle.meta_types.specs.Histories.{Step}
 use Rattle.meta_types.specs.declared.fault.Fault.{Fault}
 use Rattle.meta_types.specs.Finding.{reached_in}
 use Rattle.meta_types.proofs.Finding.{this_test_tells}
 use Rattle.meta_types.proofs.NoFailure.{no_failure}
 use Rattle.meta_types.proofs.Once.{one_state, one_report, one_plan}
-use Rattle.scripts.specs.EventSteps.{collection_report, collected_state, collects, plans, EachEventHasThisStep, NoEventHasAnotherStep}
+use Rattle.scripts.specs.EventSteps.{collection_report, collected_state, collects, plans}
+use Rattle.scripts.specs.EventLaws.{EachEventHasThisStep, NoEventHasAnotherStep}
 
 -- the test tells
 pub these_collect : (state : State) (at : ℤ) → Collects state at no_objects (collection_report state at false) (collected_state state at)

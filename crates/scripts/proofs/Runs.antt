@@ -5,13 +5,12 @@ use Rattle.std.specs.Io.KnownBytes.{Appends, Consumes, Keeps}
 use Rattle.std.proofs.lemmas.List.{append-nil}
 use Rattle.std.proofs.lemmas.List.Folds.{list_any-append}
 use Rattle.scripts.specs.LineSteps.{Refusal, line_step}
-use Rattle.meta_types.specs.Rows.{State}
+use Rattle.meta_types.specs.Rows.{State, empty_store}
 use Rattle.scripts.proofs.LineAnswers.{line_step-empty}
 use Rattle.scripts.specs.declared.line_buffer.LineBuffer.{LineBuffer}
-use Rattle.meta_types.specs.Scripts.{empty_store}
 use Rattle.scripts.specs.Lines.{is_line_feed, lines_of, whole_lines}
-use Rattle.scripts.specs.Output.{Refusals, output_from, output_of, IsOutput, IsWholeOutput, IsBeginning}
-use Rattle.scripts.specs.Progress.{Progress, IsLine, Answers, Advances, Breaks, BeginsReply, EndsWith, Runs, Exchanges}
+use Rattle.scripts.specs.Output.{Refusals, output_from, output_of, IsOutput, IsWholeOutput, IsBeginning, Exchanges}
+use Rattle.scripts.specs.Progress.{Progress, IsLine, Answers, Advances, Breaks, BeginsReply, EndsWith, Runs}
 use Rattle.scripts.proofs.Scripts.{lines_of-line, lines_of-last, whole_lines-ended, whole_lines-rest}
 use Rattle.scripts.proofs.Writers.{Appends-append, Appends-none, Appends-Keeps, Consumes-append, Consumes-none, Consumes-Keeps}
 

@@ -7,7 +7,8 @@ use Rattle.meta_types.specs.Limits.{is_worker_count}
 use Rattle.meta_types.specs.Rows.{State}
 use Rattle.meta_types.specs.Backends.{BackNames, no_objects}
 use Rattle.meta_types.specs.Reports.{Report}
-use Rattle.meta_types.specs.Steps.{Answer, answered, reported, Event, collect, remove_collect, Step}
+use Rattle.meta_types.specs.Steps.{Answer, answered, reported, Event, collect, remove_collect}
+use Rattle.meta_types.specs.Histories.{Step}
 use Rattle.meta_types.specs.declared.fault.Fault.{Fault}
 use Rattle.meta_types.specs.declared.fault.Fault.TheVariants.{InvalidArgument, NotFound, AlreadyExists, FailedPrecondition, BadLine, TooLong, OutOfMemory, NoWorker, BackendFailed, ReadFailed, WriteFailed, Mismatch}
 use Rattle.meta_types.specs.declared.reply.Reply.{Reply}

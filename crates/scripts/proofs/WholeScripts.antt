@@ -3,11 +3,10 @@ use Rattle.std.proofs.Common.{◌≡◌, ◌∙◌, refl, sym, subst, ℕ, ◌<�
 use Rattle.std.specs.Prelude.{if◌then◌else◌, is_some, option_map, drop}
 use Rattle.std.specs.Option.{option_map_or}
 use Rattle.meta_types.specs.Time.{instant_of}
-use Rattle.meta_types.specs.Rows.{State}
+use Rattle.meta_types.specs.Rows.{State, empty_store}
 use Rattle.meta_types.specs.Backends.{no_objects}
-use Rattle.meta_types.specs.Outcomes.{least_fault}
+use Rattle.meta_types.specs.Ops.{least_fault}
 use Rattle.meta_types.specs.Requests.{outcome, removal_outcome}
-use Rattle.meta_types.specs.Scripts.{empty_store}
 use Rattle.meta_types.specs.Sound.{IsSound}
 use Rattle.meta_types.specs.Steps.{Answer, answered, refused, Event, collect, remove_collect, collect_fault, remove_collect_fault}
 use Rattle.meta_types.specs.declared.fault.Fault.{Fault}

@@ -1,5 +1,5 @@
 -- What each event answers, and the store after it, where no device fails.
-use Rattle.std.specs.Prelude.{◌≡◌, Bool, true, false, if◌then◌else◌, ℤ}
+use Rattle.std.specs.Prelude.{Bool, true, false, if◌then◌else◌, ℤ}
 use Rattle.std.specs.Option.{option_map_or}
 use Rattle.meta_types.specs.Rows.{State}
 use Rattle.meta_types.specs.Finding.{reached_in}
@@ -7,7 +7,7 @@ use Rattle.meta_types.specs.Backends.{no_objects}
 use Rattle.meta_types.specs.Collected.{collected}
 use Rattle.meta_types.specs.Reports.{Report, report_of}
 use Rattle.meta_types.specs.Requests.{removal_outcome}
-use Rattle.meta_types.specs.Steps.{Answer, reported, refused, Event, requested, collect, remove_collect, Step, answer_to, after, collect_fault, remove_collect_fault}
+use Rattle.meta_types.specs.Steps.{Answer, reported, refused, Event, requested, collect, remove_collect, answer_to, after, collect_fault, remove_collect_fault}
 
 -- what a collection reports, or a dry run (ours)
 abbrev pub collection_report : State → ℤ → Bool → Report
@@ -34,15 +34,3 @@ event_step state (collect at dry workers) =
 event_step state (remove_collect removal at workers) =
     option_map_or (λ fault. (refused fault, state)) (remove_collect_fault state removal workers)
     (collects (removal_outcome state removal).after at)
-
--- ---- as promises
-
--- this is a step of the definitions, without a failure (ours)
-abbrev pub EachEventHasThisStep : Type 0
-EachEventHasThisStep = (state : State) (event : Event) → Step state event no_objects (event_step state event).0 (event_step state event).1
-
--- and no other is (ours)
-abbrev pub NoEventHasAnotherStep : Type 0
-NoEventHasAnotherStep =
-    (state : State) (event : Event) (answer : Answer) (new : State) → Step state event no_objects answer new
-    → (answer ≡ (event_step state event).0) × (new ≡ (event_step state event).1)

@@ -1,5 +1,6 @@
 pub mod Lines
 pub mod EventSteps
+pub mod EventLaws
 pub mod LineSteps
 pub mod Served
 pub mod Output

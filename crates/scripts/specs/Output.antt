@@ -1,9 +1,11 @@
--- What is written for a script.
-use Rattle.std.specs.Prelude.{◌≡◌, ℕ, List, [], ◌∷◌, ◌++◌, drop, Option, None}
-use Rattle.meta_types.specs.Rows.{State}
-use Rattle.meta_types.specs.Scripts.{empty_store}
+-- What is written for a script, and how a run may end.
+use Rattle.std.specs.Prelude.{◌≡◌, ℕ, List, [], ◌∷◌, ◌++◌, drop, Option, None, ◌⊎◌}
+use Rattle.meta_types.specs.Rows.{State, empty_store}
 use Rattle.scripts.specs.LineSteps.{Refusal, line_step}
 use Rattle.scripts.specs.Lines.{lines_of, whole_lines}
+use Rattle.std.specs.Io.KnownBytes.{Appends, Consumes}
+use Rattle.meta_types.specs.declared.fault.Fault.{Fault}
+use Rattle.meta_types.specs.declared.fault.Fault.TheVariants.{InvalidArgument, OutOfMemory, ReadFailed, WriteFailed}
 
 -- the refusals of a run, one place a line: what stands there is what the line was refused with, and a list that is too short names no further line (ours)
 abbrev pub Refusals : Type 0
@@ -35,3 +37,25 @@ IsWholeOutput script bytes = IsOutput (whole_lines script) bytes
 -- the bytes begin the output for the script, under some refusals (ours)
 abbrev pub IsBeginning : List ℕ → List ℕ → Type 0
 IsBeginning script bytes = (refusals : Refusals) × (rest : List ℕ) × (bytes ++ rest ≡ output_of refusals script)
+
+-- ---- runs
+
+-- what can end a run after it began
+abbrev pub IsLateFault : Fault → Type 0
+IsLateFault fault = (fault ≡ OutOfMemory) ⊎ (fault ≡ WriteFailed)
+
+-- what can end a run whose number of workers is allowed (ours)
+abbrev pub IsStartedFault : Fault → Type 0
+IsStartedFault fault = (fault ≡ ReadFailed) ⊎ IsLateFault fault
+
+-- what can end a run (ours)
+abbrev pub IsRunFault : Fault → Type 0
+IsRunFault fault = (fault ≡ InvalidArgument) ⊎ IsStartedFault fault
+
+-- What a run read and wrote is so related, as far as reader and writer tell their bytes.
+pub record Exchanges (IsRelated : List ℕ → List ℕ → Type 0) (left_old left held_old held : Option (List ℕ)) : Type 0 where
+  pub read : List ℕ
+  pub written : List ℕ
+  pub consumes : Consumes left_old left read
+  pub appends : Appends held_old held written
+  pub related : IsRelated read written

@@ -1,28 +1,14 @@
 -- How far a run has come: what its functions keep between themselves.
-use Rattle.std.specs.Prelude.{◌≡◌, ◌<◌, ℕ, List, ◌++◌, length, false, MatchBool, Option, ◌⊎◌}
+use Rattle.std.specs.Prelude.{◌≡◌, ◌<◌, ℕ, List, ◌++◌, length, false, MatchBool, Option}
 use Rattle.std.specs.List.{list_any}
 use Rattle.std.specs.Io.KnownBytes.{Appends, Consumes, IsAtEnd}
 use Rattle.scripts.specs.LineSteps.{Refusal, line_step}
 use Rattle.meta_types.specs.Rows.{State}
-use Rattle.meta_types.specs.declared.fault.Fault.{Fault}
-use Rattle.meta_types.specs.declared.fault.Fault.TheVariants.{InvalidArgument, OutOfMemory, ReadFailed, WriteFailed}
 use Rattle.scripts.specs.declared.line_buffer.LineBuffer.{LineBuffer}
 use Rattle.scripts.specs.declared.script.Run.{Run}
 use Rattle.scripts.specs.declared.script.Run.TheVariants.{GoesOn, HasEnded}
 use Rattle.scripts.specs.Lines.{is_line_feed, lines_of, whole_lines}
-use Rattle.scripts.specs.Output.{Refusals, output_from, output_of, IsOutput, IsBeginning}
-
--- what can end a run after it began
-abbrev pub IsLateFault : Fault → Type 0
-IsLateFault fault = (fault ≡ OutOfMemory) ⊎ (fault ≡ WriteFailed)
-
--- what can end a run whose number of workers is allowed (ours)
-abbrev pub IsStartedFault : Fault → Type 0
-IsStartedFault fault = (fault ≡ ReadFailed) ⊎ IsLateFault fault
-
--- what can end a run (ours)
-abbrev pub IsRunFault : Fault → Type 0
-IsRunFault fault = (fault ≡ InvalidArgument) ⊎ IsStartedFault fault
+use Rattle.scripts.specs.Output.{Refusals, output_from, output_of, IsOutput, IsBeginning, Exchanges}
 
 -- the buffer holds the line, or knows that it is too long
 abbrev pub IsLine : LineBuffer → List ℕ → Type 0
@@ -65,14 +51,6 @@ Replies old line new held_old held = (bytes : List ℕ) × Answers old line byte
 abbrev pub BeginsReply : State → List ℕ → Option (List ℕ) → Option (List ℕ) → Type 0
 BeginsReply old line held_old held =
     (bytes : List ℕ) × (rest : List ℕ) × (new : State) × Answers old line bytes new × WritesFront held_old held rest bytes
-
--- What a run read and wrote is so related, as far as reader and writer tell their bytes.
-pub record Exchanges (IsRelated : List ℕ → List ℕ → Type 0) (left_old left held_old held : Option (List ℕ)) : Type 0 where
-  pub read : List ℕ
-  pub written : List ℕ
-  pub consumes : Consumes left_old left read
-  pub appends : Appends held_old held written
-  pub related : IsRelated read written
 
 -- A run that may go on.
 pub record Runs (state : State) (buffer : LineBuffer) (left_old left held_old held : Option (List ℕ)) : Type 0 where

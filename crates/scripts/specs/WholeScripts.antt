@@ -2,13 +2,12 @@
 use Rattle.std.specs.Prelude.{◌≡◌, ◌⊎◌, ℕ, ℤ, List, [], ◌∷◌, ◌++◌, drop, length, true, false, nat_lt, if◌then◌else◌, is_some, Option, Some, None, option_map}
 use Rattle.std.specs.Option.{option_map_or}
 use Rattle.meta_types.specs.Time.{instant_of}
-use Rattle.meta_types.specs.Rows.{State}
-use Rattle.meta_types.specs.Outcomes.{least_fault}
+use Rattle.meta_types.specs.Rows.{State, empty_store}
+use Rattle.meta_types.specs.Ops.{least_fault}
 use Rattle.meta_types.specs.Requests.{outcome, removal_outcome}
 use Rattle.meta_types.specs.Steps.{Answer, answered, reported, refused, collect_fault, remove_collect_fault}
 use Rattle.meta_types.specs.Sound.{IsSound}
 use Rattle.meta_types.specs.EachKind.{IsCollected}
-use Rattle.meta_types.specs.Scripts.{empty_store}
 use Rattle.meta_types.specs.declared.fault.Fault.{Fault}
 use Rattle.meta_types.specs.declared.fault.Fault.TheVariants.{InvalidArgument, BadLine, TooLong, OutOfMemory, NoWorker}
 use Rattle.request_line.specs.Lines.{asked_in}

@@ -2,7 +2,7 @@
 ghost use Rattle.std.specs.Prelude.{◌≡◌, ◌≤◌, length, true, IfOk, OnErr, Option, None};
 ghost use Rattle.meta_types.specs.Faults.{Refuses};
 ghost use Rattle.meta_types.specs.Limits.{is_worker_count};
-ghost use Rattle.meta_types.specs.Scripts.{empty_store};
+ghost use Rattle.meta_types.specs.Rows.{empty_store};
 ghost use Rattle.scripts.specs.LineSteps.{Refusal, line_step, reply_bytes};
 
 use crate::answering::answer_line;

@@ -1,5 +1,5 @@
 //! What holds of the definition of a script's output.
-ghost use Rattle.scripts.specs.EventSteps.{EachEventHasThisStep, NoEventHasAnotherStep};
+ghost use Rattle.scripts.specs.EventLaws.{EachEventHasThisStep, NoEventHasAnotherStep};
 ghost use Rattle.scripts.specs.WholeScripts.{EachCollectionKeepsWhatIsReached, EachRunKeepsWhatIsReached};
 
 /// The events of an output are steps of the definitions, and each has this one alone.

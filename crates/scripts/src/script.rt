@@ -7,8 +7,8 @@ ghost use Rattle.meta_types.specs.Faults.{Refuses};
 ghost use Rattle.meta_types.specs.Limits.{is_worker_count};
 ghost use Rattle.scripts.specs.Lines.{is_line_feed};
 ghost use Rattle.scripts.specs.LineSteps.{reply_bytes};
-ghost use Rattle.scripts.specs.Output.{IsOutput, IsWholeOutput, IsBeginning};
-ghost use Rattle.scripts.specs.Progress.{IsLine, Answers, Advances, Breaks, Replies, BeginsReply, IsLateFault, IsStartedFault, IsRunFault, EndsWith, Exchanges, FollowsBlock, RunEnds};
+ghost use Rattle.scripts.specs.Output.{IsOutput, IsWholeOutput, IsBeginning, IsLateFault, IsStartedFault, IsRunFault, Exchanges};
+ghost use Rattle.scripts.specs.Progress.{IsLine, Answers, Advances, Breaks, Replies, BeginsReply, EndsWith, FollowsBlock, RunEnds};
 
 use crate::answering::too_long;
 use crate::desk::Desk;

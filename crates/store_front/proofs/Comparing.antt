@@ -4,7 +4,7 @@ use Rattle.std.specs.Prelude.{◌==◌, cond, count_by, nat_lt, if◌then◌else
 use Rattle.std.proofs.lemmas.Bool.{eq-eqb, ne_eqb, cases_lt}
 use Rattle.std.proofs.lemmas.List.{take_all, get_or-set_same, get_or-set_other}
 use Rattle.std.proofs.lemmas.List.Sums.{length-filter}
-use Rattle.meta_types.specs.Steps.{Entry}
+use Rattle.meta_types.specs.Histories.{Entry}
 use Rattle.store_front.specs.Told.{Seat}
 use Rattle.store_front.specs.Parts.{part, told_of, IsPart, AreOpened}
 use Rattle.store_front.specs.Finish.{AreEach, OneDiffers}

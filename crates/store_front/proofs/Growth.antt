@@ -4,10 +4,10 @@ use Rattle.std.proofs.Common.{inl, inr, add-zero, rules, ◌<◌, ◌+◌, ◌�
 use Rattle.std.specs.Prelude.{Bool, true, false, IsTrue, Option, Some, None, Result, Ok, Err, IsOk, IfErr, is_some, if◌then◌else◌}
 use Rattle.std.specs.Option.{option_map_or}
 use Rattle.meta_types.specs.Rows.{State}
-use Rattle.meta_types.specs.Outcomes.{least_fault}
-use Rattle.meta_types.specs.Requests.{outcome}
-use Rattle.meta_types.specs.Requests.{outcome as asked_outcome}
-use Rattle.meta_types.specs.Steps.{Answer, answered, refused, Event, requested, Step, Entry, failed_in, IsLegal}
+use Rattle.meta_types.specs.Ops.{least_fault}
+use Rattle.meta_types.specs.Requests.{outcome, outcome as asked_outcome}
+use Rattle.meta_types.specs.Steps.{Answer, answered, refused, Event, requested}
+use Rattle.meta_types.specs.Histories.{Step, Entry, failed_in, IsLegal}
 use Rattle.meta_types.specs.declared.request.Request.{Request}
 use Rattle.meta_types.specs.declared.reply.Reply.{Reply}
 use Rattle.meta_types.specs.declared.fault.Fault.{Fault}

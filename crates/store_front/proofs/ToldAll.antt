@@ -4,7 +4,7 @@ use Rattle.std.specs.Prelude.{◌==◌, cond, filter, map, All, if◌then◌else
 use Rattle.std.proofs.lemmas.Bool.{eq-eqb}
 use Rattle.std.proofs.lemmas.Bool.Decides.{Decides-eqb}
 use Rattle.std.proofs.lemmas.List.Sums.{length-filter}
-use Rattle.meta_types.specs.Steps.{Entry}
+use Rattle.meta_types.specs.Histories.{Entry}
 use Rattle.store_front.specs.Told.{Seat}
 use Rattle.store_front.specs.Parts.{part, told_of, IsPart, AreOpened}
 use Rattle.store_front.specs.Finish.{AreEach, told_to}

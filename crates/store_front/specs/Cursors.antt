@@ -1,6 +1,6 @@
 -- How far the sessions' lists are compared with the log.
 use Rattle.std.specs.Prelude.{ℕ, ◌≡◌, ◌≢◌, ◌<◌, ◌≤◌, List, take, length, slice_index_or}
-use Rattle.meta_types.specs.Steps.{Entry}
+use Rattle.meta_types.specs.Histories.{Entry}
 use Rattle.store_front.specs.Told.{Seat}
 use Rattle.store_front.specs.Parts.{part}
 

@@ -1,7 +1,7 @@
 -- What a cut and a finish refuse, and what they give.
 use Rattle.std.specs.Prelude.{ℕ, zero, suc, ◌≡◌, ◌<◌, ◌+◌, ◌==◌, List, [], ◌∷◌, count_by, length, slice_index_or, nat_lt, if◌then◌else◌, ⊤}
 use Rattle.meta_types.specs.Rows.{State}
-use Rattle.meta_types.specs.Steps.{Entry, IsLegal}
+use Rattle.meta_types.specs.Histories.{Entry, IsLegal}
 use Rattle.meta_types.specs.declared.fault.Fault.{Fault}
 use Rattle.meta_types.specs.declared.fault.Fault.TheVariants.{InvalidArgument, NotFound, AlreadyExists, FailedPrecondition, BadLine, TooLong, OutOfMemory, NoWorker, BackendFailed, ReadFailed, WriteFailed, Mismatch}
 use Rattle.store_front.specs.Told.{Told, Seat, Course}

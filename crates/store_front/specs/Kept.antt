@@ -2,7 +2,8 @@
 use Rattle.std.specs.Prelude.{◌≡◌, Bool, true, false, ℕ, List, [], ◌∷◌, ◌++◌, Option, Some, None, Result, Ok, Err}
 use Rattle.meta_types.specs.Rows.{State}
 use Rattle.meta_types.specs.Reports.{Report}
-use Rattle.meta_types.specs.Steps.{Answer, answered, reported, refused, Event, Step, Entry, failed_in}
+use Rattle.meta_types.specs.Steps.{Answer, answered, reported, refused, Event}
+use Rattle.meta_types.specs.Histories.{Step, Entry, failed_in}
 use Rattle.meta_types.specs.declared.reply.Reply.{Reply}
 use Rattle.meta_types.specs.declared.fault.Fault.{Fault}
 use Rattle.meta_types.specs.declared.fault.Fault.TheVariants.{InvalidArgument, NotFound, AlreadyExists, FailedPrecondition, BadLine, TooLong, OutOfMemory, NoWorker, BackendFailed, ReadFailed, WriteFailed, Mismatch}

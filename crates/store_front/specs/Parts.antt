@@ -1,6 +1,6 @@
 -- A session's part of the log, beside its list.
 use Rattle.std.specs.Prelude.{ℕ, ◌≡◌, ◌≢◌, ◌<◌, ◌==◌, take, slice_get, List, All, filter, map}
-use Rattle.meta_types.specs.Steps.{Entry}
+use Rattle.meta_types.specs.Histories.{Entry}
 use Rattle.store_front.specs.Told.{Told, Seat}
 
 -- an entry without its session (ours)

@@ -1,7 +1,8 @@
 -- What a session was told, and what the locked store is.
 use Rattle.std.specs.Prelude.{ℕ, List}
 use Rattle.meta_types.specs.Rows.{State}
-use Rattle.meta_types.specs.Steps.{Answer, Event, Entry}
+use Rattle.meta_types.specs.Steps.{Answer, Event}
+use Rattle.meta_types.specs.Histories.{Entry}
 
 -- an event with its answer (ours)
 pub record Told : Type 0 where

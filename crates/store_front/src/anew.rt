@@ -1,6 +1,6 @@
 //! A history begun anew.
 ghost use Rattle.std.specs.Prelude.{◌≡◌, ◌↔◌, Err, [], IfOk, IfErr, OnOk, OnErr, All, map};
-ghost use Rattle.meta_types.specs.Steps.{IsLegal};
+ghost use Rattle.meta_types.specs.Histories.{IsLegal};
 ghost use Rattle.meta_types.specs.declared.fault.Fault.TheVariants.{InvalidArgument};
 ghost use Rattle.store_front.specs.Finish.{FinishFails, AreEach, fresh};
 ghost use Rattle.store_front.specs.Parts.{IsPart, AreOpened};

@@ -1,7 +1,7 @@
 //! Requests.
 ghost use Rattle.std.specs.Prelude.{◌≡◌, ◌+◌, ◌<◌, IfErr};
 ghost use Rattle.meta_types.specs.Steps.{requested};
-ghost use Rattle.meta_types.specs.Outcomes.{least_fault};
+ghost use Rattle.meta_types.specs.Ops.{least_fault};
 ghost use Rattle.meta_types.specs.Requests.{outcome};
 ghost use Rattle.request_core.specs.Follows.{Fails};
 ghost use Rattle.store_front.specs.Kept.{kept_if, kept_reply, Takes, log_after, list_after, reply_failures};

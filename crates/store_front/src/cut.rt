@@ -1,6 +1,6 @@
 //! Histories so far, and at the end.
 ghost use Rattle.std.specs.Prelude.{◌≡◌, ◌↔◌, Err, IfOk, IfErr, OnOk, All};
-ghost use Rattle.meta_types.specs.Steps.{IsLegal};
+ghost use Rattle.meta_types.specs.Histories.{IsLegal};
 ghost use Rattle.meta_types.specs.declared.fault.Fault.TheVariants.{InvalidArgument};
 ghost use Rattle.store_front.specs.Finish.{CutFails, FinishFails, AreEach};
 ghost use Rattle.store_front.specs.Parts.{part, IsPart, AreOpened};

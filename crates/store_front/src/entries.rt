@@ -12,7 +12,7 @@ pub struct Entry {
 }
 
 impl Model for Entry {
-    ghost use Rattle.meta_types.specs.Steps.{Entry as Line};
+    ghost use Rattle.meta_types.specs.Histories.{Entry as Line};
     ghost use Rattle.store_front.specs.Entries.{event_of, answer_of};
 
     ghost Value = { Line };

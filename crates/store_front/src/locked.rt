@@ -1,7 +1,7 @@
 //! The value behind the lock.
 ghost use Rattle.std.specs.Prelude.{◌≡◌, ◌+◌, [], None, IfOk, IfErr, OnOk, OnErr, max};
 ghost use Rattle.meta_types.specs.Faults.{Refuses};
-ghost use Rattle.meta_types.specs.Scripts.{empty_store};
+ghost use Rattle.meta_types.specs.Rows.{empty_store};
 ghost use Rattle.meta_types.specs.Sound.{IsSound};
 ghost use Rattle.meta_types.specs.declared.fault.Fault.TheVariants.{FailedPrecondition};
 
@@ -50,7 +50,7 @@ impl<L: Ledger, S: SnapBackend, B: BlobBackend, I: IngestBackend, K: Keeps> Mode
 
     ghost Value = { Front };
 
-    ghost use Rattle.meta_types.specs.Steps.{IsLegal};
+    ghost use Rattle.meta_types.specs.Histories.{IsLegal};
     ghost use Rattle.meta_types.specs.Sound.{IsSound};
     ghost use Rattle.store_front.specs.Parts.{AreOpened};
 

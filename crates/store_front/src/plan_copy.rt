@@ -4,7 +4,7 @@ ghost use Rattle.meta_types.specs.Limits.{is_worker_count};
 ghost use Rattle.meta_types.specs.Reports.{Plans};
 ghost use Rattle.meta_types.specs.Rows.{State as Kept};
 ghost use Rattle.meta_types.specs.Sound.{IsSound};
-ghost use Rattle.meta_types.specs.Steps.{IsLegal};
+ghost use Rattle.meta_types.specs.Histories.{IsLegal};
 ghost use Rattle.meta_types.specs.declared.fault.Fault.TheVariants.{InvalidArgument};
 ghost use Rattle.store_front.specs.Finish.{CutFails};
 ghost use Rattle.store_front.specs.Parts.{part, IsPart};

@@ -2,11 +2,12 @@
 ghost use Rattle.std.specs.Prelude.{◌≡◌, ◌↔◌, ℕ, List, [], Err, None, IfOk, IfErr, OnOk, OnErr, All, map, false};
 ghost use Rattle.meta_types.specs.Faults.{Refuses};
 ghost use Rattle.meta_types.specs.Limits.{is_worker_count};
-ghost use Rattle.meta_types.specs.Outcomes.{least_fault};
+ghost use Rattle.meta_types.specs.Ops.{least_fault};
 ghost use Rattle.meta_types.specs.Requests.{outcome};
 ghost use Rattle.meta_types.specs.Rows.{State as Stored};
 ghost use Rattle.meta_types.specs.Sound.{IsSound};
-ghost use Rattle.meta_types.specs.Steps.{Entry, requested, collect, collect_fault, remove_collect, remove_collect_fault};
+ghost use Rattle.meta_types.specs.Histories.{Entry};
+ghost use Rattle.meta_types.specs.Steps.{requested, collect, collect_fault, remove_collect, remove_collect_fault};
 ghost use Rattle.meta_types.specs.declared.fault.Fault.TheVariants.{InvalidArgument, FailedPrecondition};
 ghost use Rattle.request_core.specs.Follows.{Fails};
 ghost use Rattle.collecting.specs.Refused.{CollectFails};

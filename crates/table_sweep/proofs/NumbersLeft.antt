@@ -6,7 +6,7 @@ use Rattle.std.proofs.lemmas.List.Kept.{AllPairs-filter}
 use Rattle.meta_types.specs.Rows.{Records}
 use Rattle.meta_types.specs.Paths.{Thing, TellsReached}
 use Rattle.meta_types.specs.Collected.{snapshot_stays, ingest_stays}
-use Rattle.meta_types.specs.SnapshotOps.{is_committed}
+use Rattle.meta_types.specs.Ops.Snapshots.{is_committed}
 use Rattle.meta_types.specs.Sound.{HasParent, AreNumbered}
 use Rattle.meta_types.specs.declared.rows.IngestRow.{IngestRow}
 use Rattle.meta_types.specs.declared.rows.SnapRow.{SnapRow}

@@ -1,7 +1,7 @@
 use Rattle.std.proofs.Common.{◌≡◌, ◌∷◌, [], take, if◌then◌else◌}
 use Rattle.std.specs.Prelude.{◌&&◌}
 use Rattle.std.specs.List.{flat_map}
-use Rattle.meta_types.specs.Labels.{is_unreadable}
+use Rattle.meta_types.specs.CollectorLabels.{is_unreadable}
 use Rattle.meta_types.specs.Paths.{images_expire}
 use Rattle.gc_graph.proofs.ignored.ignored_images.Given as goal
 

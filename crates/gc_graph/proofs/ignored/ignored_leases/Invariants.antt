@@ -1,6 +1,6 @@
 use Rattle.std.proofs.Common.{◌≡◌, ◌∷◌, [], take, if◌then◌else◌}
 use Rattle.std.specs.List.{flat_map}
-use Rattle.meta_types.specs.Labels.{is_unreadable}
+use Rattle.meta_types.specs.CollectorLabels.{is_unreadable}
 use Rattle.gc_graph.proofs.ignored.ignored_leases.Given as goal
 
 -- the names of the rows so far are there

@@ -1,5 +1,5 @@
 use Rattle.std.proofs.Common.{arith, Bor}
-use Rattle.meta_types.specs.Labels.{is_marked_root}
+use Rattle.meta_types.specs.CollectorLabels.{is_marked_root}
 use Rattle.meta_types.specs.declared.rows.SnapRow.{SnapRow}
 use Rattle.gc_graph.proofs.Places.{places_step}
 use Rattle.gc_graph.proofs.roots.push_marked_snapshots.Goals as goal

@@ -1,5 +1,5 @@
 use Rattle.std.proofs.Common.{◌≡◌, ◌++◌, ◌+◌, take}
-use Rattle.meta_types.specs.Labels.{is_marked_root}
+use Rattle.meta_types.specs.CollectorLabels.{is_marked_root}
 use Rattle.gc_graph.specs.Built.{places}
 use Rattle.gc_graph.proofs.roots.push_marked_snapshots.Given as goal
 

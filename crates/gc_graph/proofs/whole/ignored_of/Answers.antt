@@ -1,7 +1,7 @@
 use Rattle.std.proofs.Common.{◌∙◌, Bor}
 use Rattle.std.specs.Prelude.{◌&&◌}
 use Rattle.meta_types.specs.Rows.{LeaseRow}
-use Rattle.meta_types.specs.Labels.{is_unreadable}
+use Rattle.meta_types.specs.CollectorLabels.{is_unreadable}
 use Rattle.meta_types.specs.Paths.{images_expire}
 use Rattle.meta_types.specs.declared.rows.ImageRow.{ImageRow}
 use Rattle.gc_graph.proofs.Places.{held_names_of}

@@ -2,7 +2,7 @@ use Rattle.std.proofs.Common.{◌≡◌, false, take, drop, ◌++◌, sym, ap, �
 use Rattle.std.proofs.lemmas.List.{take-append-drop}
 use Rattle.std.proofs.lemmas.Slice.Eq.{bytes_eq-Decides}
 use Rattle.std.proofs.lemmas.Bool.{false_from_ne_true}
-use Rattle.meta_types.specs.Labels.{begins_with}
+use Rattle.meta_types.specs.Text.{begins_with}
 use Rattle.gc_labels.proofs.keys.snapshot_ref.Goals as goal
 
 -- a key that isn't the prefix and a rest doesn't begin with it

@@ -1,7 +1,7 @@
 use Rattle.std.proofs.Common.{rules, ◌≡◌, ◌≢◌, ◌∙◌, ◌<◌, ℕ, length, slice_index_or, sym, ap, subst}
 use Rattle.std.specs.Prelude.{count_by, ◌==◌, slice_get, Some}
 use Rattle.std.proofs.lemmas.Option.{slice_get_within}
-use Rattle.meta_types.specs.Steps.{Entry}
+use Rattle.meta_types.specs.Histories.{Entry}
 use Rattle.store_front.specs.Told.{Seat}
 use Rattle.store_front.specs.Parts.{told_of}
 use Rattle.store_front.proofs.Comparing.{entry_counted, reads_on, reads_another, at_end}

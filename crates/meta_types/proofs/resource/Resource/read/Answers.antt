@@ -3,8 +3,7 @@ use Rattle.std.specs.Prelude.{bytes_eq, ◌&&◌, is_some}
 use Rattle.std.proofs.lemmas.List.{take-append-drop}
 use Rattle.std.proofs.lemmas.Slice.Eq.{bytes_eq-Decides}
 use Rattle.std.proofs.lemmas.Bool.{false_from_ne_true}
-use Rattle.meta_types.specs.Text.{is_digest, is_name, is_short_name}
-use Rattle.meta_types.specs.Labels.{begins_with}
+use Rattle.meta_types.specs.Text.{is_digest, is_name, is_short_name, begins_with}
 use Rattle.meta_types.specs.Resources.{resource_of}
 use Rattle.meta_types.specs.declared.resource.Resource.TheVariants.{Content, Snapshot, Ingest}
 use Rattle.meta_types.proofs.ResourceReads.{is_some_if, refuses_as}

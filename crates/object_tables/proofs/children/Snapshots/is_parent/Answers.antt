@@ -1,7 +1,7 @@
 use Rattle.std.proofs.Common.{List, length, not, sym, ap, ◌∙◌}
 use Rattle.std.specs.Prelude.{◌==◌}
 use Rattle.std.specs.List.{list_any}
-use Rattle.meta_types.specs.SnapshotOps.{is_child_of}
+use Rattle.meta_types.specs.Ops.Snapshots.{is_child_of}
 use Rattle.meta_types.specs.declared.rows.SnapRow.{SnapRow}
 use Rattle.object_tables.specs.Children.{NamesByParent}
 use Rattle.object_tables.proofs.NamesUnder.{some_named}

@@ -4,7 +4,7 @@ use Rattle.meta_types.specs.Keys.{row_at, has_row, are_in_order}
 use Rattle.meta_types.specs.Text.{Text}
 use Rattle.meta_types.specs.Labels.{LabelList}
 use Rattle.meta_types.specs.Rows.{Tables, snap_key}
-use Rattle.meta_types.specs.SnapshotOps.{is_active, committed}
+use Rattle.meta_types.specs.Ops.Snapshots.{is_active, committed}
 use Rattle.meta_types.specs.declared.rows.SnapRow.{SnapRow}
 use Rattle.object_tables.specs.Calls.{committing_fault}
 use Rattle.object_tables.proofs.Above.{passed}

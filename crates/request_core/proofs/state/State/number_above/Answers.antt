@@ -3,7 +3,7 @@ use Rattle.std.specs.Prelude.{option_map}
 use Rattle.std.specs.Option.{option_map_or}
 use Rattle.std.specs.List.{list_any}
 use Rattle.meta_types.specs.Backends.{is_named}
-use Rattle.meta_types.specs.SnapshotOps.{parent_row}
+use Rattle.meta_types.specs.Ops.Snapshots.{parent_row}
 use Rattle.meta_types.specs.declared.rows.SnapRow.{SnapRow}
 use Rattle.request_core.specs.Follows.{Store}
 use Rattle.request_core.proofs.Prepared.{object_free, parent_held}

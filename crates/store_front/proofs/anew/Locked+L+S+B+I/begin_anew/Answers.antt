@@ -1,6 +1,6 @@
 use Rattle.std.proofs.Common.{rules, ◌≡◌, ◌∙◌, ◌+◌, [], List, refl, sym, ap, subst, arith, length}
 use Rattle.std.specs.Vec.{vec_len}
-use Rattle.meta_types.specs.Steps.{Entry, IsLegal}
+use Rattle.meta_types.specs.Histories.{Entry, IsLegal}
 use Rattle.store_front.specs.Front.{Front}
 use Rattle.store_front.specs.Finish.{told_to}
 use Rattle.store_front.specs.Parts.{AreOpened}

@@ -1,5 +1,5 @@
 use Rattle.std.proofs.Common.{◌∙◌, sym, ap, subst}
-use Rattle.meta_types.specs.Steps.{IsLegal}
+use Rattle.meta_types.specs.Histories.{IsLegal}
 use Rattle.store_front.specs.Front.{Front}
 use Rattle.store_front.specs.Told.{Course}
 use Rattle.store_front.specs.Parts.{AreOpened}

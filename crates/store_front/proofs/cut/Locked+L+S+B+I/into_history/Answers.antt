@@ -1,5 +1,5 @@
 use Rattle.std.proofs.Common.{refl, subst}
-use Rattle.meta_types.specs.Steps.{IsLegal}
+use Rattle.meta_types.specs.Histories.{IsLegal}
 use Rattle.store_front.specs.Front.{Front}
 use Rattle.store_front.specs.Parts.{AreOpened}
 use Rattle.store_front.proofs.cut.Locked+L+S+B+I.into_history.Goals as goal

@@ -1,5 +1,6 @@
 use Rattle.std.proofs.Common.{rules, ◌<◌, ◌+◌, ◌∙◌, sym, ap, subst, List}
-use Rattle.meta_types.specs.Steps.{IsLegal, Entry, requested}
+use Rattle.meta_types.specs.Histories.{IsLegal, Entry}
+use Rattle.meta_types.specs.Steps.{requested}
 use Rattle.store_front.specs.Front.{Front}
 use Rattle.store_front.specs.Kept.{kept_reply, log_after, Takes, reply_failures}
 use Rattle.store_front.specs.Parts.{AreOpened}

@@ -1,7 +1,8 @@
 use Rattle.std.proofs.Common.{rules, ◌<◌, ◌∙◌, sym, subst, List}
 use Rattle.std.specs.Prelude.{Result}
 use Rattle.meta_types.specs.Reports.{Report}
-use Rattle.meta_types.specs.Steps.{IsLegal, Entry, remove_collect}
+use Rattle.meta_types.specs.Histories.{IsLegal, Entry}
+use Rattle.meta_types.specs.Steps.{remove_collect}
 use Rattle.meta_types.specs.declared.fault.Fault.{Fault}
 use Rattle.store_front.specs.Kept.{kept_report, log_after, Takes}
 use Rattle.store_front.specs.Parts.{AreOpened}

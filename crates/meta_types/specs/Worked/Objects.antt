@@ -1,17 +1,17 @@
 -- Whole scripts with snapshots, ingests and labels: the report of a collection, and the store that it leaves. All of them are ours.
 use Rattle.std.specs.Prelude.{ℕ, List, [], ◌∷◌, ◌++◌, codes, Option, Some, None, pos}
 use Rattle.meta_types.specs.Text.{Text}
-use Rattle.meta_types.specs.Rows.{State, BackSnap}
+use Rattle.meta_types.specs.Rows.{State, BackSnap, empty_store}
 use Rattle.meta_types.specs.declared.rows.SnapRow.{SnapRow}
 use Rattle.meta_types.specs.declared.rows.SnapKind.{SnapKind}
 use Rattle.meta_types.specs.declared.rows.SnapKind.TheVariants.{Active, Committed}
 use Rattle.meta_types.specs.declared.resource.Resource.TheVariants.{Snapshot}
 use Rattle.meta_types.specs.Backends.{no_objects}
 use Rattle.meta_types.specs.Reports.{Collects}
-use Rattle.meta_types.specs.Scripts.{empty_store, after_all, a, b, c, d, x, i, l, overlayfs, native, first_of_march, first_of_march_text, adds, content_label, chain, one_namespace, nothing_removed, plain_report}
+use Rattle.meta_types.specs.Worked.{after_all, a, b, c, d, x, i, l, overlayfs, native, first_of_march, first_of_march_text, adds, content_label, chain, one_namespace, nothing_removed, plain_report}
 use Rattle.meta_types.specs.declared.request.Request.{Request}
 use Rattle.meta_types.specs.declared.request.Request.TheVariants.{NsAdd, ImageAdd, ContainerAdd, IngestBegin, SnapPrepare, LeaseAdd, LeaseHold}
-use Rattle.meta_types.specs.Worked.{flat_label, namespace_alone}
+use Rattle.meta_types.specs.Worked.Images.{flat_label, namespace_alone}
 
 -- four snapshots, one over the other, the last with a label
 abbrev pub chain_held : List Request

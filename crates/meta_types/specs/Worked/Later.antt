@@ -1,11 +1,12 @@
 -- Whole scripts: images that expire, and a removal with a collection.
 use Rattle.std.specs.Prelude.{◌≡◌, [], ◌∷◌, codes, Some}
-use Rattle.meta_types.specs.Rows.{State}
+use Rattle.meta_types.specs.Rows.{State, empty_store}
 use Rattle.meta_types.specs.Backends.{no_objects}
 use Rattle.meta_types.specs.Reports.{Collects}
 use Rattle.meta_types.specs.Requests.{removal_outcome}
-use Rattle.meta_types.specs.Steps.{Step, refused, reported, answered, answer_to, remove_collect}
-use Rattle.meta_types.specs.Scripts.{empty_store, after_all, a, x, i, l, first_of_march, first_of_march_text, just_after, adds, one_namespace, nothing_removed, report_with, plain_report}
+use Rattle.meta_types.specs.Histories.{Step}
+use Rattle.meta_types.specs.Steps.{refused, reported, answered, answer_to, remove_collect}
+use Rattle.meta_types.specs.Worked.{after_all, a, x, i, l, first_of_march, first_of_march_text, just_after, adds, one_namespace, nothing_removed, report_with, plain_report}
 use Rattle.meta_types.specs.declared.fault.Fault.TheVariants.{NotFound}
 use Rattle.meta_types.specs.declared.reply.Reply.TheVariants.{Names}
 use Rattle.meta_types.specs.declared.request.Request.TheVariants.{NsAdd, ImageAdd, ContentAdd, LeaseAdd, LeaseList, Profile}

@@ -4,7 +4,7 @@ use Rattle.meta_types.specs.Text.{Text, is_short_name}
 use Rattle.meta_types.specs.Keys.{add_row, remove_row}
 use Rattle.meta_types.specs.Rows.{Records, State, namespace_key}
 use Rattle.meta_types.specs.Changes.{has_namespace, is_in_use, has_lease_in, with_namespaces, all_of}
-use Rattle.meta_types.specs.Outcomes.{Outcome, done, lacks}
+use Rattle.meta_types.specs.Ops.{Outcome, done, lacks}
 use Rattle.meta_types.specs.declared.reply.Reply.TheVariants as R
 
 -- adds a namespace (containerd namespaces service, Create)

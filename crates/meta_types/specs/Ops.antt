@@ -1,4 +1,11 @@
--- What a request may come to: which faults apply, and what comes where none does.
+-- What a request may come to: which faults apply, and what comes where none does. The files of Ops say it of each request.
+pub mod Namespaces
+pub mod Images
+pub mod Containers
+pub mod Content
+pub mod Ingests
+pub mod Snapshots
+pub mod Leases
 use Rattle.std.specs.Prelude.{Bool, not, ◌||◌, false, true, List, [], ◌∷◌, map, Option, filter, bytes_eq}
 use Rattle.std.specs.Option.{option_map_or}
 use Rattle.meta_types.specs.Text.{Text}

@@ -1,12 +1,12 @@
 -- A whole script with a device that fails: a chain of four snapshots that nothing holds, whose device passes so many calls and then fails one. All of it is ours.
 use Rattle.std.specs.Prelude.{ℕ, List, [], ◌∷◌, Some, None}
 use Rattle.meta_types.specs.Text.{Text}
-use Rattle.meta_types.specs.Rows.{State, BackSnap}
+use Rattle.meta_types.specs.Rows.{State, BackSnap, empty_store}
 use Rattle.meta_types.specs.Backends.{BackNames, no_objects}
 use Rattle.meta_types.specs.Reports.{Collects}
-use Rattle.meta_types.specs.Scripts.{empty_store, after_all, x, overlayfs, first_of_march, chain, one_namespace, nothing_removed, plain_report}
+use Rattle.meta_types.specs.Worked.{after_all, x, overlayfs, first_of_march, chain, one_namespace, nothing_removed, plain_report}
 use Rattle.meta_types.specs.declared.request.Request.TheVariants.{NsAdd}
-use Rattle.meta_types.specs.WorkedObjects.{chain_object, chain_names, used_up_to}
+use Rattle.meta_types.specs.Worked.Objects.{chain_object, chain_names, used_up_to}
 
 -- four snapshots, one over the other, that nothing holds
 abbrev pub free_chain : State

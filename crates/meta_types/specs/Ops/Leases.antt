@@ -7,7 +7,7 @@ use Rattle.meta_types.specs.Labels.{labels_of, are_labels, put_label}
 use Rattle.meta_types.specs.Resources.{resource_of}
 use Rattle.meta_types.specs.Rows.{State, lease_key}
 use Rattle.meta_types.specs.Changes.{with_leases, holds_in, hold_in, drop_in, all_of}
-use Rattle.meta_types.specs.Outcomes.{Outcome, done, labelled, row_reply, names_in, lacks}
+use Rattle.meta_types.specs.Ops.{Outcome, done, labelled, row_reply, names_in, lacks}
 use Rattle.meta_types.specs.declared.reply.Row.TheVariants as W
 use Rattle.meta_types.specs.declared.reply.Reply.TheVariants as R
 

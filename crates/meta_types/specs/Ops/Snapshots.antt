@@ -8,7 +8,7 @@ use Rattle.meta_types.specs.Labels.{LabelList, labels_of, are_labels, put_label}
 use Rattle.meta_types.specs.Rows.{State, snap_key}
 use Rattle.meta_types.specs.Limits.{is_out_of_numbers}
 use Rattle.meta_types.specs.Changes.{with_snapshots, with_snapshot_object, holding, is_allowed_if, all_of}
-use Rattle.meta_types.specs.Outcomes.{Outcome, Findings, in_store, done, labelled, row_reply, lacks}
+use Rattle.meta_types.specs.Ops.{Outcome, Findings, in_store, done, labelled, row_reply, lacks}
 use Rattle.meta_types.specs.declared.rows.SnapRow.{SnapRow}
 use Rattle.meta_types.specs.declared.rows.SnapKind.{SnapKind}
 use Rattle.meta_types.specs.declared.rows.SnapKind.TheVariants.{Active, View, Committed}

@@ -1,0 +1,71 @@
+-- What requests on images do. The state is that before the request.
+use Rattle.std.specs.Prelude.{not, ◌||◌, List, [], ◌∷◌, None, is_none}
+use Rattle.meta_types.specs.Text.{Text, is_short_name, is_name, is_digest}
+use Rattle.meta_types.specs.Keys.{row_at, has_row, add_row, remove_row, change_row}
+use Rattle.meta_types.specs.Labels.{labels_of, are_labels, put_label}
+use Rattle.meta_types.specs.Rows.{State, image_key}
+use Rattle.meta_types.specs.Changes.{with_images, all_of}
+use Rattle.meta_types.specs.Ops.{Outcome, done, labelled, row_reply, names_in, lacks}
+use Rattle.meta_types.specs.declared.reply.Row.TheVariants as W
+use Rattle.meta_types.specs.declared.reply.Reply.TheVariants as R
+
+-- adds an image; its target needn't be stored (containerd image store, Create)
+abbrev pub adds_image : State → Text → Text → Text → List (Text × Text) → Outcome
+adds_image state ns name target labels =
+    let rows = state.records.tables.images in
+    record (done state) {
+      invalid = not (all_of (is_short_name ns ∷ is_name name ∷ is_digest target ∷ are_labels labels ∷ []));
+      missing = lacks state ns None;
+      there = has_row image_key (ns ∷ name ∷ []) rows;
+      after = with_images state (add_row image_key (record { ns = ns; name = name; target = target; labels = labels_of labels }) rows);
+    }
+
+-- sets an image's target, and keeps its labels (containerd image store, Update)
+abbrev pub targets_image : State → Text → Text → Text → Outcome
+targets_image state ns name target =
+    let rows = state.records.tables.images in
+    record (done state) {
+      invalid = not (all_of (is_short_name ns ∷ is_name name ∷ is_digest target ∷ []));
+      missing = not (has_row image_key (ns ∷ name ∷ []) rows);
+      after = with_images state (change_row image_key (ns ∷ name ∷ []) (λ row. record row { target = target }) rows);
+    }
+
+-- removes an image's row (containerd image store, Delete)
+abbrev pub removes_image : State → Text → Text → Outcome
+removes_image state ns name =
+    let rows = state.records.tables.images in
+    record (done state) {
+      invalid = not (all_of (is_short_name ns ∷ is_name name ∷ []));
+      missing = not (has_row image_key (ns ∷ name ∷ []) rows);
+      after = with_images state (remove_row image_key (ns ∷ name ∷ []) rows);
+    }
+
+-- shows an image (containerd image store, Get)
+abbrev pub gets_image : State → Text → Text → Outcome
+gets_image state ns name =
+    let found = row_at image_key (ns ∷ name ∷ []) state.records.tables.images in
+    record (done state) {
+      invalid = not (all_of (is_short_name ns ∷ is_name name ∷ []));
+      missing = is_none found;
+      reply = row_reply W.Image found;
+    }
+
+-- the names of a namespace's images (containerd image store, List)
+abbrev pub lists_images : State → Text → Outcome
+lists_images state ns =
+    record (done state) {
+      invalid = not (all_of (is_short_name ns ∷ []));
+      missing = lacks state ns None;
+      reply = R.Names (names_in (λ row. row.ns) (λ row. row.name) ns state.records.tables.images);
+    }
+
+-- puts one label on an image (containerd image store, Update)
+abbrev pub labels_image : State → Text → Text → Text → Text → Outcome
+labels_image state ns name key value =
+    let rows = state.records.tables.images in
+    let found = row_at image_key (ns ∷ name ∷ []) rows in
+    record (done state) {
+      invalid = not (all_of (is_short_name ns ∷ is_name name ∷ [])) || not (all_of (labelled (λ row. row.labels) key value found));
+      missing = is_none found;
+      after = with_images state (change_row image_key (ns ∷ name ∷ []) (λ row. record row { labels = put_label key value row.labels }) rows);
+    }
