@@ -1,4 +1,4 @@
--- Rows as they came, seen in the order of their keys.
+-- Rows as they came, seen in the order of their keys. Ours, unless a source stands beside.
 use Rattle.std.specs.Prelude.{◌≡◌, ℕ, ◌<◌, ◌&&◌, true, false, List, [], ◌∷◌, Bool, All, Option, Some, None, length, slice_index_or, ◌≤◌, if◌then◌else◌, bytes_eq}
 use Rattle.std.proofs.Common.{refl}
 use Rattle.std.specs.Cmp.{IsEquivalence}
@@ -12,7 +12,7 @@ use Rattle.meta_types.specs.declared.fault.Fault.{Fault}
 use Rattle.meta_types.specs.declared.fault.Fault.TheVariants.{AlreadyExists, OutOfMemory}
 use Rattle.meta_types.specs.Keys.{Key, is_key, is_before, in_order, row_at, change_row}
 
--- a name that is one text (ours)
+-- a name that is one text
 abbrev pub one_text : Text → Key
 one_text text = text ∷ []
 
@@ -20,33 +20,33 @@ pub same_text : (a b : Text) → bytes_eq a b ≡ is_key (one_text a) (one_text 
 same_text a b = elim (bytes_eq a b) as (λ v. v ≡ (v && true)) [ true ↦ refl | false ↦ refl ]
 
 module _ {Row : Type 0} (key_of : Row → Key) where
-  -- the rows in the order of their keys (ours)
+  -- the rows in the order of their keys
   abbrev pub sorted : List Row → List Row
   sorted rows = in_order (λ a b. is_before (key_of a) (key_of b)) rows
 
-  -- two rows have one key (ours)
+  -- two rows have one key
   abbrev pub same_key : Row → Row → Bool
   same_key a b = is_key (key_of a) (key_of b)
 
-  -- the row of the key became another (ours)
+  -- the row of the key became another
   pub record Becomes (key : Key) (row after : Row) (old new : List Row) : Type 0 where
     pub there : row_at key_of key old ≡ Some row
     pub rows : new ≡ change_row key_of key (λ _. after) old
 
--- a row's key in its table: the texts of its name (ours)
+-- a row's key in its table: the texts of its name
 abbrev pub by_name : {K Row : Type 0} → (K → Key) → (Row → K) → Row → Key
 by_name texts_of name_of row = texts_of (name_of row)
 
--- each row stands under its own name, and no name stands twice (ours)
+-- each row stands under its own name, and no name stands twice
 pub record AreNamed {K Row : Type 0} (same : K → K → Bool) (name_of : Row → K) (entries : List (K × Row)) : Type 0 where
   pub own : All (λ e. name_of e.1 ≡ e.0) entries
   pub once : IsDistinct same (keys_of entries)
 
--- why no row is added where memory was refused: one has its name already, or for that alone (ours)
+-- why no row is added where memory was refused: one has its name already, or for that alone
 abbrev pub without_memory : Bool → Fault
 without_memory there = if there then AlreadyExists else OutOfMemory
 
--- the rows whose places are marked (ours)
+-- the rows whose places are marked
 abbrev pub kept : {Row : Type 0} → List Bool → List Row → List Row
 kept [] rows = []
 kept (stays ∷ marks) [] = []
@@ -54,23 +54,23 @@ kept (stays ∷ marks) (row ∷ rows) = if stays then row ∷ kept marks rows el
 
 -- ---- places
 
--- the places of so many rows, in their order (ours)
+-- the places of so many rows, in their order
 pub record ArePlaces (count : ℕ) (places : List ℕ) : Type 0 where
   pub len : length places ≡ count
   pub each : (i : ℕ) → i < count → slice_index_or places i 0 ≡ i
 
--- the first of these places have the marks of what stands there (ours)
+-- the first of these places have the marks of what stands there
 abbrev pub AreMarked : (ℕ → Bool) → List ℕ → ℕ → List Bool → Type 0
 AreMarked stays places count marks = (i : ℕ) → i < count → slice_index_or marks (slice_index_or places i 0) false ≡ stays (slice_index_or places i 0)
 
--- rows that were looked for stand in the order of their keys, and none before all (ours)
+-- rows that were looked for stand in the order of their keys, and none before all
 abbrev pub found_cmp : {Row : Type 0} → (Row → Key) → Option Row → Option Row → Ordering
 found_cmp key_of None None = Equal
 found_cmp key_of None (Some b) = Less
 found_cmp key_of (Some a) None = Greater
 found_cmp key_of (Some a) (Some b) = slice_cmp text_cmp (key_of a) (key_of b)
 
--- there is room for the places and for the marks of so many rows (ours)
+-- there is room for the places and for the marks of so many rows
 pub record HasRoom (count place_room mark_room : ℕ) : Type 0 where
   pub places : count ≤ place_room
   pub marks : count ≤ mark_room

@@ -1,12 +1,12 @@
--- What is told of rows that go.
+-- What is told of rows that go. Ours, unless a source stands beside.
 use Rattle.std.specs.Prelude.{Bool, List, [], ◌∷◌, map, not}
 use Rattle.arrival_table.specs.Arrived.{kept}
 
--- the rows whose places aren't marked (ours)
+-- the rows whose places aren't marked
 abbrev pub gone : {Row : Type 0} → List Bool → List Row → List Row
 gone marks rows = kept (map not marks) rows
 
--- what it becomes that is told of each row, from the first to the last (ours)
+-- what it becomes that is told of each row, from the first to the last
 abbrev pub all_parted : {P Row : Type 0} → (P → Row → P) → List Row → P → P
 all_parted parted [] told = told
 all_parted parted (row ∷ rows) told = all_parted parted rows (parted told row)

@@ -1,11 +1,11 @@
--- What a backend answers, and when.
+-- What a backend answers, and when. Ours, unless a source stands beside.
 use Rattle.std.specs.Prelude.{◌≡◌, ℕ, Bool, true, false, Result, Ok, Err}
 use Rattle.back_model.specs.declared.faults.MakeFault.{MakeFault}
 use Rattle.back_model.specs.declared.faults.MakeFault.TheVariants as M
 use Rattle.back_model.specs.declared.faults.RemoveFault.{RemoveFault}
 use Rattle.back_model.specs.declared.faults.RemoveFault.TheVariants as R
 
--- an object is Taken where it is held, else Missing where its parent isn't; else it is made, or the device failed, or memory was wanting (ours)
+-- an object is Taken where it is held, else Missing where its parent isn't; else it is made, or the device failed, or memory was wanting
 abbrev pub Makes : Result (Unit {0}) MakeFault → Bool → Bool → Type 0
 Makes (Ok _) held parent = (held ≡ false) × (parent ≡ true)
 Makes (Err M.Taken) held parent = held ≡ true
@@ -20,7 +20,7 @@ Removes (Err R.Missing) held child = held ≡ false
 Removes (Err R.HasChildren) held child = (held ≡ true) × (child ≡ true)
 Removes (Err R.Device) held child = (held ≡ true) × (child ≡ false)
 
--- how many failures of the device a making adds (ours)
+-- how many failures of the device a making adds
 abbrev pub make_fails : Result (Unit {0}) MakeFault → ℕ
 make_fails (Ok _) = 0
 make_fails (Err M.Taken) = 0
@@ -28,7 +28,7 @@ make_fails (Err M.Missing) = 0
 make_fails (Err M.Device) = 1
 make_fails (Err M.Memory) = 0
 
--- how many failures of the device a removal adds (ours)
+-- how many failures of the device a removal adds
 abbrev pub remove_fails : Result (Unit {0}) RemoveFault → ℕ
 remove_fails (Ok _) = 0
 remove_fails (Err R.Missing) = 0

@@ -1,4 +1,4 @@
--- Which names may be swept.
+-- Which names may be swept. Ours, unless a source stands beside.
 use Rattle.std.specs.Prelude.{◌≡◌, ◌<◌, true, Contains, AllPairs, IsTrue}
 use Rattle.meta_types.specs.Keys.{are_in_order}
 use Rattle.meta_types.specs.Rows.{Tables, BackLists, BackSnap, namespace_key}
@@ -6,7 +6,7 @@ use Rattle.meta_types.specs.Changes.{stands_before}
 use Rattle.meta_types.specs.Backends.{BackNames, no_objects, removed_objects, owns_snapshot}
 use Rattle.backend_sweep.specs.Shards.{IsAbove}
 
--- these names may be swept: some tables leave just them without an owner, and own the parent of each snapshot that they own; a parent's number is smaller, and all stand in order (ours)
+-- These names may be swept: some tables leave just them without an owner, and own the parent of each snapshot that they own. A parent's number is smaller, and all stand in order.
 pub record MaySweep (back : BackLists) (names : BackNames) : Type 0 where
   pub tables : Tables
   pub are : names ≡ removed_objects tables no_objects back

@@ -1,4 +1,4 @@
--- What sweeping one shard does.
+-- What sweeping one shard does. Ours, unless a source stands beside.
 use Rattle.std.specs.Prelude.{ℕ, ◌≡◌, ◌+◌, ◌-◌, ◌≤◌, Bool, true, false, ◌||◌, List, [], ◌∷◌, ◌++◌, length, Option, None, Some, cond, if◌then◌else◌, filter, ◌⊎◌}
 use Rattle.std.specs.FinMap as map
 use Rattle.backend_sweep.specs.Shards.{IsHeld, IsChild, has}
@@ -6,12 +6,12 @@ use Rattle.back_model.specs.Snaps.{Snaps}
 use Rattle.backend_sweep.specs.declared.shard_swept.Removal.{Removal}
 use Rattle.backend_sweep.specs.declared.shard_swept.Removal.TheVariants as R
 
--- numbers, and for how many more there is room (ours)
+-- numbers, and for how many more there is room
 pub record Roomy : Type 0 where
   pub numbers : List ℕ
   pub room : ℕ
 
--- what was removed, what the device failed, what was kept above a failed one, and the parents of the last two; and for how many more each list has room (ours)
+-- what was removed, what the device failed, what was kept above a failed one, and the parents of the last two; and for how many more each list has room
 pub record Swept : Type 0 where
   pub removed : List ℕ
   pub failed : List ℕ
@@ -34,15 +34,15 @@ Climbs m f (p ∷ ps) = IsChild m p f × Climbs m p ps
 abbrev pub IsAncestor : Snaps → ℕ → ℕ → Type 0
 IsAncestor m a f = (ps : List ℕ) × Climbs m f (ps ++ a ∷ [])
 
--- the number is told as removed, failed or kept (ours)
+-- the number is told as removed, failed or kept
 abbrev pub is_told : Swept → ℕ → Bool
 is_told r n = has r.removed n || (has r.failed n || has r.kept n)
 
--- the members of the list that are these, in the list's order (ours)
+-- the members of the list that are these, in the list's order
 abbrev pub InOrder : List ℕ → List ℕ → Type 0
 InOrder list xs = xs ≡ filter (λ n. has xs n) list
 
--- what was swept of the list: all is removed but what the device failed and the ancestors of that, which are kept; each told once, in the list's order (ours)
+-- what was swept of the list: all is removed but what the device failed and the ancestors of that, which are kept; each told once, in the list's order
 pub record Sweeps (list : List ℕ) (m now : Snaps) (before after : ℕ) (r : Swept) : Type 0 where
   pub contents : (n : ℕ) → map.get now n ≡ cond (has r.removed n) None (map.get m n)
   pub sorted : (n : ℕ) → has list n ≡ is_told r n
@@ -55,36 +55,36 @@ pub record Sweeps (list : List ℕ) (m now : Snaps) (before after : ℕ) (r : Sw
   pub failed_in_order : InOrder list r.failed
   pub kept_in_order : InOrder list r.kept
 
--- one removal: it isn't tried where a child is left (ours)
+-- one removal: it isn't tried where a child is left
 abbrev pub Tries : Removal → Bool → ℕ → Snaps → Snaps → ℕ → ℕ → Type 0
 Tries R.Removed above n m now before after = (above ≡ false) × (now ≡ map.remove m n) × (after ≡ before)
 Tries R.Failed above n m now before after = (above ≡ false) × (now ≡ m) × (after ≡ before + 1)
 Tries R.Kept above n m now before after = (above ≡ true) × (now ≡ m) × (after ≡ before)
 
--- the number is among these, last where it wasn't (ours)
+-- the number is among these, last where it wasn't
 abbrev pub with_number : List ℕ → ℕ → List ℕ
 with_number xs n = if has xs n then xs else xs ++ n ∷ []
 
--- the parent, if one, is among these (ours)
+-- the parent, if one, is among these
 abbrev pub with_parent : List ℕ → Option ℕ → List ℕ
 with_parent xs None = xs
 with_parent xs (Some p) = with_number xs p
 
--- one number more, with its parent (ours)
+-- one number more, with its parent
 abbrev pub put_of : Swept → ℕ → Option ℕ → Removal → Swept
 put_of s n parent R.Removed = record s { removed = s.removed ++ n ∷ []; room = s.room - 1 }
 put_of s n parent R.Failed = record s { failed = with_number s.failed n; parents = with_parent s.parents parent; room = s.room - 1 }
 put_of s n parent R.Kept = record s { kept = with_number s.kept n; parents = with_parent s.parents parent; room = s.room - 1 }
 
--- empty lists, with room for the whole list in each (ours)
+-- empty lists, with room for the whole list in each
 abbrev pub IsRoomFor : List ℕ → Swept → Type 0
 IsRoomFor list s = (s.removed ≡ []) × (s.failed ≡ []) × (s.kept ≡ []) × (s.parents ≡ []) × (length list ≤ s.room)
 
--- it is one of these, or an ancestor of one (ours)
+-- it is one of these, or an ancestor of one
 abbrev pub IsAtOrAbove : Snaps → List ℕ → ℕ → Type 0
 IsAtOrAbove m failed n = (has failed n ≡ true) ⊎ ((f : ℕ) × (has failed f ≡ true) × IsAncestor m n f)
 
--- of the list, just the failed ones and their ancestors stay, and no failed one is an ancestor of another; what isn't in the list stays as it was (ours)
+-- of the list, just the failed ones and their ancestors stay, and no failed one is an ancestor of another; what isn't in the list stays as it was
 pub record Leaves (list : List ℕ) (m now : Snaps) (failed : List ℕ) : Type 0 where
   pub stays : (n : ℕ) → has list n ≡ true → IsAtOrAbove m failed n → map.get now n ≡ map.get m n
   pub goes : (n : ℕ) → has list n ≡ true → ¬ (IsAtOrAbove m failed n) → map.get now n ≡ None

@@ -1,9 +1,9 @@
--- What refuses a removal with a collection.
+-- What refuses a removal with a collection. Ours, unless a source stands beside.
 use Rattle.std.specs.Prelude.{◌≡◌, Option, Some, None, Result, Ok, Err, ⊤}
 use Rattle.meta_types.specs.declared.fault.Fault.{Fault}
 use Rattle.meta_types.specs.declared.fault.Fault.TheVariants.{InvalidArgument, NotFound, AlreadyExists, FailedPrecondition, BadLine, TooLong, OutOfMemory, NoWorker, BackendFailed, ReadFailed, WriteFailed, Mismatch}
 
--- a collection is refused with the least fault that applies; memory may be wanting at any time, a thread only where no fault applies (ours)
+-- a collection is refused with the least fault that applies; memory may be wanting at any time, a thread only where no fault applies
 abbrev pub CollectFails : Fault → Option Fault → Type 0
 CollectFails InvalidArgument least = least ≡ Some InvalidArgument
 CollectFails NotFound least = least ≡ Some NotFound
@@ -18,7 +18,7 @@ CollectFails ReadFailed least = ⊥
 CollectFails WriteFailed least = ⊥
 CollectFails (Mismatch place) least = ⊥
 
--- a call succeeds only where no fault applies, and is refused so (ours)
+-- a call succeeds only where no fault applies, and is refused so
 abbrev pub RefusesCollect : {X : Type 0} → Result X Fault → Option Fault → Type 0
 RefusesCollect (Ok x) least = least ≡ None
 RefusesCollect (Err fault) least = CollectFails fault least

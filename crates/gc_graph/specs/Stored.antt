@@ -1,9 +1,9 @@
--- The records that borrowed rows are.
+-- The records that borrowed rows are. Ours, unless a source stands beside.
 use Rattle.std.specs.Prelude.{[], map, length, ◌+◌, ◌*◌, ◌≤◌}
 use Rattle.meta_types.specs.Rows.{Records}
 use Rattle.gc_graph.specs.declared.rows.StoreRows.{StoreRows}
 
--- the namespaces and the next backend number lead no path anywhere, and are left out (ours)
+-- the namespaces and the next backend number lead no path anywhere, and are left out
 abbrev pub records_of : StoreRows → Records
 records_of rows = record {
   tables = record {
@@ -19,6 +19,6 @@ records_of rows = record {
   profile = rows.profile;
 }
 
--- the nodes are at most 16,777,216 (ours)
+-- the nodes are at most 16,777,216
 abbrev pub IsSmall : StoreRows → Type 0
 IsSmall rows = 2 * (length rows.content.now + length rows.snapshots.now) + length rows.ingests.now ≤ 16777216

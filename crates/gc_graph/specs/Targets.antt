@@ -1,4 +1,4 @@
--- The nodes of things, and what each thing references, read once from its row.
+-- The nodes of things, and what each thing references, read once from its row. Ours, unless a source stands beside.
 use Rattle.std.specs.Prelude.{List, [], ◌∷◌, ◌++◌, map, Option, Some, None, if◌then◌else◌}
 use Rattle.std.specs.List.{flat_map}
 use Rattle.std.specs.Option.{option_map_or}
@@ -16,44 +16,44 @@ use Rattle.meta_types.specs.declared.resource.Resource.{Resource}
 use Rattle.meta_types.specs.declared.resource.Resource.TheVariants.{Content, Snapshot, Ingest}
 use Rattle.gc_graph.specs.declared.node.Node.{Node}
 
--- a node, by what it is of (ours)
+-- a node, by what it is of
 abbrev pub node : Text → Resource → Mode → Node
 node ns resource mode = record { ns = ns; resource = resource; mode = mode }
 
--- content, in a mode (ours)
+-- content, in a mode
 abbrev pub content_node : Mode → ContentRow → Node
 content_node mode row = node row.ns (Content row.digest) mode
 
--- a snapshot, in a mode (ours)
+-- a snapshot, in a mode
 abbrev pub snapshot_node : Mode → SnapRow → Node
 snapshot_node mode row = node row.key.ns (Snapshot row.key.snapshotter row.key.name) mode
 
--- an ingest, which has one mode (ours)
+-- an ingest, which has one mode
 abbrev pub ingest_node : IngestRow → Node
 ingest_node row = node row.ns (Ingest row.name) Full
 
--- the node of a thing, where it has one: images, containers and leases have none, since nothing references them (containerd metadata gc.go: leases cannot be referenced; the others ours)
+-- the node of a thing, where it has one: images, containers and leases have none, since nothing references them (containerd metadata gc.go: leases cannot be referenced)
 abbrev pub node_of : Thing → Option Node
 node_of (ingest row) = Some (ingest_node row)
 node_of (content mode row) = Some (content_node mode row)
 node_of (snapshot mode row) = Some (snapshot_node mode row)
 node_of _ = None
 
--- the nodes of rows, in each mode (ours)
+-- the nodes of rows, in each mode
 abbrev pub nodes_in_both : {Row : Type 0} → (Mode → Row → Node) → List Row → List Node
 nodes_in_both node rows = map (node Full) rows ++ map (node Flat) rows
 
--- all nodes of a store, in the order of their numbers (ours)
+-- all nodes of a store, in the order of their numbers
 abbrev pub nodes_of : Records → List Node
 nodes_of records = map ingest_node records.tables.ingests
     ++ (nodes_in_both content_node records.tables.content ++ nodes_in_both snapshot_node records.tables.snapshots)
 
--- the things that have nodes, in that order (ours)
+-- the things that have nodes, in that order
 abbrev pub node_things : Records → List Thing
 node_things records = map ingest records.tables.ingests
     ++ (in_both_modes content records.tables.content ++ in_both_modes snapshot records.tables.snapshots)
 
--- the things that have none (ours)
+-- the things that have none
 abbrev pub root_things : Records → List Thing
 root_things records = map image records.tables.images ++ map container records.tables.containers ++ map lease records.leases
 
@@ -75,7 +75,7 @@ label_targets ns labels = flat_map (λ label. content_target ns label ++ snapsho
 abbrev pub parent_target : Mode → SnapRow → List Node
 parent_target mode row = option_map_or (λ name. node row.key.ns (Snapshot row.key.snapshotter name) mode ∷ []) row.parent []
 
--- an ingest has one mode (ours)
+-- an ingest has one mode
 abbrev pub resource_mode : Mode → Resource → Mode
 resource_mode mode (Ingest name) = Full
 resource_mode mode _ = mode

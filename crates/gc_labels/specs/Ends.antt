@@ -1,4 +1,4 @@
--- What an answer says of an object's end.
+-- What an answer says of an object's end. Ours, unless a source stands beside.
 use Rattle.std.specs.Prelude.{Bool, true, false, Option, Some, None, ℤ}
 use Rattle.gc_labels.specs.declared.ends.Expiry.{Expiry}
 use Rattle.gc_labels.specs.declared.ends.Expiry.TheVariants.{Never, At, Unreadable}
@@ -9,7 +9,7 @@ end_of Never = None
 end_of (At instant) = Some instant.0
 end_of Unreadable = None
 
--- there is an end that can't be read (ours)
+-- there is an end that can't be read
 abbrev pub is_unread : Expiry → Bool
 is_unread Never = false
 is_unread (At instant) = false

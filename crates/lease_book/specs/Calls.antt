@@ -1,4 +1,4 @@
--- What each call is refused for, and which ids it gives.
+-- What each call is refused for, and which ids it gives. Ours, unless a source stands beside.
 pub use Rattle.arrival_table.specs.Arrived.{kept}
 use Rattle.std.specs.Prelude.{Bool, false, true, not, List, [], ◌∷◌, map, Option, filter, is_none, bytes_eq}
 use Rattle.std.specs.Option.{option_map_or}
@@ -17,7 +17,7 @@ creating_fault there = least_of false false there false
 abbrev pub missing_fault : Bool → Option Fault
 missing_fault there = least_of false (not there) false false
 
--- a label has to be allowed, and the lease there that it is put on (ours)
+-- a label has to be allowed, and the lease there that it is put on
 abbrev pub labelling_fault : Text → Text → Option LeaseRow → Option Fault
 labelling_fault key value found =
     least_of (not (all_of (is_label key value ∷ option_map_or (λ row. has_room key value row.labels) found true ∷ []))) (is_none found) false false

@@ -1,4 +1,4 @@
--- What may be done to a lease in its place.
+-- What may be done to a lease in its place. Ours, unless a source stands beside.
 use Rattle.std.specs.Prelude.{◌≡◌, Bool, Option, Result, Ok, Err, OnOk, OnErr}
 use Rattle.std.proofs.Common.{ap, ◌∙◌}
 use Rattle.meta_types.specs.Text.{Text}
@@ -15,7 +15,7 @@ use Rattle.meta_types.specs.declared.resource.Resource.{Resource}
 abbrev pub with_label : Text → Text → LeaseRow → LeaseRow
 with_label key value row = record row { labels = put_label key value row.labels }
 
--- a label that a lease doesn't take (ours)
+-- a label that a lease doesn't take
 abbrev pub refuses_label : Text → Text → LeaseRow → Option Fault
 refuses_label key value row = unless (takes_label key value row.labels) InvalidArgument
 
@@ -27,7 +27,7 @@ with_held resource row = record row { resources = held resource row.resources }
 abbrev pub without_held : Resource → LeaseRow → LeaseRow
 without_held resource row = record row { resources = remove_row resource_key (resource_key resource) row.resources }
 
--- the lease becomes another, or is refused and stays as it was (ours)
+-- the lease becomes another, or is refused and stays as it was
 pub record Edits (refusal : LeaseRow → Option Fault) (after : LeaseRow → LeaseRow) (old : LeaseRow) (answer : Result (Unit {0}) Fault) (new : LeaseRow) : Type 0 where
   pub fault : Refuses answer (refusal old)
   pub ok : OnOk answer (new ≡ after old)

@@ -1,4 +1,4 @@
--- What a replay answers. All of it is ours.
+-- What a replay answers. Ours, unless a source stands beside.
 use Rattle.std.specs.Prelude.{◌≡◌, ℕ, List, false, IsTrue}
 use Rattle.meta_types.specs.Limits.{is_worker_count}
 use Rattle.mark_core.specs.declared.graph.Graph.{Graph}

@@ -3,7 +3,8 @@ use Rattle.std.proofs.Common.{◌≡◌, ◌∙◌, ℕ, zero, suc, ◌<◌, Lis
 use Rattle.std.specs.Prelude.{filter}
 use Rattle.meta_types.specs.Rows.{Records}
 use Rattle.meta_types.specs.Paths.{Thing, things, TellsReached}
-use Rattle.meta_types.specs.Finding.{found_in, reached_in, ThisTestTells}
+use Rattle.meta_types.specs.Finding.{found_in, reached_in}
+use Rattle.meta_types.specs.Promises.{ThisTestTells}
 use Rattle.meta_types.proofs.Closure.{is_found, pass_over, passes, passes_are_reached, tells_if_closed, closed_from_pass}
 use Rattle.meta_types.proofs.Exists.{filter_short, more_kept, grows}
 

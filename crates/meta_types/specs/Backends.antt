@@ -1,4 +1,4 @@
--- Which backend objects stay, and in which order the others go.
+-- Which backend objects stay, and in which order the others go. Ours, unless a source stands beside.
 use Rattle.std.specs.Prelude.{◌≡◌, ℕ, suc, zero, Bool, false, not, ◌&&◌, ◌||◌, ◌==◌, nat_lt, List, [], ◌∷◌, map, length, filter, find, bytes_eq, IsTrue, option_and_then, All}
 use Rattle.std.specs.List.{list_any}
 use Rattle.std.specs.Option.{option_map_or}
@@ -7,13 +7,12 @@ use Rattle.meta_types.specs.Text.{Text, text_cmp}
 use Rattle.meta_types.specs.Keys.{in_order}
 use Rattle.meta_types.specs.Rows.{Tables, BackSnap, BackLists}
 
--- names of backend objects: digests, numbers, and snapshotters with numbers (ours)
+-- names of backend objects: digests, numbers, and snapshotters with numbers
 pub record BackNames : Type 0 where
   pub blobs : List Text
   pub ingests : List ℕ
   pub snapshots : List (Text × ℕ)
 
--- none (ours)
 abbrev pub no_objects : BackNames
 no_objects = record { blobs = []; ingests = []; snapshots = [] }
 
@@ -23,21 +22,19 @@ no_objects = record { blobs = []; ingests = []; snapshots = [] }
 abbrev pub owns_blob : Tables → Text → Bool
 owns_blob tables digest = list_any (λ row. bytes_eq row.digest digest) tables.content
 
--- a backend snapshot is owned by the row with its snapshotter and number (ours)
+-- a backend snapshot is owned by the row with its snapshotter and number
 abbrev pub owns_snapshot : Tables → BackSnap → Bool
 owns_snapshot tables snap = list_any (λ row. bytes_eq row.key.snapshotter snap.snapshotter && row.number == snap.number) tables.snapshots
 
--- a backend ingest is owned by the row with its number (ours)
+-- a backend ingest is owned by the row with its number
 abbrev pub owns_ingest : Tables → ℕ → Bool
 owns_ingest tables number = list_any (λ row. row.number == number) tables.ingests
 
 -- ---- parents of backend snapshots
 
--- the snapshot has this snapshotter and number (ours)
 abbrev pub is_named : Text × ℕ → BackSnap → Bool
 is_named name snap = bytes_eq snap.snapshotter name.0 && snap.number == name.1
 
--- a snapshot's snapshotter and number (ours)
 abbrev pub object_name : BackSnap → Text × ℕ
 object_name snap = (snap.snapshotter, snap.number)
 
@@ -47,26 +44,25 @@ ancestors zero shards snap = []
 ancestors (suc most) shards snap =
     option_map_or (λ above. above ∷ ancestors most shards above) (option_and_then (λ number. find (is_named (snap.snapshotter, number)) shards) snap.parent) []
 
--- all ancestors: there are fewer than snapshots (ours)
+-- all ancestors: there are fewer than snapshots
 abbrev pub ancestors_of : List BackSnap → BackSnap → List BackSnap
 ancestors_of shards snap = ancestors (length shards) shards snap
 
--- a snapshot's depth is the number of its ancestors (ours)
 abbrev pub depth_of : List BackSnap → BackSnap → ℕ
 depth_of shards snap = length (ancestors_of shards snap)
 
--- the snapshot is an ancestor of one that is named (ours)
+-- the snapshot is an ancestor of one that is named
 abbrev pub is_below_one : List BackSnap → List (Text × ℕ) → BackSnap → Bool
 is_below_one shards names snap =
     list_any (λ one. list_any (λ name. is_named name one) names && list_any (is_named (object_name snap)) (ancestors_of shards one)) shards
 
 -- ---- what stays, and what goes
 
--- a blob stays where these tables own it, or its removal failed (ours)
+-- a blob stays where these tables own it, or its removal failed
 abbrev pub blob_stays : Tables → BackNames → Text → Bool
 blob_stays tables failed digest = owns_blob tables digest || list_any (bytes_eq digest) failed.blobs
 
--- an ingest's object stays where these tables own it, or its removal failed (ours)
+-- an ingest's object stays where these tables own it, or its removal failed
 abbrev pub ingest_object_stays : Tables → BackNames → ℕ → Bool
 ingest_object_stays tables failed number = owns_ingest tables number || list_any (λ other. other == number) failed.ingests
 
@@ -75,7 +71,6 @@ abbrev pub snapshot_object_stays : Tables → List BackSnap → BackNames → Ba
 snapshot_object_stays tables shards failed snap = owns_snapshot tables snap
     || list_any (λ name. is_named name snap) failed.snapshots || is_below_one shards failed.snapshots snap
 
--- what the backend keeps, with these failures (ours)
 abbrev pub collected_backends : Tables → BackNames → BackLists → BackLists
 collected_backends tables failed back = record {
   blobs = filter (blob_stays tables failed) back.blobs;
@@ -83,13 +78,13 @@ collected_backends tables failed back = record {
   ingests = filter (ingest_object_stays tables failed) back.ingests;
 }
 
--- snapshots go by snapshotter, then the deepest first, then by number (children before parents: containerd snapshots service; the rest ours)
+-- snapshots go by snapshotter, then the deepest first, then by number (children before parents: containerd snapshots service)
 abbrev pub goes_before : List BackSnap → BackSnap → BackSnap → Bool
 goes_before shards a b = is_lt (text_cmp a.snapshotter b.snapshotter)
     || bytes_eq a.snapshotter b.snapshotter && (nat_lt (depth_of shards b) (depth_of shards a)
     || depth_of shards a == depth_of shards b && nat_lt a.number b.number)
 
--- what the backend gives up, in the order of a report (ours)
+-- what the backend gives up, in the order of a report
 abbrev pub removed_objects : Tables → BackNames → BackLists → BackNames
 removed_objects tables failed back = record {
   blobs = filter (λ digest. not (blob_stays tables failed digest)) back.blobs;
@@ -97,7 +92,8 @@ removed_objects tables failed back = record {
   snapshots = map object_name (in_order (goes_before back.snapshots) (filter (λ snap. not (snapshot_object_stays tables back.snapshots failed snap)) back.snapshots));
 }
 
--- these removals may have failed: objects that nothing owns, each once and in the order of a report, and no snapshot an ancestor of another, since its ancestors are not tried (ours)
+-- These removals may have failed: objects that nothing owns, each once and in the order of a report.
+-- No snapshot among them is an ancestor of another: where a removal fails, no ancestor is tried.
 pub record IsFailure (tables : Tables) (back : BackLists) (failed : BackNames) : Type 0 where
   pub blobs : failed.blobs ≡ filter (λ digest. list_any (bytes_eq digest) failed.blobs) (removed_objects tables no_objects back).blobs
   pub ingests : failed.ingests ≡ filter (λ number. list_any (λ other. other == number) failed.ingests) (removed_objects tables no_objects back).ingests

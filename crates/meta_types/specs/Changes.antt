@@ -1,4 +1,4 @@
--- Small changes of a store, and the tests that requests make.
+-- Small changes of a store, and the tests that requests make. Ours, unless a source stands beside.
 use Rattle.std.specs.Prelude.{ℕ, ◌+◌, Bool, true, not, ◌&&◌, ◌||◌, nat_lt, List, [], ◌∷◌, Option, false, if◌then◌else◌, bytes_eq}
 use Rattle.std.specs.List.{list_any, list_all}
 use Rattle.std.specs.Option.{option_map_or}
@@ -16,35 +16,27 @@ use Rattle.meta_types.specs.declared.resource.Resource.{Resource}
 
 -- ---- one list of the store is another
 
--- these are the tables (ours)
 abbrev pub with_tables : State → Tables → State
 with_tables state tables = record state { records = record state.records { tables = tables } }
 
--- these are the leases (ours)
 abbrev pub with_leases : State → List LeaseRow → State
 with_leases state leases = record state { records = record state.records { leases = leases } }
 
--- these are the namespaces (ours)
 abbrev pub with_namespaces : State → List Text → State
 with_namespaces state rows = with_tables state (record state.records.tables { namespaces = rows })
 
--- these are the images (ours)
 abbrev pub with_images : State → List ImageRow → State
 with_images state rows = with_tables state (record state.records.tables { images = rows })
 
--- these are the containers (ours)
 abbrev pub with_containers : State → List ContainerRow → State
 with_containers state rows = with_tables state (record state.records.tables { containers = rows })
 
--- this is the content (ours)
 abbrev pub with_content : State → List ContentRow → State
 with_content state rows = with_tables state (record state.records.tables { content = rows })
 
--- these are the ingests (ours)
 abbrev pub with_ingests : State → List IngestRow → State
 with_ingests state rows = with_tables state (record state.records.tables { ingests = rows })
 
--- these are the snapshots (ours)
 abbrev pub with_snapshots : State → List SnapRow → State
 with_snapshots state rows = with_tables state (record state.records.tables { snapshots = rows })
 
@@ -66,11 +58,11 @@ drop_in key resource leases = change_row lease_key key (λ row. record row { res
 abbrev pub held_by : Text → Option Text → Resource → List LeaseRow → List LeaseRow
 held_by ns lease resource leases = option_map_or (λ id. hold_in (ns ∷ id ∷ []) resource leases) lease leases
 
--- that lease, if one, drops the resource (ours)
+-- that lease, if one, drops the resource
 abbrev pub dropped_by : Text → Option Text → Resource → List LeaseRow → List LeaseRow
 dropped_by ns lease resource leases = option_map_or (λ id. drop_in (ns ∷ id ∷ []) resource leases) lease leases
 
--- that lease, if one, doesn't hold the resource yet (ours)
+-- that lease, if one, doesn't hold the resource yet
 abbrev pub is_new_to : Text → Option Text → Resource → List LeaseRow → Bool
 is_new_to ns lease resource leases = option_map_or (λ id. not (holds_in (ns ∷ id ∷ []) resource leases)) lease false
 
@@ -84,39 +76,36 @@ holding ns lease resource state = with_leases state (held_by ns lease resource s
 abbrev pub put_blob : Text → List Text → List Text
 put_blob digest blobs = if list_any (bytes_eq digest) blobs then blobs else add_row namespace_key digest blobs
 
--- the backend holds the blob (containerd content-flow.md)
 abbrev pub with_blob : Text → State → State
 with_blob digest state = record state { backends = record state.backends { blobs = put_blob digest state.backends.blobs } }
 
--- the backend holds an ingest under the next number, which is used now (ours)
+-- the backend holds an ingest under the next number, which is used now
 abbrev pub with_ingest_object : State → State
 with_ingest_object state = record {
   records = record state.records { next = state.records.next + 1 };
   backends = record state.backends { ingests = put_in_order nat_lt state.records.next state.backends.ingests };
 }
 
--- backend snapshots stand by snapshotter, then by number (ours)
+-- backend snapshots stand by snapshotter, then by number
 abbrev pub stands_before : BackSnap → BackSnap → Bool
 stands_before a b = is_lt (text_cmp a.snapshotter b.snapshotter) || bytes_eq a.snapshotter b.snapshotter && nat_lt a.number b.number
 
--- the backend holds a snapshot under the next number, which is used now, over the object of its parent (ours)
+-- the backend holds a snapshot under the next number, which is used now, over the object of its parent
 abbrev pub with_snapshot_object : Text → Option ℕ → State → State
 with_snapshot_object snapshotter parent state = record {
   records = record state.records { next = state.records.next + 1 };
   backends = record state.backends { snapshots = put_in_order stands_before (record { snapshotter = snapshotter; number = state.records.next; parent = parent }) state.backends.snapshots };
 }
 
--- ---- tests
+-- ---- tests (of namespaces and leases: containerd namespaces.md, leases service)
 
--- the namespace is there (containerd namespaces.md)
 abbrev pub has_namespace : Tables → Text → Bool
 has_namespace tables ns = list_any (bytes_eq ns) tables.namespaces
 
--- the lease is there (containerd leases service)
 abbrev pub has_lease : State → Text → Text → Bool
 has_lease state ns id = has_row lease_key (ns ∷ id ∷ []) state.records.leases
 
--- some object of the tables is of the namespace (ours)
+-- some object of the tables is of the namespace
 abbrev pub is_in_use : Tables → Text → Bool
 is_in_use tables ns = list_any (λ row. bytes_eq ns row.ns) tables.images
     || list_any (λ row. bytes_eq ns row.ns) tables.containers
@@ -124,14 +113,13 @@ is_in_use tables ns = list_any (λ row. bytes_eq ns row.ns) tables.images
     || list_any (λ row. bytes_eq ns row.ns) tables.ingests
     || list_any (λ row. bytes_eq ns row.key.ns) tables.snapshots
 
--- some lease is of the namespace (ours)
 abbrev pub has_lease_in : List LeaseRow → Text → Bool
 has_lease_in leases ns = list_any (λ row. bytes_eq ns row.ns) leases
 
--- every text that is named is allowed (ours)
+-- every text that is named is allowed
 abbrev pub all_of : List Bool → Bool
 all_of tests = list_all (λ test. test) tests
 
--- one that may be left out (ours)
+-- one that may be left out
 abbrev pub is_allowed_if : (Text → Bool) → Option Text → Bool
 is_allowed_if test text = option_map_or test text true

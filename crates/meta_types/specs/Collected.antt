@@ -1,4 +1,4 @@
--- What a collection leaves.
+-- What a collection leaves (containerd garbage-collection.md; failures: ours).
 use Rattle.std.specs.Prelude.{ℕ, Bool, ◌||◌, filter, ℤ}
 use Rattle.meta_types.specs.Rows.{Tables, Records, State}
 use Rattle.meta_types.specs.Paths.{Thing, ingest, content, snapshot, image_stays, lease_stays}
@@ -9,19 +9,19 @@ use Rattle.meta_types.specs.declared.rows.SnapRow.{SnapRow}
 use Rattle.meta_types.specs.declared.resource.Mode.TheVariants.{Full, Flat}
 
 module _ (reached : Thing → Bool) where
-  -- content stays where a path ends in it, in either mode (containerd garbage-collection.md)
+  -- content stays where a path ends in it, in either mode
   abbrev pub content_stays : ContentRow → Bool
   content_stays row = reached (content Full row) || reached (content Flat row)
 
-  -- a snapshot stays where a path ends in it, in either mode (containerd garbage-collection.md)
+  -- so does a snapshot
   abbrev pub snapshot_stays : SnapRow → Bool
   snapshot_stays row = reached (snapshot Full row) || reached (snapshot Flat row)
 
-  -- an ingest stays where a path ends in it (containerd garbage-collection.md)
+  -- an ingest has one mode
   abbrev pub ingest_stays : IngestRow → Bool
   ingest_stays row = reached (ingest row)
 
-  -- namespaces and containers stay; of images, content, ingests and snapshots those that stay (containerd garbage-collection.md)
+  -- namespaces and containers stay; of images, content, ingests and snapshots those that stay
   abbrev pub collected_tables : ℕ → ℤ → Tables → Tables
   collected_tables profile at tables = record tables {
     images = filter (image_stays profile at) tables.images;
@@ -30,14 +30,14 @@ module _ (reached : Thing → Bool) where
     snapshots = filter snapshot_stays tables.snapshots;
   }
 
--- leases stay until their expiry (containerd garbage-collection.md)
+-- leases stay until their expiry
 abbrev pub collected_records : ℤ → (Thing → Bool) → Records → Records
 collected_records at reached records = record records {
   tables = collected_tables reached records.profile at records.tables;
   leases = filter (lease_stays at) records.leases;
 }
 
--- the store that a collection at this moment leaves, with these failures (containerd garbage-collection.md; failures ours)
+-- the store that a collection at this moment leaves, with these failures
 abbrev pub collected : State → ℤ → (Thing → Bool) → BackNames → State
 collected state at reached failed =
     let left = collected_records at reached state.records in

@@ -1,4 +1,4 @@
--- What a collection does to each kind of rows and objects, as an operator reads it: what stays, what goes and is named, and what is counted. Each statement is the contract of a function of the module `laws`.
+-- What a collection does to each kind of rows and objects, as an operator reads it: what stays, what goes and is named, and what is counted. Each statement is the contract of a function of the module `laws`. Ours, unless a source stands beside.
 use Rattle.std.specs.Prelude.{◌≡◌, ◌↔◌, ℕ, Bool, true, false, List, ℤ, Contains, IsTrue}
 use Rattle.meta_types.specs.Text.{Text}
 use Rattle.meta_types.specs.Rows.{LeaseRow, State, BackSnap}
@@ -12,13 +12,14 @@ use Rattle.meta_types.specs.declared.rows.IngestRow.{IngestRow}
 use Rattle.meta_types.specs.declared.rows.SnapRow.{SnapRow}
 use Rattle.meta_types.specs.declared.resource.Mode.{Mode}
 
--- of the old rows exactly those are left that stay, the names are exactly those of the others, and none that is left has such a name (ours)
+-- Of the old rows exactly those are left that stay. The names are exactly those of the others, and none that is left has such a name.
 pub record Divides {Row Name : Type 0} (name_of : Row → Name) (Stays : Row → Type 0) (old left : List Row) (gone : List Name) : Type 0 where
   pub kept : (row : Row) → Contains left row ↔ (Contains old row × Stays row)
   pub named : (name : Name) → Contains gone name ↔ ((row : Row) × Contains old row × (Stays row → ⊥) × (name_of row ≡ name))
   pub apart : (row : Row) → Contains left row → Contains gone (name_of row) → ⊥
 
--- content, snapshots and ingests stay exactly where a path of references leads to them, images and leases up to their expiry (images in profile 2), containers and namespaces always; the report names what goes, and counts what stays and what paths lead to (containerd garbage-collection.md; the counts ours)
+-- Content, snapshots and ingests stay exactly where a path of references leads to them (containerd garbage-collection.md).
+-- Images and leases stay up to their expiry (images in profile 2), containers and namespaces always. The report names what goes, and counts what stays and what paths lead to.
 pub record CollectsRows (state : State) (at : ℤ) (report : Report) (left : State) : Type 0 where
   pub content : Divides (λ (row : ContentRow). (row.ns, row.digest)) (λ (row : ContentRow). (mode : Mode) × IsReached state.records at (content mode row)) state.records.tables.content left.records.tables.content report.removed.content
   pub snapshots : Divides (λ (row : SnapRow). (row.key.ns, row.key.snapshotter, row.key.name)) (λ (row : SnapRow). (mode : Mode) × IsReached state.records at (snapshot mode row)) state.records.tables.snapshots left.records.tables.snapshots report.removed.snapshots
@@ -40,7 +41,7 @@ pub record CollectsObjects (state : State) (report : Report) (left : State) : Ty
   pub ingests : Divides (λ (number : ℕ). number) (λ (number : ℕ). IsTrue (owns_ingest left.records.tables number)) state.backends.ingests left.backends.ingests report.backend.ingests
   pub none_failed : report.failed ≡ no_objects
 
--- this report and the store that is left are those of a collection in which nothing failed (ours)
+-- this report and the store that is left are those of a collection in which nothing failed
 pub record IsCollected (state : State) (at : ℤ) (dry : Bool) (report : Report) (left : State) : Type 0 where
   pub rows : CollectsRows state at report left
   pub objects : CollectsObjects state report left
@@ -48,14 +49,14 @@ pub record IsCollected (state : State) (at : ℤ) (dry : Bool) (report : Report)
 
 -- ---- as promises
 
--- a collection of a sound store divides the rows so, whatever removals failed (ours)
+-- a collection of a sound store divides the rows so, whatever removals failed
 abbrev pub ACollectionDividesTheRows : Type 0
 ACollectionDividesTheRows = (state : State) (at : ℤ) (failed : BackNames) (report : Report) (new : State) → IsSound state → Collects state at failed report new → CollectsRows state at report new
 
--- and the objects, where none failed (ours)
+-- and the objects, where none failed
 abbrev pub ACollectionDividesAll : Type 0
 ACollectionDividesAll = (state : State) (at : ℤ) (report : Report) (new : State) → IsSound state → Collects state at no_objects report new → IsCollected state at false report new
 
--- a dry run of a sound store reports what a collection would do (ours)
+-- a dry run of a sound store reports what a collection would do
 abbrev pub ADryRunTellsWhatACollectionWould : Type 0
 ADryRunTellsWhatACollectionWould = (state : State) (at : ℤ) (report : Report) → IsSound state → Plans state at report → (left : State) × IsCollected state at true report left

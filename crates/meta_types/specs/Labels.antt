@@ -1,4 +1,4 @@
--- Labels of objects: which are allowed, and how one is put.
+-- Labels of objects: which are allowed, and how one is put. Ours, unless a source stands beside.
 use Rattle.std.specs.Prelude.{◌≤◌, ◌+◌, nat_le, nat_lt, length, Bool, true, not, ◌&&◌, ◌||◌, List, [], ◌∷◌, Option, Some, None, bytes_eq, if◌then◌else◌, All, IsTrue}
 use Rattle.std.specs.Option.{option_map_or}
 use Rattle.meta_types.specs.Text.{Text}
@@ -8,21 +8,18 @@ use Rattle.meta_types.specs.Keys.{Key, row_at, has_row, remove_row, put_row, are
 abbrev pub LabelList : Type 0
 LabelList = List (Text × Text)
 
--- a label is found by its key (ours)
 abbrev pub label_key : Text × Text → Key
 label_key label = label.0 ∷ []
 
--- the value of a key (ours)
 abbrev pub value_of : LabelList → Text → Option Text
 value_of labels key = option_map_or (λ (label : Text × Text). Some label.1) (row_at label_key (key ∷ []) labels) None
 
--- the labels have the key (ours)
 abbrev pub has_label : LabelList → Text → Bool
 has_label labels key = has_row label_key (key ∷ []) labels
 
 -- ---- which labels an object may have
 
--- key and value together have at most 4,096 bytes (containerd labels.Validate), and the key isn't empty; an empty value is always allowed, since it takes the label away (ours)
+-- Key and value together have at most 4,096 bytes (containerd labels.Validate), and the key isn't empty. An empty value is always allowed, since it takes the label away.
 abbrev pub is_label : Text → Text → Bool
 is_label key value = bytes_eq value [] || (not (bytes_eq key []) && nat_le (length key + length value) 4096)
 
@@ -30,25 +27,24 @@ is_label key value = bytes_eq value [] || (not (bytes_eq key []) && nat_le (leng
 abbrev pub put_label : Text → Text → LabelList → LabelList
 put_label key value labels = if bytes_eq value [] then remove_row label_key (key ∷ []) labels else put_row label_key (key, value) labels
 
--- an object has at most 256 labels (ours): it can take a label that it has or that is empty, and one more below that number
+-- an object has at most 256 labels: it can take a label that it has or that is empty, and one more below that number
 abbrev pub has_room : Text → Text → LabelList → Bool
 has_room key value labels = bytes_eq value [] || has_label labels key || nat_lt (length labels) 256
 
--- an object with these labels takes the label (ours)
 abbrev pub takes_label : Text → Text → LabelList → Bool
 takes_label key value labels = is_label key value && has_room key value labels
 
--- the labels that a request writes; of a key that stands twice the first counts (ours)
+-- the labels that a request writes; of a key that stands twice the first counts
 abbrev pub labels_of : List (Text × Text) → LabelList
 labels_of [] = []
 labels_of (pair ∷ pairs) = put_label pair.0 pair.1 (labels_of pairs)
 
--- a request may write them: each is allowed, and there is room for each beside those behind it (ours)
+-- a request may write them: each is allowed, and there is room for each beside those behind it
 abbrev pub are_labels : List (Text × Text) → Bool
 are_labels [] = true
 are_labels (pair ∷ pairs) = are_labels pairs && takes_label pair.0 pair.1 (labels_of pairs)
 
--- what is known of all stored labels: no key stands twice, no value is empty, they are at most 256 (ours)
+-- what is known of all stored labels: no key stands twice, no value is empty, they are at most 256
 pub record AreStored (labels : LabelList) : Type 0 where
   pub in_order : IsTrue (are_in_order label_key labels)
   pub filled : All (λ label. IsTrue (not (bytes_eq label.1 []))) labels

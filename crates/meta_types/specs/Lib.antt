@@ -1,16 +1,14 @@
--- The definitions, in the order of a reader. Each part rests on those behind it too.
+-- The definitions, in the order of a reader.
 
--- I. What stays: what a store holds, which rows and objects a collection keeps, and what it reports and promises.
+-- I. What stays: what a store holds, which rows and objects a collection keeps, what it reports and what it promises.
 pub mod Rows
 pub mod CollectorLabels
 pub mod Paths
 pub mod Collected
 pub mod Backends
 pub mod Reports
-pub mod EachKind
 pub mod Promises
-
--- II. What requests do: what each of them comes to, what each event answers, and which stores are sound.
+-- II. What requests do: what each of them comes to, what each event answers and leaves, and which stores are sound.
 pub mod Ops
 pub mod Changes
 pub mod Requests
@@ -18,8 +16,8 @@ pub mod Steps
 pub mod Histories
 pub mod Sound
 pub mod Finding
-
--- III. Words that the others are said in.
+pub mod EachKind
+-- III. The words that the others use.
 pub mod Text
 pub mod Time
 pub mod Faults
@@ -28,6 +26,5 @@ pub mod Keys
 pub mod Labels
 pub mod Resources
 pub mod Walks
-
--- IV. Worked scripts: reports and stores of small examples, computed.
+-- IV. Worked scripts: small stores, what a collection reports of them, and what it leaves.
 pub mod Worked

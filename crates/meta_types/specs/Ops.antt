@@ -1,4 +1,4 @@
--- What a request may come to: which faults apply, and what comes where none does. The files of Ops say it of each request.
+-- What a request may come to: which faults apply, and what comes where none does. The files of Ops say it of each request, whose state is that before it. Ours, unless a source stands beside.
 pub mod Namespaces
 pub mod Images
 pub mod Containers
@@ -27,15 +27,15 @@ pub record Outcome : Type 0 where
   pub reply : Reply
   pub after : State
 
--- the least of the faults that apply is answered (ours)
+-- the least of the faults that apply is answered
 abbrev pub least_fault : Outcome → Option Fault
 least_fault o = least_of o.invalid o.missing o.there o.forbidden
 
--- a request that no fault refuses, that answers that it is done and changes nothing; each op says what is otherwise (ours)
+-- a request that no fault refuses, that answers that it is done and changes nothing; each op says what is otherwise
 abbrev pub done : State → Outcome
 done state = record { invalid = false; missing = false; there = false; forbidden = false; reply = R.Done; after = state }
 
--- the row that was asked for (ours)
+-- the row that was asked for
 abbrev pub row_reply : {A : Type 0} → (A → Row) → Option A → Reply
 row_reply shown found = option_map_or (λ a. R.Row (shown a)) found R.Done
 
@@ -47,7 +47,7 @@ names_in ns_of name_of ns rows = map name_of (filter (λ row. bytes_eq ns (ns_of
 abbrev pub lacks : State → Text → Option Text → Bool
 lacks state ns lease = not (has_namespace state.records.tables ns) || option_map_or (λ id. not (has_lease state ns id)) lease false
 
--- the tests of one label: of itself, and of room on the row that it goes to (ours)
+-- the tests of one label: of itself, and of room on the row that it goes to
 abbrev pub labelled : {A : Type 0} → (A → LabelList) → Text → Text → Option A → List Bool
 labelled labels_in key value found = is_label key value ∷ option_map_or (λ a. has_room key value (labels_in a)) found true ∷ []
 
@@ -59,7 +59,7 @@ pub record Findings : Type 0 where
   pub there : Bool
   pub forbidden : Bool
 
--- the least of the faults that it finds is answered (ours)
+-- the least of the faults that it finds is answered
 abbrev pub found_fault : Findings → Option Fault
 found_fault found = least_of false found.missing found.there found.forbidden
 

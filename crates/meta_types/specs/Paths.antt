@@ -1,4 +1,4 @@
--- Which rows a path of references leads to.
+-- Which rows a path of references leads to. Ours, unless a source stands beside.
 use Rattle.std.specs.Prelude.{ℕ, ◌==◌, Bool, true, false, not, ◌&&◌, ◌||◌, List, [], ◌∷◌, ◌++◌, map, bytes_eq, IsTrue, ℤ, int_le, Contains, ◌↔◌, if◌then◌else◌}
 use Rattle.std.specs.List.{list_any}
 use Rattle.std.specs.Option.{option_map_or}
@@ -16,7 +16,7 @@ use Rattle.meta_types.specs.declared.resource.Mode.TheVariants.{Full, Flat}
 use Rattle.meta_types.specs.declared.resource.Resource.{Resource}
 use Rattle.meta_types.specs.declared.resource.Resource.TheVariants.{Content, Snapshot, Ingest}
 
--- what a path goes over: content and snapshots come in two modes, with their labels followed or without (ours; containerd garbage-collection.md, flat leases)
+-- what a path goes over: content and snapshots come in two modes, with their labels followed or without (compare flat leases, containerd garbage-collection.md)
 pub data Thing : Type 0 where
   image : ImageRow → Thing
   container : ContainerRow → Thing
@@ -25,11 +25,9 @@ pub data Thing : Type 0 where
   content : Mode → ContentRow → Thing
   snapshot : Mode → SnapRow → Thing
 
--- rows, in each mode (ours)
 abbrev pub in_both_modes : {Row : Type 0} → (Mode → Row → Thing) → List Row → List Thing
 in_both_modes thing rows = map (thing Full) rows ++ map (thing Flat) rows
 
--- all things of a store (ours)
 abbrev pub things : Records → List Thing
 things records = map image records.tables.images ++ map container records.tables.containers
     ++ map lease records.leases ++ map ingest records.tables.ingests
@@ -46,24 +44,23 @@ namespace_of (snapshot mode row) = row.key.ns
 
 -- ---- what references what
 
--- one mode (ours)
 abbrev pub is_same_mode : Mode → Mode → Bool
 is_same_mode Full Full = true
 is_same_mode Flat Flat = true
 is_same_mode Full Flat = false
 is_same_mode Flat Full = false
 
--- the thing is the content with this digest, in this mode (ours)
+-- the thing is the content with this digest, in this mode
 abbrev pub is_content : Text → Mode → Thing → Bool
 is_content digest mode (content m row) = is_same_mode mode m && bytes_eq row.digest digest
 is_content digest mode _ = false
 
--- the thing is this snapshot, in this mode (ours)
+-- the thing is this snapshot, in this mode
 abbrev pub is_snapshot : Text → Text → Mode → Thing → Bool
 is_snapshot snapshotter name mode (snapshot m row) = is_same_mode mode m && bytes_eq row.key.snapshotter snapshotter && bytes_eq row.key.name name
 is_snapshot snapshotter name mode _ = false
 
--- the thing is this ingest; an ingest has one mode (ours)
+-- the thing is this ingest; an ingest has one mode
 abbrev pub is_ingest : Text → Thing → Bool
 is_ingest name (ingest row) = bytes_eq row.name name
 is_ingest name _ = false
@@ -88,7 +85,8 @@ is_parent row mode thing = option_map_or (λ name. is_snapshot row.key.snapshott
 abbrev pub lease_mode : LeaseRow → Mode
 lease_mode row = if is_flat row.labels then Flat else Full
 
--- what a row references: an image its target, a container its snapshot, a lease its resources, an ingest the content that it expects, a snapshot its parent; and what their labels name, but for flat rows (containerd garbage-collection.md; labels of images and containers, and parents of flat snapshots: ours)
+-- A row references an image's target, a container's snapshot, a lease's resources, the content that an ingest expects, a snapshot's parent (containerd garbage-collection.md; parents of flat snapshots: ours).
+-- It references what its labels name too, but for flat rows (containerd garbage-collection.md; labels of images and containers: ours).
 abbrev pub references : Thing → Thing → Bool
 references (image row) thing = is_content row.target Full thing || is_label_ref row.labels thing
 references (container row) thing = option_map_or (λ key. is_snapshot key.0 key.1 Full thing) row.snapshot false || is_label_ref row.labels thing
@@ -105,11 +103,10 @@ has_edge a b = bytes_eq (namespace_of a) (namespace_of b) && references a b
 
 -- ---- where paths begin
 
--- images expire in profile 2 alone (ours)
 abbrev pub images_expire : ℕ → Bool
 images_expire profile = profile == 2
 
--- an image stays; in profile 2, until its expiry (containerd garbage-collection.md: images are roots; the expiry ours)
+-- an image stays; in profile 2, until its expiry (containerd garbage-collection.md: images are roots)
 abbrev pub image_stays : ℕ → ℤ → ImageRow → Bool
 image_stays profile at row = not (images_expire profile && is_expired row.labels at)
 
@@ -117,7 +114,7 @@ image_stays profile at row = not (images_expire profile && is_expired row.labels
 abbrev pub lease_stays : ℤ → LeaseRow → Bool
 lease_stays at row = not (is_expired row.labels at)
 
--- an ingest that has its own end holds itself up to that moment, which is included (ours)
+-- an ingest that has its own end holds itself up to that moment, which is included
 abbrev pub ingest_holds_itself : ℤ → IngestRow → Bool
 ingest_holds_itself at row = option_map_or (λ expiry. int_le at expiry.0) row.expires false
 
@@ -139,10 +136,10 @@ abbrev pub IsPath : Records → ℤ → Thing → List Thing → Type 0
 IsPath records at last [] = Contains (things records) last × IsTrue (is_root records.profile at last)
 IsPath records at last (before ∷ path) = Contains (things records) last × IsTrue (has_edge before last) × IsPath records at before path
 
--- a path ends in the thing (ours)
+-- a path ends in the thing
 abbrev pub IsReached : Records → ℤ → Thing → Type 0
 IsReached records at thing = (path : List Thing) × IsPath records at thing path
 
--- the test tells in which things of the store a path ends (ours)
+-- the test tells in which things of the store a path ends
 pub record TellsReached (records : Records) (at : ℤ) (reached : Thing → Bool) : Type 0 where
   pub each : (thing : Thing) → Contains (things records) thing → IsTrue (reached thing) ↔ IsReached records at thing

@@ -1,9 +1,10 @@
--- What a collection promises, whatever its algorithm. Each statement is the contract of a function of the module `laws`.
+-- What a collection promises, whatever its algorithm. Each statement is the contract of a function of the module `laws`. Ours, unless a source stands beside.
 use Rattle.std.specs.Prelude.{◌≡◌, Bool, true, false, ℤ, Contains, bytes_eq, ℕ, List, ◌==◌, map, filter, []}
 use Rattle.std.specs.List.{list_any}
 use Rattle.meta_types.specs.Text.{Text}
 use Rattle.meta_types.specs.Rows.{Records, State, BackSnap}
 use Rattle.meta_types.specs.Paths.{Thing, ingest, content, snapshot, IsReached, TellsReached}
+use Rattle.meta_types.specs.Finding.{reached_in}
 use Rattle.meta_types.specs.Backends.{BackNames, owns_blob, owns_snapshot, owns_ingest, is_named, is_below_one, object_name, no_objects}
 use Rattle.meta_types.specs.Reports.{Report, Collects, Plans, Removed}
 use Rattle.meta_types.specs.Sound.{IsSound, IsChildfirst}
@@ -14,21 +15,25 @@ use Rattle.meta_types.specs.declared.resource.Mode.{Mode}
 
 -- ---- one outcome
 
--- for each store and moment some test tells where paths end (ours)
+-- for each store and moment some test tells where paths end
 abbrev pub SomeTestTells : Type 0
 SomeTestTells = (records : Records) (at : ℤ) → (reached : Thing → Bool) × TellsReached records at reached
 
--- a collection with these failures gives one report and leaves one store (ours)
+-- `reached_in` is such a test
+abbrev pub ThisTestTells : Type 0
+ThisTestTells = (records : Records) (at : ℤ) → TellsReached records at (reached_in records at)
+
+-- a collection with these failures gives one report and leaves one store
 abbrev pub ACollectionHasOneOutcome : Type 0
 ACollectionHasOneOutcome = (state : State) (at : ℤ) (failed : BackNames) (r s : Report) (m n : State) → Collects state at failed r m → Collects state at failed s n → (r ≡ s) × (m ≡ n)
 
--- a dry run gives one report (ours)
+-- a dry run gives one report
 abbrev pub ADryRunHasOneReport : Type 0
 ADryRunHasOneReport = (state : State) (at : ℤ) (r s : Report) → Plans state at r → Plans state at s → r ≡ s
 
 -- ---- safety: nothing that an image, a container, an unexpired lease or ingest or a root label leads to is removed
 
--- what a path leads to remains, and isn't reported as removed; a blob stays while content of any namespace that remains has its digest (ours)
+-- What a path leads to remains, and isn't reported as removed. A blob stays while content of any namespace that remains has its digest.
 pub record KeepsWhatIsReached (state : State) (at : ℤ) (report : Report) (new : State) : Type 0 where
   pub content_rows : (mode : Mode) (row : ContentRow) → Contains state.records.tables.content row → IsReached state.records at (content mode row)
       → Contains new.records.tables.content row × (Contains report.removed.content (row.ns, row.digest) → ⊥)
@@ -39,13 +44,13 @@ pub record KeepsWhatIsReached (state : State) (at : ℤ) (report : Report) (new 
   pub blobs : (digest : Text) → Contains state.backends.blobs digest → owns_blob new.records.tables digest ≡ true
       → Contains new.backends.blobs digest × (Contains report.backend.blobs digest → ⊥)
 
--- a collection of a sound store keeps what is reached (ours)
+-- a collection of a sound store keeps what is reached
 abbrev pub NothingReachedIsRemoved : Type 0
 NothingReachedIsRemoved = (state : State) (at : ℤ) (failed : BackNames) (report : Report) (new : State) → IsSound state → Collects state at failed report new → KeepsWhatIsReached state at report new
 
 -- ---- liveness: what no path leads to is removed
 
--- what no path leads to goes, and is reported as removed; a blob goes when content of no namespace that remains has its digest, unless its removal failed (ours)
+-- What no path leads to goes, and is reported as removed. A blob goes when content of no namespace that remains has its digest, unless its removal failed.
 pub record RemovesWhatIsNotReached (state : State) (at : ℤ) (report : Report) (new : State) : Type 0 where
   pub content_rows : (row : ContentRow) → Contains state.records.tables.content row → ((mode : Mode) → IsReached state.records at (content mode row) → ⊥)
       → (Contains new.records.tables.content row → ⊥) × Contains report.removed.content (row.ns, row.digest)
@@ -56,26 +61,26 @@ pub record RemovesWhatIsNotReached (state : State) (at : ℤ) (report : Report) 
   pub blobs : (digest : Text) → Contains state.backends.blobs digest → owns_blob new.records.tables digest ≡ false → list_any (bytes_eq digest) report.failed.blobs ≡ false
       → (Contains new.backends.blobs digest → ⊥) × Contains report.backend.blobs digest
 
--- a collection removes what isn't reached (ours)
+-- a collection removes what isn't reached
 abbrev pub WhatIsNotReachedIsRemoved : Type 0
 WhatIsNotReachedIsRemoved = (state : State) (at : ℤ) (failed : BackNames) (report : Report) (new : State) → Collects state at failed report new → RemovesWhatIsNotReached state at report new
 
 -- ---- safety: what a row that remains owns isn't removed
 
--- a backend snapshot, and an ingest's object, stay while a row that remains owns them, and aren't reported as removed (ours)
+-- a backend snapshot, and an ingest's object, stay while a row that remains owns them, and aren't reported as removed
 pub record KeepsOwnedObjects (state : State) (report : Report) (new : State) : Type 0 where
   pub snapshots : (snap : BackSnap) → Contains state.backends.snapshots snap → owns_snapshot new.records.tables snap ≡ true
       → Contains new.backends.snapshots snap × (Contains report.backend.snapshots (object_name snap) → ⊥)
   pub ingests : (number : ℕ) → Contains state.backends.ingests number → owns_ingest new.records.tables number ≡ true
       → Contains new.backends.ingests number × (Contains report.backend.ingests number → ⊥)
 
--- a collection keeps what its rows own (ours)
+-- a collection keeps what its rows own
 abbrev pub OwnedObjectsStay : Type 0
 OwnedObjectsStay = (state : State) (at : ℤ) (failed : BackNames) (report : Report) (new : State) → Collects state at failed report new → KeepsOwnedObjects state report new
 
 -- ---- liveness: what no row that remains owns is removed
 
--- they go, and are reported as removed, where none owns them, unless their removal failed or, of a snapshot, that of a descendant (ours)
+-- they go, and are reported as removed, where none owns them, unless their removal failed or, of a snapshot, that of a descendant
 pub record RemovesUnownedObjects (state : State) (report : Report) (new : State) : Type 0 where
   pub snapshots : (snap : BackSnap) → Contains state.backends.snapshots snap → owns_snapshot new.records.tables snap ≡ false
       → list_any (λ name. is_named name snap) report.failed.snapshots ≡ false → is_below_one state.backends.snapshots report.failed.snapshots snap ≡ false
@@ -83,49 +88,50 @@ pub record RemovesUnownedObjects (state : State) (report : Report) (new : State)
   pub ingests : (number : ℕ) → Contains state.backends.ingests number → owns_ingest new.records.tables number ≡ false → list_any (λ other. other == number) report.failed.ingests ≡ false
       → (Contains new.backends.ingests number → ⊥) × Contains report.backend.ingests number
 
--- a collection removes what no row owns (ours)
+-- a collection removes what no row owns
 abbrev pub UnownedObjectsGo : Type 0
 UnownedObjectsGo = (state : State) (at : ℤ) (failed : BackNames) (report : Report) (new : State) → Collects state at failed report new → RemovesUnownedObjects state report new
 
 -- ---- the order of a report
 
--- the numbers of a snapshotter's names, in their order (ours)
+-- the numbers of a snapshotter's names, in their order
 abbrev pub numbers_of : Text → List (Text × ℕ) → List ℕ
 numbers_of snapshotter names = map (λ name. name.1) (filter (λ name. bytes_eq name.0 snapshotter) names)
 
--- a snapshotter's snapshots (ours)
+-- a snapshotter's snapshots
 abbrev pub shard_of : Text → List BackSnap → List BackSnap
 shard_of snapshotter snapshots = filter (λ snap. bytes_eq snap.snapshotter snapshotter) snapshots
 
--- the report of a collection of a sound store names the snapshots of each snapshotter so that no parent stands before its child, and no child of one that it names is left out (containerd snapshots service: children are removed before their parent)
+-- In the report of a collection of a sound store no parent stands before its child, of each snapshotter (containerd snapshots service: children are removed before their parent).
+-- No child of a snapshot that it names is left out.
 abbrev pub RemovedSnapshotsAreChildfirst : Type 0
 RemovedSnapshotsAreChildfirst = (state : State) (at : ℤ) (failed : BackNames) (report : Report) (new : State) (snapshotter : Text) → IsSound state → Collects state at failed report new
     → IsChildfirst (numbers_of snapshotter report.backend.snapshots) (shard_of snapshotter state.backends.snapshots)
 
--- so does that of a dry run (ours)
+-- so does that of a dry run
 abbrev pub PlannedSnapshotsAreChildfirst : Type 0
 PlannedSnapshotsAreChildfirst = (state : State) (at : ℤ) (report : Report) (snapshotter : Text) → IsSound state → Plans state at report
     → IsChildfirst (numbers_of snapshotter report.backend.snapshots) (shard_of snapshotter state.backends.snapshots)
 
 -- ---- a second collection
 
--- no row goes (ours)
+-- no row goes
 abbrev pub no_rows : Removed
 no_rows = record { content = []; images = []; ingests = []; leases = []; snapshots = [] }
 
--- a second collection with this report, after a first with that one, leaves the store as it was: no row and no object of the backend goes, and what the first kept is kept (ours)
+-- A second collection with this report, after a first with that one, leaves the store as it was. No row and no object of the backend goes, and what the first kept is kept.
 pub record ChangesNothing (first second : Report) (mid new : State) : Type 0 where
   pub same_store : new ≡ mid
   pub no_row_goes : second.removed ≡ no_rows
   pub no_object_goes : second.backend ≡ no_objects
   pub same_kept : second.kept ≡ first.kept
 
--- where no removal of a first collection failed, a second one at the same moment changes nothing; nothing goes in it, so none of its removals can fail (ours)
+-- where no removal of a first collection failed, a second one at the same moment changes nothing; nothing goes in it, so none of its removals can fail
 abbrev pub ASecondCollectionChangesNothing : Type 0
 ASecondCollectionChangesNothing = (state : State) (at : ℤ) (failed : BackNames) (first second : Report) (mid new : State) → Collects state at no_objects first mid → Collects mid at failed second new → ChangesNothing first second mid new
 
 -- ---- a store after a collection
 
--- a collection of a sound store leaves a sound store, whatever removals failed (ours)
+-- a collection of a sound store leaves a sound store, whatever removals failed
 abbrev pub ACollectedStoreIsSound : Type 0
 ACollectedStoreIsSound = (state : State) (at : ℤ) (failed : BackNames) (report : Report) (new : State) → IsSound state → Collects state at failed report new → IsSound new

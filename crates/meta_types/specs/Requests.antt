@@ -1,4 +1,4 @@
--- What each request comes to.
+-- What each request comes to. Each op has its source beside it.
 use Rattle.meta_types.specs.Rows.{State}
 use Rattle.meta_types.specs.Ops.{Outcome}
 use Rattle.meta_types.specs.Ops.Namespaces.{adds_namespace, removes_namespace, lists_namespaces, chooses_profile}
@@ -14,7 +14,6 @@ use Rattle.meta_types.specs.declared.request.Request.TheVariants.{NsAdd, NsRemov
 use Rattle.meta_types.specs.declared.request.Removal.{Removal}
 use Rattle.meta_types.specs.declared.request.Removal.TheVariants as Removing
 
--- a request, in a store, comes to this (each op has its source beside it)
 abbrev pub outcome : State → Request → Outcome
 outcome state (NsAdd ns) = adds_namespace state ns
 outcome state (NsRemove ns) = removes_namespace state ns

@@ -1,4 +1,4 @@
--- What a lease may hold: its type and its id as texts.
+-- What a lease may hold: its type and its id as texts. Ours, unless a source stands beside.
 use Rattle.std.specs.Prelude.{◌&&◌, ◌++◌, List, [], ◌∷◌, Option, Some, None, if◌then◌else◌, bytes_eq, codes, drop}
 use Rattle.meta_types.specs.Text.{Text, is_short_name, is_name, is_digest, begins_with}
 use Rattle.meta_types.specs.Keys.{Key, has_row, add_row}
@@ -17,23 +17,20 @@ id_of (Content digest) = digest
 id_of (Snapshot snapshotter name) = name
 id_of (Ingest name) = name
 
--- resources stand by the bytes of the type, then of the id (ours)
+-- resources stand by the bytes of the type, then of the id
 abbrev pub resource_key : Resource → Key
 resource_key resource = type_of resource ∷ id_of resource ∷ []
 
--- the content with this digest (ours)
 abbrev pub content_of : Text → Option Resource
 content_of id = if is_digest id then Some (Content id) else None
 
--- the ingest with this name (ours)
 abbrev pub ingest_of : Text → Option Resource
 ingest_of id = if is_name id then Some (Ingest id) else None
 
--- the snapshot of this snapshotter and name (ours)
 abbrev pub snapshot_of : Text → Text → Option Resource
 snapshot_of snapshotter id = if is_short_name snapshotter && is_name id then Some (Snapshot snapshotter id) else None
 
--- the resource of a type and an id, where these are allowed; behind `snapshots/` the whole rest is the snapshotter (ours)
+-- the resource of a type and an id, where these are allowed; behind `snapshots/` the whole rest is the snapshotter
 abbrev pub resource_of : Text → Text → Option Resource
 resource_of kind id =
     if bytes_eq kind (codes "content") then content_of id

@@ -1,4 +1,4 @@
--- Which stores are sound: what every request and every collection keeps.
+-- Which stores are sound: what every request and every collection keeps. Ours, unless a source stands beside.
 use Rattle.std.specs.Prelude.{◌≡◌, ℕ, ◌<◌, not, ◌==◌, List, Option, Some, None, bytes_eq, IsTrue, IfSome, All, Contains, AllPairs, find}
 use Rattle.std.specs.List.{list_any}
 use Rattle.std.specs.Option.{option_map_or}
@@ -16,7 +16,7 @@ use Rattle.meta_types.specs.declared.rows.IngestRow.{IngestRow}
 
 -- ---- rows
 
--- rows stand in the order of their keys, so no key stands twice, each in a namespace that is there (containerd namespaces.md; the order ours)
+-- rows stand in the order of their keys, so no key stands twice; each is in a namespace that is there (containerd namespaces.md)
 pub record AreRows {Row : Type 0} (key_of : Row → Key) (ns_of : Row → Text) (namespaces : List Text) (rows : List Row) : Type 0 where
   pub in_order : IsTrue (are_in_order key_of rows)
   pub named : All (λ row. IsTrue (list_any (bytes_eq (ns_of row)) namespaces)) rows
@@ -25,18 +25,18 @@ pub record AreRows {Row : Type 0} (key_of : Row → Key) (ns_of : Row → Text) 
 abbrev pub parent_of : List SnapRow → SnapRow → Option SnapRow
 parent_of rows row = parent_row rows row.key.ns row.key.snapshotter row.parent
 
--- a parent is a committed row of the same namespace and snapshotter (containerd snapshots service), with a smaller number, so parent links end (ours)
+-- a parent is a committed row of the same namespace and snapshotter (containerd snapshots service), with a smaller number, so parent links end
 abbrev pub HasParent : List SnapRow → SnapRow → Type 0
 HasParent rows row = IfSome row.parent (λ name. (above : SnapRow) × (parent_of rows row ≡ Some above) × IsTrue (is_committed above.kind) × (above.number < row.number))
 
--- parents are there, and no backend number is used twice (ours)
+-- parents are there, and no backend number is used twice
 pub record AreNumbered (snapshots : List SnapRow) (ingests : List IngestRow) : Type 0 where
   pub parents : All (HasParent snapshots) snapshots
   pub snapshots_apart : AllPairs (λ (a : SnapRow) (b : SnapRow). IsTrue (not (a.number == b.number))) snapshots
   pub ingests_apart : AllPairs (λ (a : IngestRow) (b : IngestRow). IsTrue (not (a.number == b.number))) ingests
   pub apart : All (λ (snap : SnapRow). All (λ (begun : IngestRow). IsTrue (not (snap.number == begun.number))) ingests) snapshots
 
--- what the tables keep among themselves (ours)
+-- what the tables keep among themselves
 pub record AreTables (tables : Tables) : Type 0 where
   pub namespaces : IsTrue (are_in_order namespace_key tables.namespaces)
   pub images : AreRows image_key (λ (row : ImageRow). row.ns) tables.namespaces tables.images
@@ -48,7 +48,7 @@ pub record AreTables (tables : Tables) : Type 0 where
 
 -- ---- backend objects
 
--- the backend object of a snapshot (ours)
+-- the backend object of a snapshot
 abbrev pub object_of : List BackSnap → Text → ℕ → Option BackSnap
 object_of shards snapshotter number = find (is_named (snapshotter, number)) shards
 
@@ -57,7 +57,7 @@ pub record HaveBlobs (content : List ContentRow) (blobs : List Text) : Type 0 wh
   pub held : All (λ (row : ContentRow). IsTrue (list_any (bytes_eq row.digest) blobs)) content
   pub in_order : IsTrue (are_in_order namespace_key blobs)
 
--- each snapshot's and ingest's object is in the backend, a snapshot's over its parent's; each number is below the next (ours)
+-- each snapshot's and ingest's object is in the backend, a snapshot's over its parent's; each number is below the next
 pub record HaveObjects (snapshots : List SnapRow) (ingests : List IngestRow) (next : ℕ) (shards : List BackSnap) (begun : List ℕ) : Type 0 where
   pub snapshots_below : All (λ (row : SnapRow). row.number < next) snapshots
   pub ingests_below : All (λ (row : IngestRow). row.number < next) ingests
@@ -70,7 +70,7 @@ pub record HaveObjects (snapshots : List SnapRow) (ingests : List IngestRow) (ne
   pub objects_in_order : AllPairs (λ a b. IsTrue (stands_before a b)) shards
   pub begun_in_order : AllPairs (λ a b. a < b) begun
 
--- a store is sound: its tables, its leases, and its backend objects (ours)
+-- a store is sound: its tables, its leases, and its backend objects
 pub record IsSound (state : State) : Type 0 where
   pub tables : AreTables state.records.tables
   pub leases : AreRows lease_key (λ (row : LeaseRow). row.ns) state.records.tables.namespaces state.records.leases

@@ -1,9 +1,9 @@
--- Moments as texts: `YYYY-MM-DDThh:mm:ss`, perhaps a fraction, and a zone. RFC 3339, 5.6, with upper case letters, no leap seconds, and years to 9998 (ours).
+-- Moments as texts: `YYYY-MM-DDThh:mm:ss`, perhaps a fraction, and a zone. They are of RFC 3339, 5.6; upper case letters, no leap seconds and years to 9998 are limits of ours. Ours, unless a source stands beside.
 use Rattle.std.specs.Prelude.{ℕ, zero, suc, ◌+◌, ◌-◌, ◌*◌, ◌/◌, ◌%◌, ◌^◌, Bool, true, false, not, ◌&&◌, ◌||◌, nat_le, ◌==◌, [], ◌∷◌, length, take, drop, Option, Some, None, bytes_eq, slice_index, codes, if◌then◌else◌, ℤ, pos, ◌+ℤ◌, ◌-ℤ◌, ◌*ℤ◌, neg_ℤ, option_map}
 use Rattle.std.specs.List.{take_while}
 use Rattle.meta_types.specs.Text.{Text, is_digit}
 
--- the number that some digits write, behind what is read already (ours)
+-- the number that some digits write, behind what is read already
 abbrev pub number_from : ℕ → Text → ℕ
 number_from before [] = before
 number_from before (digit ∷ digits) = number_from (before * 10 + (digit - 48)) digits
@@ -38,7 +38,7 @@ days_before year (suc month) = if month == 0 then 0 else days_before year month 
 abbrev pub days_to_year : ℕ → ℕ
 days_to_year year = 365 * year + (year + 3) / 4 - (year + 99) / 100 + (year + 399) / 400
 
--- the day of a date, where 1970-01-01 is day 0 (Gregorian calendar; the day 0: ours)
+-- the day of a date (Gregorian calendar), where 1970-01-01 is day 0
 abbrev pub day_of : ℕ → ℕ → ℕ → ℤ
 day_of year month day = pos (days_to_year year + days_before year month + (day - 1)) -ℤ pos 719528
 
@@ -66,7 +66,7 @@ fraction_in rest = if slice_index rest 0 == 46 then take_while is_digit (drop 1 
 abbrev pub zone_in : Text → Text
 zone_in rest = if slice_index rest 0 == 46 then drop (1 + length (fraction_in rest)) rest else rest
 
--- a date and a time of day that there are, of a year up to 9998 (RFC 3339, 5.7; the years and no second 60: ours)
+-- a date and a time of day that there are (RFC 3339, 5.7), of a year up to 9998 and without a second 60
 abbrev pub is_real : Text → Bool
 is_real text =
     let year = number_at text 0 4 in
@@ -76,11 +76,11 @@ is_real text =
     && nat_le year 9998 && nat_le 1 month && nat_le month 12 && nat_le 1 day && nat_le day (days_in year month)
     && nat_le (number_at text 11 2) 23 && nat_le (number_at text 14 2) 59 && nat_le (number_at text 17 2) 59
 
--- a fraction has 1 to 9 digits (RFC 3339, 5.6; at most nine: ours)
+-- a fraction has 1 to 9 digits (RFC 3339, 5.6: 1 or more)
 abbrev pub has_fraction : Text → Bool
 has_fraction rest = not (slice_index rest 0 == 46) || (nat_le 1 (length (fraction_in rest)) && nat_le (length (fraction_in rest)) 9)
 
--- the moment of a date and a time of day, before the offset, in nanoseconds since 1970-01-01T00:00:00Z (ours)
+-- the moment of a date and a time of day, before the offset, in nanoseconds since 1970-01-01T00:00:00Z
 abbrev pub moment_of : Text → ℤ
 moment_of text =
     let seconds = number_at text 11 2 * 3600 + number_at text 14 2 * 60 + number_at text 17 2 in

@@ -1,4 +1,4 @@
--- Whole scripts, worked out: names, requests and reports that they share.
+-- Whole scripts, worked out: names, requests and reports that they share. Ours, unless a source stands beside.
 pub mod Times
 pub mod Images
 pub mod Objects
@@ -13,110 +13,110 @@ use Rattle.meta_types.specs.Steps.{Answer, answer_to, after}
 use Rattle.meta_types.specs.declared.request.Request.{Request}
 use Rattle.meta_types.specs.declared.request.Request.TheVariants.{ContentAdd, SnapPrepare, SnapCommit}
 
--- the store after these requests (ours)
+-- the store after these requests
 abbrev pub after_all : State → List Request → State
 after_all state [] = state
 after_all state (request ∷ requests) = after_all (after state request) requests
 
--- what they answer (ours)
+-- what they answer
 abbrev pub answers_to : State → List Request → List Answer
 answers_to state [] = []
 answers_to state (request ∷ requests) = answer_to state request ∷ answers_to (after state request) requests
 
 -- ---- names
 
--- a digest of one letter (ours)
+-- a digest of one letter
 abbrev pub digest_of : ℕ → Text
 digest_of letter = codes "sha256:" ++ replicate 64 letter
 
--- four digests (ours)
+-- four digests
 abbrev pub a : Text
 a = digest_of 97
 
--- another digest (ours)
+-- another digest
 abbrev pub b : Text
 b = digest_of 98
 
--- another digest (ours)
+-- another digest
 abbrev pub c : Text
 c = digest_of 99
 
--- another digest (ours)
+-- another digest
 abbrev pub d : Text
 d = digest_of 100
 
--- a namespace (ours)
+-- a namespace
 abbrev pub x : Text
 x = codes "x"
 
--- an image (ours)
+-- an image
 abbrev pub i : Text
 i = codes "i"
 
--- a lease (ours)
+-- a lease
 abbrev pub l : Text
 l = codes "l"
 
--- a snapshotter (ours)
+-- a snapshotter
 abbrev pub overlayfs : Text
 overlayfs = codes "overlayfs"
 
--- another snapshotter (ours)
+-- another snapshotter
 abbrev pub native : Text
 native = codes "native"
 
 -- ---- moments
 
--- 2024-03-01T00:00:00Z (ours)
+-- 2024-03-01T00:00:00Z
 abbrev pub first_of_march : ℤ
 first_of_march = pos 1709251200000000000
 
--- the same as a text (ours)
+-- the same as a text
 abbrev pub first_of_march_text : Text
 first_of_march_text = codes "2024-03-01T00:00:00Z"
 
--- a nanosecond later (ours)
+-- a nanosecond later
 abbrev pub just_after : ℤ
 just_after = pos 1709251200000000001
 
 -- ---- requests
 
--- content with these labels (ours)
+-- content with these labels
 abbrev pub adds : Text → List (Text × Text) → Request
 adds digest labels = ContentAdd x digest labels None
 
--- a label that references content (ours)
+-- a label that references content
 abbrev pub content_label : Text → List (Text × Text)
 content_label digest = (codes "containerd.io/gc.ref.content.0", digest) ∷ []
 
--- a snapshot over no parent, committed under a name (ours)
+-- a snapshot over no parent, committed under a name
 abbrev pub layer : Text → Text → Text → List Request
 layer snapshotter key name = SnapPrepare x snapshotter key None [] None ∷ SnapCommit x snapshotter key name [] None ∷ []
 
--- the same over a parent (ours)
+-- the same over a parent
 abbrev pub layer_over : Text → Text → Text → Text → List Request
 layer_over snapshotter key name parent = SnapPrepare x snapshotter key (Some parent) [] None ∷ SnapCommit x snapshotter key name [] None ∷ []
 
--- three committed layers, one over the other, and an active one with these labels over them (ours)
+-- three committed layers, one over the other, and an active one with these labels over them
 abbrev pub chain : Text → List (Text × Text) → List Request
 chain snapshotter labels = layer snapshotter (codes "p1") (codes "c1") ++ layer_over snapshotter (codes "p2") (codes "c2") (codes "c1")
     ++ layer_over snapshotter (codes "p3") (codes "c3") (codes "c2") ++ (SnapPrepare x snapshotter (codes "t") (Some (codes "c3")) labels None ∷ [])
 
 -- ---- reports
 
--- nothing kept but one namespace (ours)
+-- nothing kept but one namespace
 abbrev pub one_namespace : Kept
 one_namespace = record { containers = 0; content = 0; images = 0; ingests = 0; leases = 0; namespaces = 1; snapshots = 0 }
 
--- nothing removed (ours)
+-- nothing removed
 abbrev pub nothing_removed : Removed
 nothing_removed = record { content = []; images = []; ingests = []; leases = []; snapshots = [] }
 
--- the report of a collection where nothing failed and nothing was ignored (ours)
+-- the report of a collection where nothing failed and nothing was ignored
 abbrev pub report_with : ℕ → BackNames → Kept → Removed → ℕ → Report
 report_with profile backend kept removed scanned =
     record { backend = backend; dry = false; failed = no_objects; ignored = []; ignored_images = []; kept = kept; profile = profile; removed = removed; scanned = scanned }
 
--- the same of profile 1 (ours)
+-- the same of profile 1
 abbrev pub plain_report : BackNames → Kept → Removed → ℕ → Report
 plain_report = report_with 1

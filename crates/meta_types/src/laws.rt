@@ -1,8 +1,7 @@
 //! Laws of the definitions, each as the contract of a function that does nothing. They say what
 //! every collection promises, and compute worked examples; nothing else forces them.
-ghost use Rattle.meta_types.specs.Promises.{SomeTestTells, ACollectionHasOneOutcome, ADryRunHasOneReport, NothingReachedIsRemoved, WhatIsNotReachedIsRemoved, OwnedObjectsStay, UnownedObjectsGo, RemovedSnapshotsAreChildfirst, PlannedSnapshotsAreChildfirst, ASecondCollectionChangesNothing, ACollectedStoreIsSound};
+ghost use Rattle.meta_types.specs.Promises.{SomeTestTells, ACollectionHasOneOutcome, ADryRunHasOneReport, NothingReachedIsRemoved, WhatIsNotReachedIsRemoved, OwnedObjectsStay, UnownedObjectsGo, RemovedSnapshotsAreChildfirst, PlannedSnapshotsAreChildfirst, ASecondCollectionChangesNothing, ACollectedStoreIsSound, ThisTestTells};
 ghost use Rattle.meta_types.specs.EachKind.{ACollectionDividesTheRows, ACollectionDividesAll, ADryRunTellsWhatACollectionWould};
-ghost use Rattle.meta_types.specs.Finding.{ThisTestTells};
 ghost use Rattle.meta_types.specs.Worked.Times.{TimesAreRead, OthersAreNoTimes};
 ghost use Rattle.meta_types.specs.Worked.Images.{AnImageKeepsItsContent, ACycleGoes, ACycleUnderAnImageStays, BothModesAreScanned, AFlatLeaseFollowsNoLabels, ALeaseHoldsAtItsExpiry, AnExpiredLeaseGoes};
 ghost use Rattle.meta_types.specs.Worked.Objects.{AFlatLeaseKeepsParents, ChildrenGoBeforeParents, AnIngestHoldsForADay, AnIngestGoesAfterADay, OnlyReferenceKeysReference, ContainersAndRootLabelsHold};

@@ -1,4 +1,4 @@
--- The names of each snapshot's children, and the families that hold them.
+-- The names of each snapshot's children, and the families that hold them. Ours, unless a source stands beside.
 use Rattle.std.specs.Prelude.{◌≡◌, Bool, false, List, [], ◌∷◌, map, filter, length, Option, Some, None, Result, Ok, Err, OnOk, OnErr, if◌then◌else◌, ◌==◌}
 use Rattle.std.proofs.Common.{ap, ◌∙◌}
 use Rattle.meta_types.specs.Text.{Text}
@@ -11,24 +11,24 @@ use Rattle.meta_types.specs.declared.rows.SnapKey.{SnapKey}
 use Rattle.arrival_table.specs.Arrived.{one_text}
 use Rattle.object_tables.specs.declared.families.Family.{Family}
 
--- names by the namespace, the snapshotter and the name of a parent (ours)
+-- names by the namespace, the snapshotter and the name of a parent
 abbrev pub NamesByParent : Type 0
 NamesByParent = Text → Text → Text → List Text
 
--- the names of the snapshots that name a parent (ours)
+-- the names of the snapshots that name a parent
 abbrev pub names_under : List SnapRow → NamesByParent
 names_under rows ns snapshotter parent = map (λ row. row.key.name) (filter (is_child_of ns snapshotter parent) rows)
 
--- where a snapshot's parent stands (ours)
+-- where a snapshot's parent stands
 abbrev pub parent_key : SnapKey → Text → Key
 parent_key key parent = key.ns ∷ key.snapshotter ∷ parent ∷ []
 
--- with a name more under a parent (ours)
+-- with a name more under a parent
 abbrev pub entered : SnapKey → Text → NamesByParent → NamesByParent
 entered key parent names ns snapshotter name =
     if is_key (ns ∷ snapshotter ∷ name ∷ []) (parent_key key parent) then add_row one_text key.name (names ns snapshotter name) else names ns snapshotter name
 
--- with a name less under a parent (ours)
+-- with a name less under a parent
 abbrev pub left : SnapKey → Text → NamesByParent → NamesByParent
 left key parent names ns snapshotter name =
     if is_key (ns ∷ snapshotter ∷ name ∷ []) (parent_key key parent) then remove_row one_text (key.name ∷ []) (names ns snapshotter name) else names ns snapshotter name
@@ -37,11 +37,11 @@ abbrev pub left_by : SnapKey → Option Text → NamesByParent → NamesByParent
 left_by key None names = names
 left_by key (Some parent) names = left key parent names
 
--- without a snapshot that goes (ours)
+-- without a snapshot that goes
 abbrev pub parted : NamesByParent → SnapRow → NamesByParent
 parted names row = left_by row.key row.parent names
 
--- the key of a child (ours)
+-- the key of a child
 abbrev pub child_named : Text → Text → Text → SnapKey
 child_named ns snapshotter name = record { ns = ns; snapshotter = snapshotter; name = name }
 
@@ -50,7 +50,7 @@ child_named ns snapshotter name = record { ns = ns; snapshotter = snapshotter; n
 abbrev pub family_key : Family → Key
 family_key family = family.ns ∷ family.snapshotter ∷ family.parent ∷ []
 
--- the names of a family's children, in their order; none where there is no family (ours)
+-- the names of a family's children, in their order; none where there is no family
 abbrev pub names_of : Option Family → List Text
 names_of None = []
 names_of (Some family) = family.children
@@ -58,19 +58,19 @@ names_of (Some family) = family.children
 abbrev pub family_names : List Family → NamesByParent
 family_names families ns snapshotter parent = names_of (row_at family_key (ns ∷ snapshotter ∷ parent ∷ []) families)
 
--- a family of one child (ours)
+-- a family of one child
 abbrev pub first_family : SnapKey → Text → Family
 first_family key parent = record { ns = key.ns; snapshotter = key.snapshotter; parent = parent; children = key.name ∷ [] }
 
--- a family with a child more (ours)
+-- a family with a child more
 abbrev pub with_child : Text → Family → Family
 with_child name family = record family { children = add_row one_text name family.children }
 
--- a family with a child less (ours)
+-- a family with a child less
 abbrev pub without_child : Text → Family → Family
 without_child name family = record family { children = remove_row one_text (name ∷ []) family.children }
 
--- a child comes, where it isn't there (ours)
+-- a child comes, where it isn't there
 pub record Enters (name : Text) (old : Family) (answer : Result (Unit {0}) Fault) (new : Family) : Type 0 where
   pub fault : Refuses answer (least_of false false (has_row one_text (name ∷ []) old.children) false)
   pub ok : OnOk answer (new ≡ with_child name old)
@@ -82,12 +82,12 @@ pub enters_keep : {X : Type 0} (name : Text) (part : Family → X) → ((family 
 enters_keep name part keeps old (Ok u) new e = ap part e.ok ∙ keeps old
 enters_keep name part keeps old (Err fault) new e = ap part e.err
 
--- a child goes; the answer is whether none is left (ours)
+-- a child goes; the answer is whether none is left
 pub record Leaves (name : Text) (old : Family) (answer : Bool) (new : Family) : Type 0 where
   pub left : new ≡ without_child name old
   pub empty : answer ≡ (length new.children == 0)
 
--- a child goes from its family, and the family with its last child (ours)
+-- a child goes from its family, and the family with its last child
 abbrev pub left_in : Key → Text → Option Family → List Family → List Family
 left_in home name None families = families
 left_in home name (Some family) families =
@@ -101,6 +101,6 @@ abbrev pub families_left_by : SnapKey → Option Text → List Family → List F
 families_left_by key None families = families
 families_left_by key (Some parent) families = families_left key parent families
 
--- the families without a snapshot that goes (ours)
+-- the families without a snapshot that goes
 abbrev pub families_parted : List Family → SnapRow → List Family
 families_parted families row = families_left_by row.key row.parent families

@@ -1,4 +1,4 @@
--- The JSON of replies, and their text. Members stand in the byte order of their names.
+-- The JSON of replies, and their text. Members stand in the byte order of their names. Ours, unless a source stands beside.
 use Rattle.std.specs.Prelude.{[], ◌∷◌, true, Option, codes, is_some}
 use Rattle.std.specs.Option.{option_map_or}
 use Rattle.serde_json.specs.Data.{Data, null, boolean, string, object, Members, no_members, member, put}
@@ -19,16 +19,15 @@ use Rattle.gc_report.specs.Reports.{count_data, pair_data, list_data, report_dat
 
 -- ---- parts of rows
 
--- the members, with these labels put among them in the order of the keys (ours)
+-- the members, with these labels put among them in the order of the keys
 abbrev pub with_labels : Members → LabelList → Members
 with_labels ms [] = ms
 with_labels ms (label ∷ labels) = with_labels (put label.0 (string label.1) ms) labels
 
--- all labels of an object (ours)
 abbrev pub labels_data : LabelList → Data
 labels_data labels = object (with_labels no_members labels)
 
--- null where there is none (ours)
+-- null where there is none
 abbrev pub if_any : {A : Type 0} → (A → Data) → Option A → Data
 if_any data_of found = option_map_or data_of found null
 
@@ -44,7 +43,7 @@ resource_data resource = pair_data (type_of resource, id_of resource)
 
 -- ---- replies
 
--- a row that was asked for; `own` says that an ingest has an end of its own (ours)
+-- a row that was asked for; `own` says that an ingest has an end of its own
 abbrev pub row_data : Row → Data
 row_data (W.Image row) = object
     (member (codes "labels") (labels_data row.labels)
@@ -72,23 +71,22 @@ row_data (W.Lease id labels) = object
     (member (codes "id") (string id)
     (member (codes "labels") (labels_data labels) no_members))
 
--- a reply that says ok and one thing more (ours)
+-- a reply that says ok and one thing more
 abbrev pub accepted : Text → Data → Data
 accepted key data_of = object (member (codes "ok") (boolean true) (member key data_of no_members))
 
--- a reply (ours)
 abbrev pub reply_data : Reply → Data
 reply_data R.Done = object (member (codes "ok") (boolean true) no_members)
 reply_data (R.Names names) = object (member (codes "names") (list_data string names) (member (codes "ok") (boolean true) no_members))
 reply_data (R.Row row) = accepted (codes "row") (row_data row)
 reply_data (R.Resources resources) = accepted (codes "resources") (list_data resource_data resources)
 
--- an answer: a refusal has the fault's number and name (ours)
+-- an answer: a refusal has the fault's number and name
 abbrev pub answer_data : Answer → Data
 answer_data (answered reply) = reply_data reply
 answer_data (reported report) = accepted (codes "report") (report_data report)
 answer_data (refused fault) = object (member (codes "fault") (count_data (number_of fault)) (member (codes "name") (string (name_of fault)) no_members))
 
--- the text of an answer, without a line feed (ours)
+-- the text of an answer, without a line feed
 unfoldable pub answer_text : Answer → Text
 answer_text answer = compact_text (answer_data answer)

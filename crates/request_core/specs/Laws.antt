@@ -1,4 +1,4 @@
--- What requests and histories keep. Each statement is the contract of a function of the module `laws`.
+-- What requests and histories keep. Each statement is the contract of a function of the module `laws`. Ours, unless a source stands beside.
 use Rattle.std.specs.Prelude.{List}
 use Rattle.meta_types.specs.Rows.{State}
 use Rattle.meta_types.specs.Backends.{BackNames}
@@ -9,18 +9,18 @@ use Rattle.meta_types.specs.Histories.{Entry, Step, IsLegal}
 use Rattle.meta_types.specs.declared.request.Request.{Request}
 use Rattle.meta_types.specs.declared.request.Removal.{Removal}
 
--- a request keeps a store sound, refused or not (ours)
+-- a request keeps a store sound, refused or not
 abbrev pub ARequestKeepsAStoreSound : Type 0
 ARequestKeepsAStoreSound = (state : State) (request : Request) → IsSound state → IsSound (after state request)
 
--- so does the removal that comes with a collection, before the collection (ours)
+-- so does the removal that comes with a collection, before the collection
 abbrev pub ARemovalByNameKeepsAStoreSound : Type 0
 ARemovalByNameKeepsAStoreSound = (state : State) (removal : Removal) → IsSound state → IsSound (removal_outcome state removal).after
 
--- so does each event, whatever failed in it (ours)
+-- so does each event, whatever failed in it
 abbrev pub AnEventKeepsAStoreSound : Type 0
 AnEventKeepsAStoreSound = (state : State) (event : Event) (failed : BackNames) (answer : Answer) (new : State) → IsSound state → Step state event failed answer new → IsSound new
 
--- and a history from a sound store ends in a sound one (ours)
+-- and a history from a sound store ends in a sound one
 abbrev pub AHistoryKeepsAStoreSound : Type 0
 AHistoryKeepsAStoreSound = (base : State) (log : List Entry) (end : State) → IsSound base → IsLegal base log end → IsSound end

@@ -1,4 +1,4 @@
--- What the parts of a request do.
+-- What the parts of a request do. Ours, unless a source stands beside.
 use Rattle.std.specs.Prelude.{◌≡◌, ℕ, ◌+◌, Bool, true, false, ◌&&◌, ◌==◌, length, List, [], ◌∷◌, Option, Some, Result, Ok, Err, if◌then◌else◌}
 use Rattle.std.specs.Option.{option_map_or}
 use Rattle.meta_types.specs.Text.{Text}
@@ -18,11 +18,11 @@ use Rattle.meta_types.specs.declared.fault.Fault.TheVariants.{InvalidArgument, N
 abbrev pub is_lease_there : Text → Option Text → List LeaseRow → Bool
 is_lease_there ns lease leases = option_map_or (λ id. has_row lease_key (ns ∷ id ∷ []) leases) lease true
 
--- a resource is let go where it was new (ours)
+-- a resource is let go where it was new
 abbrev pub let_go_if : Bool → Text → Option Text → Resource → List LeaseRow → List LeaseRow
 let_go_if new ns lease resource leases = if new then dropped_by ns lease resource leases else leases
 
--- an object is made, or memory was wanting, or the device failed once (ours)
+-- an object is made, or memory was wanting, or the device failed once
 abbrev pub MakesOrFails : Result (Unit {0}) Fault → ℕ → ℕ → Type 0
 MakesOrFails (Ok _) before after = after ≡ before
 MakesOrFails (Err OutOfMemory) before after = after ≡ before
@@ -38,7 +38,7 @@ MakesOrFails (Err ReadFailed) before after = ⊥
 MakesOrFails (Err WriteFailed) before after = ⊥
 MakesOrFails (Err (Mismatch place)) before after = ⊥
 
--- what is there already is refused; else it is made, or memory was wanting, or the device failed once (ours)
+-- what is there already is refused; else it is made, or memory was wanting, or the device failed once
 abbrev pub MakesWhereFree : Bool → Result (Unit {0}) Fault → ℕ → ℕ → Type 0
 MakesWhereFree there (Ok _) before after = (there ≡ false) × (after ≡ before)
 MakesWhereFree there (Err AlreadyExists) before after = (there ≡ true) × (after ≡ before)
@@ -62,12 +62,12 @@ commit_fault state ns snapshotter key name lease = found_fault (in_store state n
 abbrev pub prepare_fault : State → SnapRow → Option Text → Option Fault
 prepare_fault state new lease = found_fault (prepare_findings state new.key.ns new.key.snapshotter new.key.name new.parent lease)
 
--- no row of any kind is stored (ours)
+-- no row of any kind is stored
 abbrev pub has_no_row : Records → Bool
 has_no_row records = length records.tables.namespaces == 0 && length records.tables.images == 0 && length records.tables.containers == 0 && length records.tables.content == 0
     && length records.tables.ingests == 0 && length records.tables.snapshots == 0 && length records.leases == 0
 
--- the third of three that were read, as one that there is (ours)
+-- the third of three that were read, as one that there is
 abbrev pub some_third : {A B C : Type 0} → Result (A × B × C) Refusal → Result (A × B × Option C) Refusal
 some_third (Ok read) = Ok (read.0, read.1, Some read.2)
 some_third (Err refusal) = Err refusal
@@ -76,7 +76,7 @@ some_third (Err refusal) = Err refusal
 abbrev pub ingest_commit_fault : State → Text → Text → Text → Option Text → Option Fault
 ingest_commit_fault state ns name digest lease = found_fault (ingest_commit_findings state ns name digest lease)
 
--- what was read, as one that there is (ours)
+-- what was read, as one that there is
 abbrev pub some_of : {A : Type 0} → Result A Refusal → Result (Option A) Refusal
 some_of (Ok read) = Ok (Some read)
 some_of (Err refusal) = Err refusal

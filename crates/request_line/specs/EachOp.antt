@@ -1,4 +1,4 @@
--- What each op asks for, with the members of a line.
+-- What each op asks for, with the members of a line. Ours, unless a source stands beside.
 use Rattle.std.specs.Prelude.{true, false, codes}
 use Rattle.std.specs.Option.{option_map_or}
 use Rattle.serde_json.specs.Data as json
@@ -10,7 +10,7 @@ use Rattle.request_line.specs.declared.asked.Asked.TheVariants as A
 use Rattle.request_line.specs.declared.op.Op.{Op}
 use Rattle.request_line.specs.declared.op.Op.TheVariants.{NsAdd, NsRemove, NsList, ImageAdd, ImageTarget, ImageRemove, ImageGet, ImageList, ImageLabel, ContainerAdd, ContainerRemove, ContainerGet, ContainerList, ContainerLabel, ContentAdd, ContentRemove, ContentGet, ContentLabel, ContentList, IngestBegin, IngestCommit, IngestAbort, IngestGet, IngestList, SnapPrepare, SnapView, SnapCommit, SnapRemove, SnapGet, SnapLabel, SnapList, LeaseAdd, LeaseRemove, LeaseGet, LeaseLabel, LeaseList, LeaseHold, LeaseDrop, LeaseResources, Profile, GcRun, GcPlan}
 
--- what each op asks for with these members; a removal with a moment to collect at is one event with the collection (ours)
+-- what each op asks for with these members; a removal with a moment to collect at is one event with the collection
 abbrev pub asked_of : Op → json.Members → Asked
 asked_of NsAdd ms = A.Request (R.NsAdd (text_at (codes "ns") ms))
 asked_of NsRemove ms = A.Request (R.NsRemove (text_at (codes "ns") ms))

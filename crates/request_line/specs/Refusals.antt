@@ -1,9 +1,9 @@
--- Why a line isn't read.
+-- Why a line isn't read. Ours, unless a source stands beside.
 use Rattle.std.specs.Prelude.{◌≡◌, ◌⊎◌, Option, None}
 use Rattle.meta_types.specs.declared.fault.Fault.{Fault}
 use Rattle.meta_types.specs.declared.fault.Fault.TheVariants.{BadLine, OutOfMemory}
 use Rattle.request_line.specs.declared.asked.Asked.{Asked}
 
--- memory was wanting, or nothing is asked for (ours)
+-- memory was wanting, or nothing is asked for
 abbrev pub IsUnread : Option Asked → Fault → Type 0
 IsUnread asked fault = (fault ≡ OutOfMemory) ⊎ ((fault ≡ BadLine) × (asked ≡ None))

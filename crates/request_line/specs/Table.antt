@@ -1,4 +1,4 @@
--- The table of ops: which members a line of each op has.
+-- The table of ops: which members a line of each op has. Ours, unless a source stands beside.
 use Rattle.std.specs.Prelude.{List, [], ◌∷◌, Option, codes, map}
 use Rattle.std.specs.List.{find}
 use Rattle.std.specs.Str.{bytes_eq}
@@ -7,17 +7,16 @@ use Rattle.request_line.specs.declared.op.Op.{Op}
 use Rattle.request_line.specs.declared.op.Op.TheVariants.{NsAdd, NsRemove, NsList, ImageAdd, ImageTarget, ImageRemove, ImageGet, ImageList, ImageLabel, ContainerAdd, ContainerRemove, ContainerGet, ContainerList, ContainerLabel, ContentAdd, ContentRemove, ContentGet, ContentLabel, ContentList, IngestBegin, IngestCommit, IngestAbort, IngestGet, IngestList, SnapPrepare, SnapView, SnapCommit, SnapRemove, SnapGet, SnapLabel, SnapList, LeaseAdd, LeaseRemove, LeaseGet, LeaseLabel, LeaseList, LeaseHold, LeaseDrop, LeaseResources, Profile, GcRun, GcPlan}
 use Rattle.request_line.specs.declared.op.Row.{Row}
 
--- a row: the name of an op, the members that stand beside it, and those that may (ours)
+-- a row: the name of an op, the members that stand beside it, and those that may
 pub record Members : Type 0 where
   pub op : Text
   pub required : List Text
   pub optional : List Text
 
--- a row of these (ours)
+-- a row of these
 abbrev pub members : Text → List Text → List Text → Members
 members op required optional = record { op = op; required = required; optional = optional }
 
--- the members of each op (ours)
 abbrev pub members_of : Op → Members
 members_of NsAdd = members (codes "ns.add") (codes "ns" ∷ []) []
 members_of NsRemove = members (codes "ns.remove") (codes "ns" ∷ []) []
@@ -62,14 +61,12 @@ members_of Profile = members (codes "profile") (codes "v" ∷ []) []
 members_of GcRun = members (codes "gc.run") (codes "at" ∷ []) []
 members_of GcPlan = members (codes "gc.plan") (codes "at" ∷ []) []
 
--- all ops (ours)
 abbrev pub ops : List Op
 ops = NsAdd ∷ NsRemove ∷ NsList ∷ ImageAdd ∷ ImageTarget ∷ ImageRemove ∷ ImageGet ∷ ImageList ∷ ImageLabel ∷ ContainerAdd ∷ ContainerRemove ∷ ContainerGet ∷ ContainerList ∷ ContainerLabel ∷ ContentAdd ∷ ContentRemove ∷ ContentGet ∷ ContentLabel ∷ ContentList ∷ IngestBegin ∷ IngestCommit ∷ IngestAbort ∷ IngestGet ∷ IngestList ∷ SnapPrepare ∷ SnapView ∷ SnapCommit ∷ SnapRemove ∷ SnapGet ∷ SnapLabel ∷ SnapList ∷ LeaseAdd ∷ LeaseRemove ∷ LeaseGet ∷ LeaseLabel ∷ LeaseList ∷ LeaseHold ∷ LeaseDrop ∷ LeaseResources ∷ Profile ∷ GcRun ∷ GcPlan ∷ []
 
--- the op of that name (ours)
 abbrev pub op_named : Text → Option Op
 op_named name = find (λ op. bytes_eq (members_of op).op name) ops
 
--- a row of the program's table, as texts (ours)
+-- a row of the program's table, as texts
 abbrev pub row_view : Row → Members
 row_view row = members row.op.now (map (λ t. t.now) row.required.now) (map (λ t. t.now) row.optional.now)

@@ -1,4 +1,4 @@
--- What each event answers, and the store after it, where no device fails.
+-- What each event answers, and the store after it, where no device fails. Ours, unless a source stands beside.
 use Rattle.std.specs.Prelude.{Bool, true, false, if◌then◌else◌, ℤ}
 use Rattle.std.specs.Option.{option_map_or}
 use Rattle.meta_types.specs.Rows.{State}
@@ -9,23 +9,21 @@ use Rattle.meta_types.specs.Reports.{Report, report_of}
 use Rattle.meta_types.specs.Requests.{removal_outcome}
 use Rattle.meta_types.specs.Steps.{Answer, reported, refused, Event, requested, collect, remove_collect, answer_to, after, collect_fault, remove_collect_fault}
 
--- what a collection reports, or a dry run (ours)
 abbrev pub collection_report : State → ℤ → Bool → Report
 collection_report state at dry = report_of state at (reached_in state.records at) no_objects dry
 
--- the store that a collection leaves (ours)
 abbrev pub collected_state : State → ℤ → State
 collected_state state at = collected state at (reached_in state.records at) no_objects
 
--- what a collection of this store answers, and the store after it (ours)
+-- what a collection of this store answers, and the store after it
 abbrev pub collects : State → ℤ → Answer × State
 collects state at = (reported (collection_report state at false), collected_state state at)
 
--- what a dry run of this store answers, and the store after it: the same (ours)
+-- what a dry run of this store answers, and the store after it: the same
 abbrev pub plans : State → ℤ → Answer × State
 plans state at = (reported (collection_report state at true), state)
 
--- what an event answers, and the store after it; a removal with a collection collects the store without the row (ours)
+-- what an event answers, and the store after it; a removal with a collection collects the store without the row
 abbrev pub event_step : State → Event → Answer × State
 event_step state (requested request) = (answer_to state request, after state request)
 event_step state (collect at dry workers) =

@@ -1,4 +1,4 @@
--- What one line of a script is answered, and what it leaves.
+-- What one line of a script is answered, and what it leaves. Ours, unless a source stands beside.
 use Rattle.std.specs.Prelude.{ℕ, ◌==◌, List, [], ◌∷◌, ◌++◌, length, Bool, true, false, nat_lt, if◌then◌else◌, Option, Some, None, option_map, String, string_bytes}
 use Rattle.std.specs.Option.{option_map_or}
 use Rattle.std.specs.declared.alloc.Global.{Global}
@@ -12,54 +12,52 @@ use Rattle.request_line.specs.declared.asked.Asked.TheVariants as A
 use Rattle.reply_line.specs.Replies.{answer_text}
 use Rattle.scripts.specs.EventSteps.{event_step}
 
--- what a line may be refused with though it asks for something that the store would answer: want of memory, or of a thread (ours)
+-- what a line may be refused with though it asks for something that the store would answer: want of memory, or of a thread
 pub data Refusal : Type 0 where
   out_of_memory : Refusal
   no_worker : Refusal
 
--- the event that is asked for; none where the moment of a collection can't be read. The number of workers changes nothing, so one will do (ours)
+-- the event that is asked for; none where the moment of a collection can't be read. The number of workers changes nothing, so one will do
 abbrev pub event_for : Asked → Option Event
 event_for (A.Request request) = Some (requested request)
 event_for (A.Collect at dry) = option_map (λ moment. collect moment dry 1) (instant_of at)
 event_for (A.Remove removal at) = option_map (λ moment. remove_collect removal moment 1) (instant_of at)
 
--- what is asked is answered so, and leaves this store; a moment that can't be read is refused, and is no event (ours)
+-- what is asked is answered so, and leaves this store; a moment that can't be read is refused, and is no event
 abbrev pub asked_step : State → Asked → Answer × State
 asked_step state asked = option_map_or (event_step state) (event_for asked) (refused InvalidArgument, state)
 
--- what a line of this length asks for, if anything (ours)
+-- what a line of this length asks for, if anything
 abbrev pub short_request : List ℕ → Option Asked
 short_request line = if nat_lt 65536 (length line) then None else asked_in line
 
--- the answer to a line that isn't empty, and the store after it (ours)
+-- the answer to a line that isn't empty, and the store after it
 abbrev pub line_answer : State → List ℕ → Answer × State
 line_answer state line =
     if nat_lt 65536 (length line) then (refused TooLong, state) else option_map_or (asked_step state) (asked_in line) (refused BadLine, state)
 
--- a collection or a dry run is asked for (ours)
 abbrev pub asks_collection : Option Asked → Bool
 asks_collection (Some (A.Collect at dry)) = true
 asks_collection (Some (A.Remove removal at)) = true
 asks_collection (Some (A.Request request)) = false
 asks_collection None = false
 
--- the same, where the line may be refused; want of a thread refuses only collections and dry runs (ours)
+-- the same, where the line may be refused; want of a thread refuses only collections and dry runs
 abbrev pub answer_step : State → Option Refusal → List ℕ → Answer × State
 answer_step state None line = line_answer state line
 answer_step state (Some out_of_memory) line = (refused OutOfMemory, state)
 answer_step state (Some no_worker) line = if asks_collection (short_request line) then (refused NoWorker, state) else line_answer state line
 
--- a line and the line feed after it (ours)
 abbrev pub with_line_feed : List ℕ → List ℕ
 with_line_feed text = text ++ 10 ∷ []
 
--- what is written for a line, with its line feed, and the store after it; an empty line asks for nothing (ours)
+-- what is written for a line, with its line feed, and the store after it; an empty line asks for nothing
 unfoldable pub line_step : State → Option Refusal → List ℕ → List ℕ × State
 line_step state refusal line =
     if length line == 0 then ([], state)
     else (with_line_feed (answer_text (answer_step state refusal line).0), (answer_step state refusal line).1)
 
--- the bytes that a reply is written as, where there is one (ours)
+-- the bytes that a reply is written as, where there is one
 abbrev pub reply_bytes : Option (String Global) → List ℕ
 reply_bytes None = []
 reply_bytes (Some text) = with_line_feed (string_bytes text)

@@ -1,4 +1,4 @@
--- What is written for a script, and how a run may end.
+-- What is written for a script, and how a run may end. Ours, unless a source stands beside.
 use Rattle.std.specs.Prelude.{◌≡◌, ℕ, List, [], ◌∷◌, ◌++◌, drop, Option, None, ◌⊎◌}
 use Rattle.meta_types.specs.Rows.{State, empty_store}
 use Rattle.scripts.specs.LineSteps.{Refusal, line_step}
@@ -7,34 +7,34 @@ use Rattle.std.specs.Io.KnownBytes.{Appends, Consumes}
 use Rattle.meta_types.specs.declared.fault.Fault.{Fault}
 use Rattle.meta_types.specs.declared.fault.Fault.TheVariants.{InvalidArgument, OutOfMemory, ReadFailed, WriteFailed}
 
--- the refusals of a run, one place a line: what stands there is what the line was refused with, and a list that is too short names no further line (ours)
+-- The refusals of a run, one place a line: what the line was refused with, though the store would answer it. A list that is too short names no further line.
 abbrev pub Refusals : Type 0
 Refusals = List (Option Refusal)
 
--- what the next line was refused with (ours)
+-- what the next line was refused with
 abbrev pub first_refusal : Refusals → Option Refusal
 first_refusal [] = None
 first_refusal (refusal ∷ later) = refusal
 
--- what is written for the lines, from a store on: a line is answered, and the next meets the store that it left (ours)
+-- what is written for the lines, from a store on: a line is answered, and the next meets the store that it left
 abbrev pub output_from : State → Refusals → List (List ℕ) → List ℕ
 output_from state refusals [] = []
 output_from state refusals (line ∷ lines) =
     (line_step state (first_refusal refusals) line).0 ++ output_from (line_step state (first_refusal refusals) line).1 (drop 1 refusals) lines
 
--- what is written for a script, from the empty store on (ours)
+-- what is written for a script, from the empty store on
 abbrev pub output_of : Refusals → List ℕ → List ℕ
 output_of refusals script = output_from empty_store refusals (lines_of script)
 
--- the bytes are the output for the script, under some refusals (ours)
+-- the bytes are the output for the script, under some refusals
 abbrev pub IsOutput : List ℕ → List ℕ → Type 0
 IsOutput script bytes = (refusals : Refusals) × (bytes ≡ output_of refusals script)
 
--- the bytes are the output for the whole lines of the script, under some refusals (ours)
+-- the bytes are the output for the whole lines of the script, under some refusals
 abbrev pub IsWholeOutput : List ℕ → List ℕ → Type 0
 IsWholeOutput script bytes = IsOutput (whole_lines script) bytes
 
--- the bytes begin the output for the script, under some refusals (ours)
+-- the bytes begin the output for the script, under some refusals
 abbrev pub IsBeginning : List ℕ → List ℕ → Type 0
 IsBeginning script bytes = (refusals : Refusals) × (rest : List ℕ) × (bytes ++ rest ≡ output_of refusals script)
 
@@ -44,15 +44,15 @@ IsBeginning script bytes = (refusals : Refusals) × (rest : List ℕ) × (bytes 
 abbrev pub IsLateFault : Fault → Type 0
 IsLateFault fault = (fault ≡ OutOfMemory) ⊎ (fault ≡ WriteFailed)
 
--- what can end a run whose number of workers is allowed (ours)
+-- what can end a run whose number of workers is allowed
 abbrev pub IsStartedFault : Fault → Type 0
 IsStartedFault fault = (fault ≡ ReadFailed) ⊎ IsLateFault fault
 
--- what can end a run (ours)
+-- what can end a run
 abbrev pub IsRunFault : Fault → Type 0
 IsRunFault fault = (fault ≡ InvalidArgument) ⊎ IsStartedFault fault
 
--- What a run read and wrote is so related, as far as reader and writer tell their bytes.
+-- what a run read and wrote is so related, as far as reader and writer tell their bytes
 pub record Exchanges (IsRelated : List ℕ → List ℕ → Type 0) (left_old left held_old held : Option (List ℕ)) : Type 0 where
   pub read : List ℕ
   pub written : List ℕ

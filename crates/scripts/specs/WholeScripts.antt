@@ -1,4 +1,4 @@
--- What a whole script is answered, line by line, without a word of how: the promise of this repository. Its statement is the contract of a function of the module `laws`.
+-- What a whole script is answered, line by line, without a word of how: the promise of this repository. Its statement is the contract of a function of the module `laws`. Ours, unless a source stands beside.
 use Rattle.std.specs.Prelude.{◌≡◌, ◌⊎◌, ℕ, ℤ, List, [], ◌∷◌, ◌++◌, drop, length, true, false, nat_lt, if◌then◌else◌, is_some, Option, Some, None, option_map}
 use Rattle.std.specs.Option.{option_map_or}
 use Rattle.meta_types.specs.Time.{instant_of}
@@ -20,24 +20,25 @@ use Rattle.scripts.specs.Output.{Refusals, first_refusal, output_of, IsOutput}
 
 -- ---- why a line is refused
 
--- why the store refuses what is asked for, if it does (ours)
+-- why the store refuses what is asked for, if it does
 abbrev pub asked_fault : State → Asked → Option Fault
 asked_fault state (A.Request request) = least_fault (outcome state request)
 asked_fault state (A.Collect at dry) = if is_some (instant_of at) then collect_fault state.records 1 else Some InvalidArgument
 asked_fault state (A.Remove removal at) = if is_some (instant_of at) then remove_collect_fault state removal 1 else Some InvalidArgument
 
--- why a line is refused, if it is: it is too long, no request, or the store refuses what it asks for (ours)
+-- why a line is refused, if it is: it is too long, no request, or the store refuses what it asks for
 abbrev pub line_fault : State → List ℕ → Option Fault
 line_fault state line = if nat_lt 65536 (length line) then Some TooLong else option_map_or (asked_fault state) (asked_in line) (Some BadLine)
 
--- what wants (ours)
+-- what wants
 abbrev pub want : Refusal → Fault
 want out_of_memory = OutOfMemory
 want no_worker = NoWorker
 
 -- ---- what a line is answered
 
--- what is asked for is done: a collection's report and the store that it leaves are those of a collection, whose rows and objects stay as `IsCollected` says; a dry run reports what a collection would, and leaves the store as it was; a request is answered by its definition (ours)
+-- What is asked for is done. A collection's report, and the store that it leaves, are as `IsCollected` says. A dry run reports what a collection would, and leaves the store as it was.
+-- A request is answered by its definition.
 abbrev pub IsDone : State → Asked → Answer → State → Type 0
 IsDone state (A.Collect at false) (reported report) new = (moment : ℤ) × (instant_of at ≡ Some moment) × IsCollected state moment false report new
 IsDone state (A.Collect at true) (reported report) new = (moment : ℤ) × (instant_of at ≡ Some moment) × (new ≡ state) × (left : State) × IsCollected state moment true report left
@@ -45,19 +46,19 @@ IsDone state (A.Remove removal at) (reported report) new = (moment : ℤ) × (in
 IsDone state (A.Request request) (answered reply) new = (reply ≡ (outcome state request).reply) × (new ≡ (outcome state request).after)
 IsDone state asked answer new = ⊥
 
--- a refused line changes nothing, and is refused for its own fault, or since memory or a thread was wanting; else what it asks for is done, and it has no fault (ours)
+-- A refused line changes nothing, and is refused for its own fault, or since memory or a thread was wanting. Else it has no fault, and what it asks for is done.
 abbrev pub IsAnswered : State → Option Refusal → List ℕ → Answer → State → Type 0
 IsAnswered state refusal line (refused fault) new = (new ≡ state) × ((line_fault state line ≡ Some fault) ⊎ (option_map want refusal ≡ Some fault))
 IsAnswered state refusal line answer new = (asked : Asked) × (short_request line ≡ Some asked) × (line_fault state line ≡ None) × IsDone state asked answer new
 
--- the reply to a line, with its line feed, and the store after it; an empty line asks for nothing (ours)
+-- the reply to a line, with its line feed, and the store after it; an empty line asks for nothing
 abbrev pub AnswersLine : State → Option Refusal → List ℕ → List ℕ → State → Type 0
 AnswersLine state refusal [] reply new = (reply ≡ []) × (new ≡ state)
 AnswersLine state refusal (byte ∷ line) reply new = (answer : Answer) × (reply ≡ with_line_feed (answer_text answer)) × IsAnswered state refusal (byte ∷ line) answer new
 
 -- ---- what a script is answered
 
--- from this store on the lines are answered with these bytes, one after the other, and each store on the way is sound (ours)
+-- from this store on the lines are answered with these bytes, one after the other, and each store on the way is sound
 abbrev pub AnswersLines : State → Refusals → List (List ℕ) → List ℕ → Type 0
 AnswersLines state refusals [] written = IsSound state × (written ≡ [])
 AnswersLines state refusals (line ∷ lines) written =
@@ -69,6 +70,6 @@ AnswersLines state refusals (line ∷ lines) written =
 abbrev pub EachCollectionKeepsWhatIsReached : Type 0
 EachCollectionKeepsWhatIsReached = (refusals : Refusals) (script : List ℕ) → AnswersLines empty_store refusals (lines_of script) (output_of refusals script)
 
--- so for whatever a run wrote, in the words of its contract (ours)
+-- so for whatever a run wrote, in the words of its contract
 abbrev pub EachRunKeepsWhatIsReached : Type 0
 EachRunKeepsWhatIsReached = (script written : List ℕ) → IsOutput script written → (refusals : Refusals) × AnswersLines empty_store refusals (lines_of script) written

@@ -1,4 +1,4 @@
--- The passes on the deques that are still open, worker by worker.
+-- The passes on the deques that are still open, worker by worker. Ours, unless a source stands beside.
 use Rattle.std.specs.Prelude.{◌≡◌, slice_index_or, ℕ, ◌+◌, ◌<◌, ◌≤◌, List, All, length, map, sum_by, Some}
 use Rattle.crossbeam_deque.specs.Handles.{worker_deque, worker_flavor, worker_view, stealer_deque}
 use Rattle.atomic_blocks.specs.Lent.{RowsId}
@@ -11,48 +11,48 @@ use Rattle.steal_mark.specs.Working.{Saw}
 use Rattle.steal_mark.specs.Listing.{listed}
 use Rattle.steal_mark.specs.Parts.{Deque, NodeList, Row}
 
--- what tells one deque from another (ours)
+-- what tells one deque from another
 abbrev pub Id : Type 0
 Id = RowsId × Global
 
--- which deques these are (ours)
+-- which deques these are
 abbrev pub ids_of : List Deque → List Id
 ids_of deques = map worker_deque deques
 
--- the passes of the worker with this number, one on each of these deques, in order (ours)
+-- the passes of the worker with this number, one on each of these deques, in order
 pub record IsRow (g : Graph) (ids : List Id) (number : ℕ) (row : Row) : Type 0 where
   pub others : All (IsOther g) row.items
   pub order : map (λ o. stealer_deque o.stealer) row.items ≡ ids
   pub places : IsPlaced number (parts_of row.items)
 
--- the passes of all workers (ours)
+-- the passes of all workers
 abbrev pub AreRows : Graph → List Id → List Row → Type 0
 AreRows g ids rows = (k : ℕ) (d : Row) → k < length rows → IsRow g ids k (slice_index_or rows k d)
 
--- how often n was taken by these passes (ours)
+-- how often n was taken by these passes
 abbrev pub taken_in : ℕ → List Row → ℕ
 taken_in n rows = sum_by (λ row. sum_by (λ h. times n h.taken) (hands row.items)) rows
 
--- a deque that is still open, while each of so many workers has a pass on it, of which its owner's has no part (ours)
+-- a deque that is still open, while each of so many workers has a pass on it, of which its owner's has no part
 pub record IsOpen (g : Graph) (many : ℕ) (d : Deque) : Type 0 where
   pub fifo : worker_flavor d ≡ 0
   pub graph : (worker_view d).graph ≡ Some g
   pub parts : (worker_view d).parts + many ≡ 1025
   pub part : 0 < (worker_view d).parts
 
--- how often n was pushed to these deques (ours)
+-- how often n was pushed to these deques
 abbrev pub pushed_in : ℕ → List Deque → ℕ
 pushed_in n deques = sum_by (λ (d : Deque). times n (worker_view d).pushed) deques
 
--- how often n was taken from these deques by their owners (ours)
+-- how often n was taken from these deques by their owners
 abbrev pub own_in : ℕ → List Deque → ℕ
 own_in n deques = sum_by (λ (d : Deque). times n (worker_view d).taken) deques
 
--- the lists of the workers (ours)
+-- the lists of the workers
 abbrev pub listing : List NodeList → List (List ℕ)
 listing lists = map (λ l. l.items) lists
 
--- what the lists have, with what was pushed to the open deques, is what was claimed, with what was taken of these (ours)
+-- what the lists have, with what was pushed to the open deques, is what was claimed, with what was taken of these
 pub record Balanced (g : Graph) (deques : List Deque) (rows : List Row) (lists : List NodeList) (v : Claims) : Type 0 where
   pub parts : v.parts ≡ 1024
   pub deques_open : All (IsOpen g (length rows)) deques

@@ -1,4 +1,4 @@
--- What the calling thread scans of a deque that is closed.
+-- What the calling thread scans of a deque that is closed. Ours, unless a source stands beside.
 use Rattle.std.specs.Prelude.{◌≡◌, ℕ, List, ◌++◌, length}
 use Rattle.mark_core.specs.declared.graph.Graph.{Graph}
 use Rattle.mark_core.specs.Bits.{times}
@@ -8,7 +8,7 @@ use Rattle.steal_mark.specs.Claiming.{claims}
 use Rattle.steal_mark.specs.Dealing.{hand}
 use Rattle.steal_mark.specs.Working.{Saw}
 
--- so many nodes were drained and listed, each target of them was seen, and what was claimed was pushed (ours)
+-- so many nodes were drained and listed, each target of them was seen, and what was claimed was pushed
 pub record Drains (g : Graph) (count : ℕ) (v w : Claims) (a b : Hand) (old new : List ℕ) : Type 0 where
   pub more : List ℕ
   pub looks : List ℕ
@@ -19,10 +19,10 @@ pub record Drains (g : Graph) (count : ℕ) (v w : Claims) (a b : Hand) (old new
   pub saw : Saw g looks drained
   pub many : length drained ≡ count
 
--- and at the end all that was pushed was taken (ours)
+-- and at the end all that was pushed was taken
 abbrev pub IsDry : Hand → Type 0
 IsDry b = (n : ℕ) → times n b.pushed ≡ times n b.taken
 
--- nodes were drained until all that was pushed was taken (ours)
+-- nodes were drained until all that was pushed was taken
 abbrev pub DrainsAll : Graph → Claims → Claims → Hand → Hand → List ℕ → List ℕ → Type 0
 DrainsAll g v w a b old new = ((count : ℕ) × Drains g count v w a b old new) × IsDry b

@@ -1,4 +1,4 @@
--- The parts of a marking, by short names.
+-- The parts of a marking, by short names. Ours, unless a source stands beside.
 use Rattle.std.specs.Prelude.{ℕ}
 use Rattle.std.proofs.Common.{Global, Vec}
 use Rattle.atomic_table.specs.declared.owned.Table.{Table}
@@ -10,18 +10,18 @@ use Rattle.steal_mark.specs.declared.hands.Hand.{Hand}
 use Rattle.steal_mark.specs.declared.hands.DealRule.{DealRule}
 use Rattle.steal_mark.specs.declared.other.Other.{Other}
 
--- the claim words of a marking, under their rule (ours)
+-- the claim words of a marking, under their rule
 abbrev pub Board : Type 0
 Board = Table (Unit {0}) Claims Graph ClaimRule Global
 
--- the deque of one worker, under its rule (ours)
+-- the deque of one worker, under its rule
 abbrev pub Deque : Type 0
 Deque = Worker ℕ Global Hand DealRule
 
--- the passes of one worker, one on each deque (ours)
+-- the passes of one worker, one on each deque
 abbrev pub Row : Type 0
 Row = Vec Other Global
 
--- the nodes that one worker has scanned, in order (ours)
+-- the nodes that one worker has scanned, in order
 abbrev pub NodeList : Type 0
 NodeList = Vec ℕ Global

@@ -1,4 +1,4 @@
--- One worker: what holds of it between its turns, and what a turn does.
+-- One worker: what holds of it between its turns, and what a turn does. Ours, unless a source stands beside.
 use Rattle.std.specs.Prelude.{◌≡◌, ◌⊎◌, ℕ, ◌+◌, ◌/◌, ◌<◌, List, [], ◌∷◌, ◌++◌, All, map, length, sum_by, Some, false}
 use Rattle.std.specs.Arc.{arc_value}
 use Rattle.crossbeam_deque.specs.Handles.{worker_deque, worker_flavor, worker_view}
@@ -14,31 +14,31 @@ use Rattle.steal_mark.specs.Dealing.{SameDeque}
 use Rattle.steal_mark.specs.Growing.{Grows}
 use Rattle.steal_mark.specs.Stealing.{IsOther, IsPlaced, parts_of, hands, took, TookOne}
 
--- the graph of the marking (ours)
+-- the graph of the marking
 abbrev pub graph_of : Marker → Graph
 graph_of m = (arc_value m.board).shared.key
 
--- what the seat has claimed and seen (ours)
+-- what the seat has claimed and seen
 abbrev pub claims_of : Marker → Claims
 claims_of m = m.seat.me.0
 
--- what it has pushed, and taken of its own deque (ours)
+-- what it has pushed, and taken of its own deque
 abbrev pub own_hand : Marker → Hand
 own_hand m = worker_view m.deque
 
--- what its passes have taken of each deque (ours)
+-- what its passes have taken of each deque
 abbrev pub passes_of : Marker → List Hand
 passes_of m = hands m.others.items
 
--- the nodes that it has scanned, in order (ours)
+-- the nodes that it has scanned, in order
 abbrev pub scans_of : Marker → List ℕ
 scans_of m = m.scanned.items
 
--- how often n was taken, of any deque (ours)
+-- how often n was taken, of any deque
 abbrev pub taken_by : ℕ → Marker → ℕ
 taken_by n m = times n (own_hand m).taken + sum_by (λ h. times n h.taken) (passes_of m)
 
--- the seat and the passes are those of its table, its deques and its graph (ours)
+-- the seat and the passes are those of its table, its deques and its graph
 pub record IsSeated (m : Marker) : Type 0 where
   pub board : m.seat.table_id ≡ (arc_value m.board).shared.table_id
   pub wide : (arc_value m.board).shared.table_id.words ≡ node_count (graph_of m) / 64 + 1
@@ -52,22 +52,22 @@ pub record IsSeated (m : Marker) : Type 0 where
   pub places : IsPlaced m.number (parts_of m.others.items)
   pub others : All (IsOther (graph_of m)) m.others.items
 
--- each target of the nodes was seen (ours)
+-- each target of the nodes was seen
 abbrev pub Saw : Graph → List ℕ → List ℕ → Type 0
 Saw g seen nodes = All (λ n. All (λ t. 0 < times t seen) (targets g n)) nodes
 
--- it scanned just what its passes took, saw each target of these claimed, and pushed just what it claimed (ours)
+-- it scanned just what its passes took, saw each target of these claimed, and pushed just what it claimed
 pub record Keeps (m : Marker) : Type 0 where
   pub scanned : (n : ℕ) → times n (scans_of m) ≡ taken_by n m
   pub saw : Saw (graph_of m) (claims_of m).seen (scans_of m)
   pub pushed : (n : ℕ) → times n (own_hand m).pushed ≡ times n (claims_of m).claimed
 
--- until it is refused memory (ours)
+-- until it is refused memory
 pub record IsSound (m : Marker) : Type 0 where
   pub seated : m.refused ≡ false → IsSeated m
   pub keeps : m.refused ≡ false → Keeps m
 
--- it is the same worker of the same marking (ours)
+-- it is the same worker of the same marking
 pub record SameMarker (old new : Marker) : Type 0 where
   pub number : new.number ≡ old.number
   pub board : arc_value new.board ≡ arc_value old.board
@@ -75,22 +75,22 @@ pub record SameMarker (old new : Marker) : Type 0 where
   pub deque : worker_deque new.deque ≡ worker_deque old.deque
   pub stealers : map (λ o. o.stealer) new.others.items ≡ map (λ o. o.stealer) old.others.items
 
--- n was taken of its own deque, or of another (ours)
+-- n was taken of its own deque, or of another
 abbrev pub TookFrom : ℕ → Hand → List Hand → Hand → List Hand → Type 0
 TookFrom n own passes own' passes' = ((own' ≡ took n own) × (passes' ≡ passes)) ⊎ ((own' ≡ own) × TookOne n passes passes')
 
--- of all that the worker has, the hand that took n has changed (ours)
+-- of all that the worker has, the hand that took n has changed
 abbrev pub Takes : ℕ → Marker → Marker → Type 0
 Takes n old new = TookFrom n (own_hand old) (passes_of old) (own_hand new) (passes_of new)
 
--- a turn that scanned n took it, then looked at each target and put what it claimed, and then noted it (ours)
+-- a turn that scanned n took it, then looked at each target and put what it claimed, and then noted it
 pub record Scans (n : ℕ) (old new : Marker) : Type 0 where
   pub mid : Hand
   pub taken : TookFrom n (own_hand old) (passes_of old) mid (passes_of new)
   pub grows : Grows (targets (graph_of old) n) (claims_of old) (claims_of new) mid (own_hand new)
   pub noted : scans_of new ≡ scans_of old ++ n ∷ []
 
--- a turn that took nothing. A worker that has every part found its own deque empty: all that it pushed was taken (ours)
+-- a turn that took nothing. A worker that has every part found its own deque empty: all that it pushed was taken
 pub record Idles (old new : Marker) : Type 0 where
   pub claims : claims_of new ≡ claims_of old
   pub own : own_hand new ≡ own_hand old
@@ -98,12 +98,12 @@ pub record Idles (old new : Marker) : Type 0 where
   pub noted : scans_of new ≡ scans_of old
   pub empty : (own_hand old).parts ≡ 1024 → (n : ℕ) → times n (own_hand old).pushed ≡ times n (own_hand old).taken
 
--- what a turn did, by its answer (ours)
+-- what a turn did, by its answer
 abbrev pub IsTurn : Turn → Marker → Marker → Type 0
 IsTurn (Scanned n) old new = Scans n old new
 IsTurn Nothing old new = Idles old new
 
--- nothing but the passes' hands has changed (ours)
+-- nothing but the passes' hands has changed
 pub record SameButTaken (old new : Marker) : Type 0 where
   pub number : new.number ≡ old.number
   pub board : new.board ≡ old.board
@@ -115,7 +115,7 @@ pub record SameButTaken (old new : Marker) : Type 0 where
   pub others : All (IsOther (graph_of old)) new.others.items
   pub parts : parts_of new.others.items ≡ parts_of old.others.items
 
--- neither its own deque nor another gave a node (ours)
+-- neither its own deque nor another gave a node
 pub record FoundNone (old new : Marker) : Type 0 where
   pub own : own_hand new ≡ own_hand old
   pub passes : passes_of new ≡ passes_of old

@@ -1,17 +1,17 @@
--- Events and answers, as the definitions have them.
+-- Events and answers, as the definitions have them. Ours, unless a source stands beside.
 use Rattle.meta_types.specs.Steps.{Answer as Said, answered, reported, refused, Event as Happening, requested, collect, remove_collect}
 use Rattle.store_front.specs.declared.events.Event.{Event}
 use Rattle.store_front.specs.declared.events.Event.TheVariants as E
 use Rattle.store_front.specs.declared.events.Answer.{Answer}
 use Rattle.store_front.specs.declared.events.Answer.TheVariants as A
 
--- an event (ours)
+-- an event
 abbrev pub event_of : Event → Happening
 event_of (E.Requested request) = requested request
 event_of (E.Collect at dry workers) = collect at.0 dry workers
 event_of (E.RemoveCollect removal at workers) = remove_collect removal at.0 workers
 
--- an answer (ours)
+-- an answer
 abbrev pub answer_of : Answer → Said
 answer_of (A.Answered reply) = answered reply
 answer_of (A.Reported report) = reported report

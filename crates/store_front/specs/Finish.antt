@@ -1,4 +1,4 @@
--- What a cut and a finish refuse, and what they give.
+-- What a cut and a finish refuse, and what they give. Ours, unless a source stands beside.
 use Rattle.std.specs.Prelude.{ℕ, zero, suc, ◌≡◌, ◌<◌, ◌+◌, ◌==◌, List, [], ◌∷◌, count_by, length, slice_index_or, nat_lt, if◌then◌else◌, ⊤}
 use Rattle.meta_types.specs.Rows.{State}
 use Rattle.meta_types.specs.Histories.{Entry, IsLegal}
@@ -7,7 +7,7 @@ use Rattle.meta_types.specs.declared.fault.Fault.TheVariants.{InvalidArgument, N
 use Rattle.store_front.specs.Told.{Told, Seat, Course}
 use Rattle.store_front.specs.Parts.{part, DifferFirst, AreOpened}
 
--- memory was wanting, or the session's part of the log and its list differ first at the place that is named (ours)
+-- memory was wanting, or the session's part of the log and its list differ first at the place that is named
 abbrev pub CutFails : Fault → List Told → List Told → Type 0
 CutFails OutOfMemory xs ys = ⊤
 CutFails (Mismatch place) xs ys = DifferFirst xs ys place
@@ -22,16 +22,16 @@ CutFails BackendFailed xs ys = ⊥
 CutFails ReadFailed xs ys = ⊥
 CutFails WriteFailed xs ys = ⊥
 
--- the numbers are those below this one, each once (ours)
+-- the numbers are those below this one, each once
 abbrev pub AreEach : ℕ → List Seat → Type 0
 AreEach opened seats = (k : ℕ) → count_by (λ s. s.number == k) seats ≡ (if nat_lt k opened then 1 else 0)
 
--- some session's part of the log and its list differ first at this place (ours)
+-- some session's part of the log and its list differ first at this place
 abbrev pub OneDiffers : List Entry → List Seat → ℕ → Type 0
 OneDiffers log seats place =
     (i : ℕ) × (d : Seat) × (i < length seats) × DifferFirst (part (slice_index_or seats i d).number log) (slice_index_or seats i d).list place
 
--- the numbers are wrong, or memory was wanting, or a list and its part differ; the last two only where the numbers are right (ours)
+-- the numbers are wrong, or memory was wanting, or a list and its part differ; the last two only where the numbers are right
 abbrev pub FinishFails : Fault → ℕ → List Entry → List Seat → Type 0
 FinishFails InvalidArgument opened log seats = ¬ (AreEach opened seats)
 FinishFails OutOfMemory opened log seats = AreEach opened seats
@@ -46,32 +46,32 @@ FinishFails BackendFailed opened log seats = ⊥
 FinishFails ReadFailed opened log seats = ⊥
 FinishFails WriteFailed opened log seats = ⊥
 
--- the events lead from the base to some store, each with its answer (ours)
+-- the events lead from the base to some store, each with its answer
 abbrev pub IsHistory : Course → Type 0
 IsHistory h = (state : State) × IsLegal h.base h.log state
 
--- each entry is of one of these sessions, which have different numbers (ours)
+-- each entry is of one of these sessions, which have different numbers
 abbrev pub AreOfThese : List Entry → List Seat → Type 0
 AreOfThese log seats = (opened : ℕ) × AreEach opened seats × AreOpened opened log
 
--- the session with nothing told yet (ours)
+-- the session with nothing told yet
 abbrev pub fresh : Seat → Seat
 fresh s = record { number = s.number; list = [] }
 
--- how many answers these sessions were told (ours)
+-- how many answers these sessions were told
 abbrev pub told_to : List Seat → ℕ
 told_to [] = 0
 told_to (s ∷ seats) = length s.list + told_to seats
 
 -- ---- while lists are emptied
 
--- so many are emptied (ours)
+-- so many are emptied
 abbrev pub cleared : ℕ → List Seat → List Seat
 cleared zero seats = seats
 cleared (suc i) [] = []
 cleared (suc i) (s ∷ seats) = fresh s ∷ cleared i seats
 
--- how many answers so many were told (ours)
+-- how many answers so many were told
 abbrev pub told_first : ℕ → List Seat → ℕ
 told_first zero seats = 0
 told_first (suc i) [] = 0

@@ -1,20 +1,20 @@
--- What a session was told, and what the locked store is.
+-- What a session was told, and what the locked store is. Ours, unless a source stands beside.
 use Rattle.std.specs.Prelude.{ℕ, List}
 use Rattle.meta_types.specs.Rows.{State}
 use Rattle.meta_types.specs.Steps.{Answer, Event}
 use Rattle.meta_types.specs.Histories.{Entry}
 
--- an event with its answer (ours)
+-- an event with its answer
 pub record Told : Type 0 where
   pub event : Event
   pub answer : Answer
 
--- a session: its number, and what it was told, in order (ours)
+-- a session: its number, and what it was told, in order
 pub record Seat : Type 0 where
   pub number : ℕ
   pub list : List Told
 
--- a history: the store at the opening, and the entries since (ours)
+-- a history: the store at the opening, and the entries since
 pub record Course : Type 0 where
   pub base : State
   pub log : List Entry

@@ -1,4 +1,4 @@
--- The report of a plan and of what was swept, and what the three come to.
+-- The report of a plan and of what was swept, and what the three come to. Ours, unless a source stands beside.
 use Rattle.std.specs.Prelude.{◌≡◌, Bool, true, false, ℤ, length, if◌then◌else◌}
 use Rattle.meta_types.specs.Rows.{Records, BackLists, State}
 use Rattle.meta_types.specs.Backends.{no_objects}
@@ -10,7 +10,7 @@ use Rattle.meta_types.specs.Collected.{collected_records}
 use Rattle.backend_sweep.specs.Planned.{IsPlanOf}
 use Rattle.backend_sweep.specs.Swept.{AllSwept, SweepsNames}
 
--- the report of a collection has what was swept; that of a dry run what the plan names, and no failure (ours)
+-- the report of a collection has what was swept; that of a dry run what the plan names, and no failure
 abbrev pub reported : Plan → AllSwept → Bool → Report
 reported plan swept dry = record {
   backend = if dry then plan.backend else swept.removed;
@@ -24,23 +24,23 @@ reported plan swept dry = record {
   scanned = plan.scanned;
 }
 
--- the plan of a store (ours)
+-- the plan of a store
 abbrev pub IsPlanOfStore : State → ℤ → Plan → Type 0
 IsPlanOfStore state at plan = IsPlanOf state.records (length state.records.tables.namespaces) state.backends at plan
 
--- the backends are swept of what the plan names (ours)
+-- the backends are swept of what the plan names
 abbrev pub SweepsBackends : Plan → BackLists → AllSwept → BackLists → Type 0
 SweepsBackends plan old swept new = SweepsNames plan.backend old new swept
 
--- the records are swept of what the masks don't keep (ours)
+-- the records are swept of what the masks don't keep
 abbrev pub SweepsRecords : Plan → Records → Records → Type 0
 SweepsRecords plan old new = (at : ℤ) (reached : Thing → Bool) → AreMasks old at reached plan.masks → new ≡ collected_records at reached old
 
--- a plan of a store, both sweeps by it and the report are a collection, with the failures of the sweep (ours)
+-- a plan of a store, both sweeps by it and the report are a collection, with the failures of the sweep
 abbrev pub ASweptPlanIsACollection : Type 0
 ASweptPlanIsACollection = (state : State) (at : ℤ) (plan : Plan) (swept : AllSwept) (records : Records) (back : BackLists) → IsPlanOfStore state at plan → SweepsRecords plan state.records records → SweepsBackends plan state.backends swept back
     → Collects state at swept.failed (reported plan swept false) (record { records = records; backends = back })
 
--- a plan of a store and its report are a dry run (ours)
+-- a plan of a store and its report are a dry run
 abbrev pub APlanIsADryRun : Type 0
 APlanIsADryRun = (state : State) (at : ℤ) (plan : Plan) (swept : AllSwept) → IsPlanOfStore state at plan → Plans state at (reported plan swept true)

@@ -1,4 +1,4 @@
--- What the backends list, and the tables that masks leave.
+-- What the backends list, and the tables that masks leave. Ours, unless a source stands beside.
 use Rattle.std.specs.Prelude.{map}
 use Rattle.meta_types.specs.Rows.{Tables, Records, BackLists}
 use Rattle.object_tables.specs.Calls.{kept}
@@ -6,11 +6,11 @@ use Rattle.table_sweep.specs.Depths.{snap_of}
 use Rattle.table_sweep.specs.declared.masks.Masks.{Masks}
 use Rattle.table_sweep.specs.declared.objects.BackRows.{BackRows}
 
--- borrowed lists, as the definitions have them (ours)
+-- borrowed lists, as the definitions have them
 abbrev pub lists_of : BackRows → BackLists
 lists_of back = record { blobs = back.blobs.now; snapshots = map snap_of back.snapshots.now; ingests = back.ingests.now }
 
--- the tables that the masks leave (ours)
+-- the tables that the masks leave
 abbrev pub left_by : Records → Masks → Tables
 left_by records masks = record records.tables {
   images = kept masks.images.items records.tables.images;

@@ -1,4 +1,4 @@
--- A plan follows the paths. Each statement is the contract of a function of the module `laws`.
+-- A plan follows the paths. Each statement is the contract of a function of the module `laws`. Ours, unless a source stands beside.
 use Rattle.std.specs.Prelude.{ℕ, List, ◌↔◌, ℤ, Contains}
 use Rattle.meta_types.specs.Rows.{Records, BackLists}
 use Rattle.meta_types.specs.Paths.{ingest, content, snapshot, IsReached}
@@ -14,7 +14,7 @@ use Rattle.gc_graph.specs.Marked.{reached_by}
 use Rattle.table_sweep.specs.declared.planning.Plan.{Plan}
 use Rattle.table_sweep.specs.Plans.{IsPlan, IsPlanOf}
 
--- by the graph of the store and its reached numbers, a plan is that of a collection (ours)
+-- by the graph of the store and its reached numbers, a plan is that of a collection
 abbrev pub ReachedMarksPlanACollection : Type 0
 ReachedMarksPlanACollection = (records : Records) (namespaces : ℕ) (back : BackLists) (at : ℤ) (book : List Node) (graph : Graph) (marks : List ℕ) (plan : Plan)
     → IsBuilt records at book graph → AreReached graph marks → IsPlan records namespaces back at (reached_by records.profile book marks at) plan → IsPlanOf records namespaces back at plan
@@ -26,6 +26,6 @@ pub record GoesWhatNoPathLeadsTo (records : Records) (at : ℤ) (plan : Plan) : 
       → Contains plan.removed.snapshots (row.key.ns, row.key.snapshotter, row.key.name) ↔ ((mode : Mode) → IsReached records at (snapshot mode row) → ⊥)
   pub ingest_rows : (row : IngestRow) → Contains records.tables.ingests row → Contains plan.removed.ingests (row.ns, row.name) ↔ (IsReached records at (ingest row) → ⊥)
 
--- a plan names just what no path leads to (ours)
+-- a plan names just what no path leads to
 abbrev pub APlanFollowsThePaths : Type 0
 APlanFollowsThePaths = (records : Records) (namespaces : ℕ) (back : BackLists) (at : ℤ) (plan : Plan) → AreApart records → IsPlanOf records namespaces back at plan → GoesWhatNoPathLeadsTo records at plan

@@ -1,4 +1,4 @@
--- What a plan says of a store.
+-- What a plan says of a store. Ours, unless a source stands beside.
 use Rattle.std.specs.Prelude.{◌≡◌, ℕ, Bool, ℤ}
 use Rattle.meta_types.specs.Rows.{Records, BackLists}
 use Rattle.meta_types.specs.Paths.{Thing, TellsReached}
@@ -8,7 +8,7 @@ use Rattle.meta_types.specs.Reports.{removed_of, kept_of, ignored_of, ignored_im
 use Rattle.table_sweep.specs.declared.planning.Plan.{Plan}
 use Rattle.table_sweep.specs.Stays.{AreMasks}
 
--- the plan's members are those of the report of a collection without a failure; namespaces, of which there are so many, all stay (ours)
+-- the plan's members are those of the report of a collection without a failure; namespaces, of which there are so many, all stay
 pub record IsPlan (records : Records) (namespaces : ℕ) (back : BackLists) (at : ℤ) (reached : Thing → Bool) (plan : Plan) : Type 0 where
   pub masks : AreMasks records at reached plan.masks
   pub backend : plan.backend ≡ removed_objects (collected_records at reached records).tables no_objects back
@@ -19,7 +19,7 @@ pub record IsPlan (records : Records) (namespaces : ℕ) (back : BackLists) (at 
   pub profile : plan.profile ≡ records.profile
   pub scanned : plan.scanned ≡ scanned_of reached records
 
--- the plan is that of a collection without a failure: some test tells where paths end, and the plan is by it (ours)
+-- the plan is that of a collection without a failure: some test tells where paths end, and the plan is by it
 pub record IsPlanOf (records : Records) (namespaces : ℕ) (back : BackLists) (at : ℤ) (plan : Plan) : Type 0 where
   pub reached : Thing → Bool
   pub tells : TellsReached records at reached

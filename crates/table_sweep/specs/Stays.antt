@@ -1,4 +1,4 @@
--- When masks are those of a collection.
+-- When masks are those of a collection. Ours, unless a source stands beside.
 use Rattle.std.specs.Prelude.{◌≡◌, ℕ, List, map, length, count_by, Bool, ℤ}
 use Rattle.meta_types.specs.Rows.{Tables, Records, LeaseRow}
 use Rattle.meta_types.specs.Sound.{AreNumbered}
@@ -10,7 +10,7 @@ use Rattle.lease_book.specs.Calls.{kept as kept_leases}
 use Rattle.table_sweep.specs.declared.masks.Masks.{Masks}
 use Rattle.table_sweep.specs.Masks.{gone}
 
--- the masks tell which rows stay (ours)
+-- the masks tell which rows stay
 pub record AreMasks (records : Records) (at : ℤ) (reached : Thing → Bool) (masks : Masks) : Type 0 where
   pub images : masks.images.items ≡ map (image_stays records.profile at) records.tables.images
   pub leases : masks.leases.items ≡ map (lease_stays at) records.leases
@@ -18,13 +18,13 @@ pub record AreMasks (records : Records) (at : ℤ) (reached : Thing → Bool) (m
   pub content : masks.content.items ≡ map (content_stays reached) records.tables.content
   pub snapshots : masks.snapshots.items ≡ map (snapshot_stays reached) records.tables.snapshots
 
--- a collection: the records before it, its moment, and a test of what paths reach (ours)
+-- a collection: the records before it, its moment, and a test of what paths reach
 pub record Collection : Type 0 where
   pub records : Records
   pub at : ℤ
   pub reached : Thing → Bool
 
--- each mask is as long as its kind has rows (ours)
+-- each mask is as long as its kind has rows
 pub record FitRows (tables : Tables) (held : List LeaseRow) (masks : Masks) : Type 0 where
   pub images : length masks.images.items ≡ length tables.images
   pub leases : length masks.leases.items ≡ length held
@@ -32,11 +32,11 @@ pub record FitRows (tables : Tables) (held : List LeaseRow) (masks : Masks) : Ty
   pub content : length masks.content.items ≡ length tables.content
   pub snapshots : length masks.snapshots.items ≡ length tables.snapshots
 
--- a snapshot that stays keeps its parent, and no backend number is used twice among what stays (ours)
+-- a snapshot that stays keeps its parent, and no backend number is used twice among what stays
 pub record StayNumbered (tables : Tables) (masks : Masks) : Type 0 where
   pub numbered : AreNumbered (kept masks.snapshots.items tables.snapshots) (kept masks.ingests.items tables.ingests)
 
--- the rows that the masks keep; namespaces and containers all stay (ours)
+-- the rows that the masks keep; namespaces and containers all stay
 abbrev pub left_tables : Masks → Tables → Tables
 left_tables masks tables = record tables {
   images = kept masks.images.items tables.images;
@@ -45,11 +45,11 @@ left_tables masks tables = record tables {
   snapshots = kept masks.snapshots.items tables.snapshots;
 }
 
--- the leases that their mask keeps (ours)
+-- the leases that their mask keeps
 abbrev pub left_leases : Masks → List LeaseRow → List LeaseRow
 left_leases masks leases = kept_leases masks.leases.items leases
 
--- the names of the rows that the masks leave out (ours)
+-- the names of the rows that the masks leave out
 abbrev pub gone_names : Records → Masks → Removed
 gone_names records masks = record {
   content = map (λ row. (row.ns, row.digest)) (gone masks.content.items records.tables.content);
@@ -60,7 +60,7 @@ gone_names records masks = record {
       (gone masks.snapshots.items records.tables.snapshots);
 }
 
--- how many rows the masks keep (ours)
+-- how many rows the masks keep
 abbrev pub kept_counts : Records → Masks → ℕ → Kept
 kept_counts records masks namespaces = record {
   containers = length records.tables.containers;

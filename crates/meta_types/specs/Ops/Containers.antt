@@ -1,4 +1,4 @@
--- What requests on containers do. The state is that before the request.
+-- What requests on containers do. A call in brackets is of containerd's container store. Ours, unless a source stands beside.
 use Rattle.std.specs.Prelude.{not, ◌||◌, List, [], ◌∷◌, Option, None, if◌then◌else◌, is_some, is_none, option_map, option_and_then}
 use Rattle.meta_types.specs.Text.{Text, is_short_name, is_name}
 use Rattle.meta_types.specs.Keys.{row_at, has_row, add_row, remove_row, change_row}
@@ -9,7 +9,7 @@ use Rattle.meta_types.specs.Ops.{Outcome, done, labelled, row_reply, names_in, l
 use Rattle.meta_types.specs.declared.reply.Row.TheVariants as W
 use Rattle.meta_types.specs.declared.reply.Reply.TheVariants as R
 
--- adds a container; snapshotter and key stand together or not at all, and the snapshot needn't be stored (containerd container store, Create)
+-- adds a container; snapshotter and key stand together or not at all, and the snapshot needn't be stored (Create)
 abbrev pub adds_container : State → Text → Text → Option Text → Option Text → List (Text × Text) → Outcome
 adds_container state ns name snapshotter key labels =
     let rows = state.records.tables.containers in
@@ -21,7 +21,7 @@ adds_container state ns name snapshotter key labels =
       after = with_containers state (add_row container_key (record { ns = ns; name = name; snapshot = snapshot; labels = labels_of labels }) rows);
     }
 
--- removes a container's row (containerd container store, Delete)
+-- removes a container's row (Delete)
 abbrev pub removes_container : State → Text → Text → Outcome
 removes_container state ns name =
     let rows = state.records.tables.containers in
@@ -31,7 +31,7 @@ removes_container state ns name =
       after = with_containers state (remove_row container_key (ns ∷ name ∷ []) rows);
     }
 
--- shows a container (containerd container store, Get)
+-- shows a container (Get)
 abbrev pub gets_container : State → Text → Text → Outcome
 gets_container state ns name =
     let found = row_at container_key (ns ∷ name ∷ []) state.records.tables.containers in
@@ -41,7 +41,7 @@ gets_container state ns name =
       reply = row_reply W.Container found;
     }
 
--- the names of a namespace's containers (containerd container store, List)
+-- the names of a namespace's containers (List)
 abbrev pub lists_containers : State → Text → Outcome
 lists_containers state ns =
     record (done state) {
@@ -50,7 +50,7 @@ lists_containers state ns =
       reply = R.Names (names_in (λ row. row.ns) (λ row. row.name) ns state.records.tables.containers);
     }
 
--- puts one label on a container (containerd container store, Update)
+-- puts one label on a container (Update)
 abbrev pub labels_container : State → Text → Text → Text → Text → Outcome
 labels_container state ns name key value =
     let rows = state.records.tables.containers in

@@ -1,4 +1,4 @@
--- What requests on content do. The state is that before the request.
+-- What requests on content do. A call in brackets is of containerd's content store. Ours, unless a source stands beside.
 use Rattle.std.specs.Prelude.{not, ◌||◌, List, [], ◌∷◌, Option, None, is_none}
 use Rattle.meta_types.specs.Text.{Text, is_short_name, is_name, is_digest}
 use Rattle.meta_types.specs.Keys.{row_at, has_row, add_row, remove_row, change_row}
@@ -21,7 +21,7 @@ adds_content state ns digest labels lease =
       after = holding ns lease (Content digest) (with_blob digest (with_content state (add_row content_key (record { ns = ns; digest = digest; labels = labels_of labels }) rows)));
     }
 
--- removes content from a namespace; its blob goes at a later collection (containerd content store, Delete)
+-- removes content from a namespace; its blob goes at a later collection (Delete)
 abbrev pub removes_content : State → Text → Text → Outcome
 removes_content state ns digest =
     let rows = state.records.tables.content in
@@ -31,7 +31,7 @@ removes_content state ns digest =
       after = with_content state (remove_row content_key (ns ∷ digest ∷ []) rows);
     }
 
--- shows content (containerd content store, Info)
+-- shows content (Info)
 abbrev pub gets_content : State → Text → Text → Outcome
 gets_content state ns digest =
     let found = row_at content_key (ns ∷ digest ∷ []) state.records.tables.content in
@@ -41,7 +41,7 @@ gets_content state ns digest =
       reply = row_reply W.Content found;
     }
 
--- puts one label on content (containerd content store, Update)
+-- puts one label on content (Update)
 abbrev pub labels_content : State → Text → Text → Text → Text → Outcome
 labels_content state ns digest key value =
     let rows = state.records.tables.content in
@@ -52,7 +52,7 @@ labels_content state ns digest key value =
       after = with_content state (change_row content_key (ns ∷ digest ∷ []) (λ row. record row { labels = put_label key value row.labels }) rows);
     }
 
--- the digests of a namespace's content (containerd content store, Walk)
+-- the digests of a namespace's content (Walk)
 abbrev pub lists_content : State → Text → Outcome
 lists_content state ns =
     record (done state) {

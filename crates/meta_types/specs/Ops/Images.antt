@@ -1,4 +1,4 @@
--- What requests on images do. The state is that before the request.
+-- What requests on images do. A call in brackets is of containerd's image store. Ours, unless a source stands beside.
 use Rattle.std.specs.Prelude.{not, ◌||◌, List, [], ◌∷◌, None, is_none}
 use Rattle.meta_types.specs.Text.{Text, is_short_name, is_name, is_digest}
 use Rattle.meta_types.specs.Keys.{row_at, has_row, add_row, remove_row, change_row}
@@ -9,7 +9,7 @@ use Rattle.meta_types.specs.Ops.{Outcome, done, labelled, row_reply, names_in, l
 use Rattle.meta_types.specs.declared.reply.Row.TheVariants as W
 use Rattle.meta_types.specs.declared.reply.Reply.TheVariants as R
 
--- adds an image; its target needn't be stored (containerd image store, Create)
+-- adds an image; its target needn't be stored (Create)
 abbrev pub adds_image : State → Text → Text → Text → List (Text × Text) → Outcome
 adds_image state ns name target labels =
     let rows = state.records.tables.images in
@@ -20,7 +20,7 @@ adds_image state ns name target labels =
       after = with_images state (add_row image_key (record { ns = ns; name = name; target = target; labels = labels_of labels }) rows);
     }
 
--- sets an image's target, and keeps its labels (containerd image store, Update)
+-- sets an image's target, and keeps its labels (Update)
 abbrev pub targets_image : State → Text → Text → Text → Outcome
 targets_image state ns name target =
     let rows = state.records.tables.images in
@@ -30,7 +30,7 @@ targets_image state ns name target =
       after = with_images state (change_row image_key (ns ∷ name ∷ []) (λ row. record row { target = target }) rows);
     }
 
--- removes an image's row (containerd image store, Delete)
+-- removes an image's row (Delete)
 abbrev pub removes_image : State → Text → Text → Outcome
 removes_image state ns name =
     let rows = state.records.tables.images in
@@ -40,7 +40,7 @@ removes_image state ns name =
       after = with_images state (remove_row image_key (ns ∷ name ∷ []) rows);
     }
 
--- shows an image (containerd image store, Get)
+-- shows an image (Get)
 abbrev pub gets_image : State → Text → Text → Outcome
 gets_image state ns name =
     let found = row_at image_key (ns ∷ name ∷ []) state.records.tables.images in
@@ -50,7 +50,7 @@ gets_image state ns name =
       reply = row_reply W.Image found;
     }
 
--- the names of a namespace's images (containerd image store, List)
+-- the names of a namespace's images (List)
 abbrev pub lists_images : State → Text → Outcome
 lists_images state ns =
     record (done state) {
@@ -59,7 +59,7 @@ lists_images state ns =
       reply = R.Names (names_in (λ row. row.ns) (λ row. row.name) ns state.records.tables.images);
     }
 
--- puts one label on an image (containerd image store, Update)
+-- puts one label on an image (Update)
 abbrev pub labels_image : State → Text → Text → Text → Text → Outcome
 labels_image state ns name key value =
     let rows = state.records.tables.images in

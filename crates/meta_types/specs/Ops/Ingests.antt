@@ -1,4 +1,4 @@
--- What requests on ingests do. The state is that before the request.
+-- What requests on ingests do. Ours, unless a source stands beside.
 use Rattle.std.specs.Prelude.{false, not, List, [], ◌∷◌, Option, None, if◌then◌else◌, bytes_eq, is_some, is_none, option_map, pos, ◌+ℤ◌}
 use Rattle.std.specs.Option.{option_map_or}
 use Rattle.meta_types.specs.Text.{Text, is_short_name, is_name, is_digest}
@@ -14,11 +14,11 @@ use Rattle.meta_types.specs.declared.resource.Resource.TheVariants.{Content, Ing
 use Rattle.meta_types.specs.declared.reply.Row.TheVariants as W
 use Rattle.meta_types.specs.declared.reply.Reply.TheVariants as R
 
--- an ingest that was begun at this time ends 24 hours later (containerd content-flow.md: ingests are cleaned up after a day; the end included: ours)
+-- an ingest that was begun at this time ends 24 hours later (containerd content-flow.md: ingests are cleaned up after a day)
 abbrev pub end_of : Text → Option Instant
 end_of at = option_map (λ moment. record { 0 = moment +ℤ pos 86400000000000 }) (instant_of at)
 
--- one that a lease holds has no end of its own (ours)
+-- one that a lease holds has no end of its own
 abbrev pub own_end : Option Text → Text → Option Instant
 own_end lease at = if is_some lease then None else end_of at
 

@@ -1,4 +1,4 @@
--- What requests on leases do. The state is that before the request.
+-- What requests on leases do. A call in brackets is of containerd's leases service. Ours, unless a source stands beside.
 use Rattle.std.specs.Prelude.{false, not, ◌||◌, List, [], ◌∷◌, None, is_some, is_none}
 use Rattle.std.specs.Option.{option_map_or}
 use Rattle.meta_types.specs.Text.{Text, is_short_name, is_name}
@@ -11,7 +11,7 @@ use Rattle.meta_types.specs.Ops.{Outcome, done, labelled, row_reply, names_in, l
 use Rattle.meta_types.specs.declared.reply.Row.TheVariants as W
 use Rattle.meta_types.specs.declared.reply.Reply.TheVariants as R
 
--- adds a lease that holds nothing yet (containerd leases service, Create)
+-- adds a lease that holds nothing yet (Create)
 abbrev pub adds_lease : State → Text → Text → List (Text × Text) → Outcome
 adds_lease state ns id labels =
     let rows = state.records.leases in
@@ -22,7 +22,7 @@ adds_lease state ns id labels =
       after = with_leases state (add_row lease_key (record { ns = ns; id = id; labels = labels_of labels; resources = [] }) rows);
     }
 
--- removes a lease with what it holds (containerd leases service, Delete)
+-- removes a lease with what it holds (Delete)
 abbrev pub removes_lease : State → Text → Text → Outcome
 removes_lease state ns id =
     let rows = state.records.leases in
@@ -32,7 +32,7 @@ removes_lease state ns id =
       after = with_leases state (remove_row lease_key (ns ∷ id ∷ []) rows);
     }
 
--- shows a lease, expired or not (containerd leases service; expired: ours)
+-- shows a lease (containerd leases service), expired or not
 abbrev pub gets_lease : State → Text → Text → Outcome
 gets_lease state ns id =
     let found = row_at lease_key (ns ∷ id ∷ []) state.records.leases in
@@ -42,7 +42,7 @@ gets_lease state ns id =
       reply = row_reply (λ row. W.Lease row.id row.labels) found;
     }
 
--- puts one label on a lease (ours)
+-- puts one label on a lease
 abbrev pub labels_lease : State → Text → Text → Text → Text → Outcome
 labels_lease state ns id key value =
     let rows = state.records.leases in
@@ -53,7 +53,7 @@ labels_lease state ns id key value =
       after = with_leases state (change_row lease_key (ns ∷ id ∷ []) (λ row. record row { labels = put_label key value row.labels }) rows);
     }
 
--- the ids of a namespace's leases (containerd leases service, List)
+-- the ids of a namespace's leases (List)
 abbrev pub lists_leases : State → Text → Outcome
 lists_leases state ns =
     record (done state) {
@@ -62,7 +62,7 @@ lists_leases state ns =
       reply = R.Names (names_in (λ row. row.ns) (λ row. row.id) ns state.records.leases);
     }
 
--- gives a lease a resource, which needn't be there; held already, nothing changes (containerd leases service, AddResource)
+-- gives a lease a resource, which needn't be there; held already, nothing changes (AddResource)
 abbrev pub holds_resource : State → Text → Text → Text → Text → Outcome
 holds_resource state ns id kind text =
     let rows = state.records.leases in
@@ -72,7 +72,7 @@ holds_resource state ns id kind text =
       after = with_leases state (option_map_or (λ resource. hold_in (ns ∷ id ∷ []) resource rows) (resource_of kind text) rows);
     }
 
--- takes a resource from a lease that holds it (containerd leases service, DeleteResource)
+-- takes a resource from a lease that holds it (DeleteResource)
 abbrev pub drops_resource : State → Text → Text → Text → Text → Outcome
 drops_resource state ns id kind text =
     let rows = state.records.leases in
@@ -82,7 +82,7 @@ drops_resource state ns id kind text =
       after = with_leases state (option_map_or (λ resource. drop_in (ns ∷ id ∷ []) resource rows) (resource_of kind text) rows);
     }
 
--- what a lease holds, by types and ids (containerd leases service, ListResources)
+-- what a lease holds, by types and ids (ListResources)
 abbrev pub lists_resources : State → Text → Text → Outcome
 lists_resources state ns id =
     let found = row_at lease_key (ns ∷ id ∷ []) state.records.leases in

@@ -1,4 +1,4 @@
--- What requests on namespaces, and on the profile, do. The state is that before the request.
+-- What requests on namespaces, and on the profile, do. A call in brackets is of containerd's namespaces service. Ours, unless a source stands beside.
 use Rattle.std.specs.Prelude.{ℕ, Bool, true, false, not, ◌||◌, ◌&&◌, ◌==◌, List, [], ◌∷◌, None}
 use Rattle.meta_types.specs.Text.{Text, is_short_name}
 use Rattle.meta_types.specs.Keys.{add_row, remove_row}
@@ -7,7 +7,7 @@ use Rattle.meta_types.specs.Changes.{has_namespace, is_in_use, has_lease_in, wit
 use Rattle.meta_types.specs.Ops.{Outcome, done, lacks}
 use Rattle.meta_types.specs.declared.reply.Reply.TheVariants as R
 
--- adds a namespace (containerd namespaces service, Create)
+-- adds a namespace (Create)
 abbrev pub adds_namespace : State → Text → Outcome
 adds_namespace state ns =
     record (done state) {
@@ -16,7 +16,7 @@ adds_namespace state ns =
       after = with_namespaces state (add_row namespace_key ns state.records.tables.namespaces);
     }
 
--- removes a namespace that holds no object and no lease (containerd namespaces service, Delete)
+-- removes a namespace that holds no object and no lease (Delete)
 abbrev pub removes_namespace : State → Text → Outcome
 removes_namespace state ns =
     record (done state) {
@@ -26,11 +26,11 @@ removes_namespace state ns =
       after = with_namespaces state (remove_row namespace_key (ns ∷ []) state.records.tables.namespaces);
     }
 
--- the namespaces, by their bytes (containerd namespaces service, List)
+-- the namespaces, by their bytes (List)
 abbrev pub lists_namespaces : State → Outcome
 lists_namespaces state = record (done state) { reply = R.Names state.records.tables.namespaces }
 
--- no row of any kind is stored, and no backend number was used (ours)
+-- no row of any kind is stored, and no backend number was used
 abbrev pub is_untouched : Records → Bool
 is_untouched records = is_nothing records.tables.namespaces && is_nothing records.tables.images && is_nothing records.tables.containers && is_nothing records.tables.content
     && is_nothing records.tables.ingests && is_nothing records.tables.snapshots && is_nothing records.leases && records.next == 1
@@ -39,7 +39,7 @@ is_untouched records = is_nothing records.tables.namespaces && is_nothing record
     is_nothing [] = true
     is_nothing (x ∷ xs) = false
 
--- chooses the profile, 1 or 2, while nothing is stored (ours)
+-- chooses the profile, 1 or 2, while nothing is stored
 abbrev pub chooses_profile : State → ℕ → Outcome
 chooses_profile state v =
     record (done state) {

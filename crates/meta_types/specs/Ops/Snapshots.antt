@@ -1,4 +1,4 @@
--- What requests on snapshots do. The state is that before the request.
+-- What requests on snapshots do. A call or a kind in brackets is of containerd's snapshots service. Ours, unless a source stands beside.
 use Rattle.std.specs.Prelude.{Bool, true, false, not, ◌&&◌, ◌||◌, List, [], ◌∷◌, map, Option, None, filter, bytes_eq, is_some, is_none, option_map, option_and_then}
 use Rattle.std.specs.List.{list_any}
 use Rattle.std.specs.Option.{option_map_or}
@@ -16,13 +16,13 @@ use Rattle.meta_types.specs.declared.resource.Resource.TheVariants.{Snapshot}
 use Rattle.meta_types.specs.declared.reply.Row.TheVariants as W
 use Rattle.meta_types.specs.declared.reply.Reply.TheVariants as R
 
--- others may stand over the snapshot (containerd snapshots service, KindCommitted)
+-- others may stand over the snapshot (KindCommitted)
 abbrev pub is_committed : SnapKind → Bool
 is_committed Committed = true
 is_committed Active = false
 is_committed View = false
 
--- it can be committed (containerd snapshots service, KindActive)
+-- it can be committed (KindActive)
 abbrev pub is_active : SnapKind → Bool
 is_active Active = true
 is_active Committed = false
@@ -32,7 +32,7 @@ is_active View = false
 abbrev pub parent_row : List SnapRow → Text → Text → Option Text → Option SnapRow
 parent_row rows ns snapshotter parent = option_and_then (λ name. row_at snap_key (ns ∷ snapshotter ∷ name ∷ []) rows) parent
 
--- what a new snapshot finds among the rows: its parent, another of its key, and whether one may stand over the parent (containerd snapshots service, Prepare and View)
+-- what a new snapshot finds among the rows: its parent, another of its key, and whether one may stand over the parent (Prepare and View)
 abbrev pub new_snap_findings : Text → Text → Text → Option Text → List SnapRow → Findings
 new_snap_findings ns snapshotter key parent rows =
     let above = parent_row rows ns snapshotter parent in
@@ -42,13 +42,13 @@ new_snap_findings ns snapshotter key parent rows =
       forbidden = option_map_or (λ row. not (is_committed row.kind)) above false;
     }
 
--- what a request for a new snapshot finds, which wants a backend number too (containerd snapshots service, Prepare and View)
+-- what a request for a new snapshot finds, which wants a backend number too (Prepare and View)
 abbrev pub prepare_findings : State → Text → Text → Text → Option Text → Option Text → Findings
 prepare_findings state ns snapshotter key parent lease =
     let found = in_store state ns lease (new_snap_findings ns snapshotter key parent state.records.tables.snapshots) in
     record found { forbidden = found.forbidden || is_out_of_numbers state }
 
--- makes a snapshot over a committed parent or none, under the next backend number (containerd snapshots service, Prepare and View)
+-- makes a snapshot over a committed parent or none, under the next backend number (Prepare and View)
 abbrev pub prepares : State → SnapKind → Text → Text → Text → Option Text → List (Text × Text) → Option Text → Outcome
 prepares state kind ns snapshotter key parent labels lease =
     let rows = state.records.tables.snapshots in
@@ -63,13 +63,13 @@ prepares state kind ns snapshotter key parent labels lease =
       after = holding ns lease (Snapshot snapshotter key) (with_snapshot_object snapshotter (option_map (λ row. row.number) above) (with_snapshots state (add_row snap_key new rows)));
     }
 
--- the rows with a key's row committed under a name, with its parent and number and with these labels (containerd snapshots service, Commit; the labels: ours)
+-- the rows with a key's row committed under a name, with its parent and number and with these labels (Commit, but for the labels)
 abbrev pub committed : Text → Text → Text → Text → LabelList → List SnapRow → List SnapRow
 committed ns snapshotter key name labels rows =
     option_map_or (λ row. add_row snap_key (record row { key = record { ns = ns; snapshotter = snapshotter; name = name }; kind = Committed; labels = labels })
     (remove_row snap_key (ns ∷ snapshotter ∷ key ∷ []) rows)) (row_at snap_key (ns ∷ snapshotter ∷ key ∷ []) rows) rows
 
--- what a commit finds among the rows: the key's row, another of the name, and whether the row is active (containerd snapshots service, Commit)
+-- what a commit finds among the rows: the key's row, another of the name, and whether the row is active (Commit)
 abbrev pub commit_findings : Text → Text → Text → Text → List SnapRow → Findings
 commit_findings ns snapshotter key name rows =
     let found = row_at snap_key (ns ∷ snapshotter ∷ key ∷ []) rows in
@@ -79,7 +79,7 @@ commit_findings ns snapshotter key name rows =
       forbidden = option_map_or (λ row. not (is_active row.kind)) found false;
     }
 
--- commits an active snapshot under a name that no snapshot has, itself included (containerd snapshots service, Commit)
+-- commits an active snapshot under a name that no snapshot has, itself included (Commit)
 abbrev pub commits_snapshot : State → Text → Text → Text → Text → List (Text × Text) → Option Text → Outcome
 commits_snapshot state ns snapshotter key name labels lease =
     let rows = state.records.tables.snapshots in
@@ -96,7 +96,7 @@ commits_snapshot state ns snapshotter key name labels lease =
 abbrev pub is_child_of : Text → Text → Text → SnapRow → Bool
 is_child_of ns snapshotter key row = bytes_eq ns row.key.ns && bytes_eq snapshotter row.key.snapshotter && option_map_or (bytes_eq key) row.parent false
 
--- removes a snapshot that is no parent; its backend object goes at a later collection (containerd snapshots service, Remove)
+-- removes a snapshot that is no parent; its backend object goes at a later collection (Remove)
 abbrev pub removes_snapshot : State → Text → Text → Text → Outcome
 removes_snapshot state ns snapshotter key =
     let rows = state.records.tables.snapshots in
@@ -107,7 +107,7 @@ removes_snapshot state ns snapshotter key =
       after = with_snapshots state (remove_row snap_key (ns ∷ snapshotter ∷ key ∷ []) rows);
     }
 
--- shows a snapshot (containerd snapshots service, Stat)
+-- shows a snapshot (Stat)
 abbrev pub gets_snapshot : State → Text → Text → Text → Outcome
 gets_snapshot state ns snapshotter key =
     let found = row_at snap_key (ns ∷ snapshotter ∷ key ∷ []) state.records.tables.snapshots in
@@ -117,7 +117,7 @@ gets_snapshot state ns snapshotter key =
       reply = row_reply W.Snap found;
     }
 
--- puts one label on a snapshot (containerd snapshots service, Update)
+-- puts one label on a snapshot (Update)
 abbrev pub labels_snapshot : State → Text → Text → Text → Text → Text → Outcome
 labels_snapshot state ns snapshotter name key value =
     let rows = state.records.tables.snapshots in
@@ -128,11 +128,11 @@ labels_snapshot state ns snapshotter name key value =
       after = with_snapshots state (change_row snap_key (ns ∷ snapshotter ∷ name ∷ []) (λ row. record row { labels = put_label key value row.labels }) rows);
     }
 
--- the names of a snapshotter's snapshots in a namespace (containerd snapshots service, List)
+-- the names of a snapshotter's snapshots in a namespace (List)
 abbrev pub snapshots_in : Text → Text → List SnapRow → List Text
 snapshots_in ns snapshotter rows = map (λ row. row.key.name) (filter (λ row. bytes_eq ns row.key.ns && bytes_eq snapshotter row.key.snapshotter) rows)
 
--- lists them; a snapshotter that nobody used has none (containerd snapshots service, List)
+-- lists them; a snapshotter that nobody used has none (List)
 abbrev pub lists_snapshots : State → Text → Text → Outcome
 lists_snapshots state ns snapshotter =
     record (done state) {

@@ -1,4 +1,4 @@
--- Whole scripts: images that expire, and a removal with a collection.
+-- Whole scripts: images that expire, and a removal with a collection. Ours, unless a source stands beside.
 use Rattle.std.specs.Prelude.{◌≡◌, [], ◌∷◌, codes, Some}
 use Rattle.meta_types.specs.Rows.{State, empty_store}
 use Rattle.meta_types.specs.Backends.{no_objects}
@@ -12,7 +12,7 @@ use Rattle.meta_types.specs.declared.reply.Reply.TheVariants.{Names}
 use Rattle.meta_types.specs.declared.request.Request.TheVariants.{NsAdd, ImageAdd, ContentAdd, LeaseAdd, LeaseList, Profile}
 use Rattle.meta_types.specs.declared.request.Removal.TheVariants as Removing
 
--- a store in which images expire (ours)
+-- a store in which images expire
 abbrev pub expiring : State
 expiring = after_all empty_store (Profile 2 ∷ [])
 

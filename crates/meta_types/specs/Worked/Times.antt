@@ -1,4 +1,4 @@
--- Texts, and the moments that they name.
+-- Texts, and the moments that they name. Ours, unless a source stands beside.
 use Rattle.std.specs.Prelude.{◌≡◌, List, [], ◌∷◌, map, Some, None, codes, ℤ, pos, neg_ℤ}
 use Rattle.meta_types.specs.Text.{Text}
 use Rattle.meta_types.specs.Time.{instant_of}
