@@ -15,10 +15,10 @@ use Rattle.meta_types.specs.declared.fault.Fault.{Fault}
 use Rattle.meta_types.specs.declared.fault.Fault.TheVariants.{AlreadyExists}
 use Rattle.meta_types.proofs.Ordered.{before_trans}
 use Rattle.meta_types.proofs.Searched.{not_key, in_order_rest}
-use Rattle.arrival_table.specs.Arrived.{one_text, same_text, keys_equiv, sorted}
-use Rattle.arrival_table.proofs.Arrivals.{has_any}
+use Rattle.row_tables.specs.Arrived.{one_text, same_text, keys_equiv, sorted}
+use Rattle.row_tables.proofs.Arrivals.{has_any}
 use Rattle.back_model.specs.Objects.{has_blob, without_blob}
-use Rattle.back_model.proofs.Places.{none_apart, apart_first}
+use Rattle.back_model.proofs.ShardPlaces.{none_apart, apart_first}
 
 -- a text stands before another
 abbrev stands : Text → Text → Bool

@@ -3,8 +3,8 @@ pub mod Digests
 pub mod Entries
 pub mod Recounts
 pub mod Sets
-pub mod Places
+pub mod ShardPlaces
 pub mod Listed
 pub mod Making
-pub mod Known
+pub mod HeldParents
 pub mod Named

@@ -18,7 +18,7 @@ use Rattle.meta_types.specs.Rows.{BackSnap}
 use Rattle.back_model.specs.Snaps.{Snaps, is_held}
 use Rattle.back_model.specs.Shown.{Shard, AreApart, snaps_at, failures_at, put_shard, back_snap, snaps_in, all_snaps, all_failures}
 use Rattle.back_model.proofs.Entries.{Parents}
-use Rattle.back_model.proofs.Places.{none_at, apart_rest, apart_head, behind, same_name}
+use Rattle.back_model.proofs.ShardPlaces.{none_at, apart_rest, apart_head, behind, same_name}
 
 -- the snapshots' snapshotters compare so to the name
 abbrev pub AreAll : Ordering → Text → List BackSnap → Type 0

@@ -11,7 +11,7 @@ use Rattle.back_model.specs.Snaps.{Snaps, is_held, is_parent_held}
 use Rattle.back_model.specs.Shown.{Shard, AreApart, shard_at, snaps_at, failures_at, put_shard, back_snap, all_snaps, all_failures, snaps_after, shard_after}
 use Rattle.back_model.specs.declared.faults.MakeFault.{MakeFault}
 use Rattle.back_model.proofs.Listed.{listed, listed_same, counted}
-use Rattle.back_model.proofs.Places.{at_put, put_put}
+use Rattle.back_model.proofs.ShardPlaces.{at_put, put_put}
 
 module _ (name : Text) (shards : List Shard) (n : ℕ) (p : Option ℕ) where
   -- the shard that a making changed

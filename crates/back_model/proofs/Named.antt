@@ -20,7 +20,7 @@ use Rattle.back_model.specs.Shown.{Shard, AreApart, snaps_at, back_snap, snaps_i
 use Rattle.back_model.specs.declared.faults.MakeFault.{MakeFault}
 use Rattle.back_model.proofs.Entries.{Parents}
 use Rattle.back_model.proofs.Listed.{no_entries, AreAll, all_of, all_behind}
-use Rattle.back_model.proofs.Places.{none_at, apart_rest, apart_head, behind, same_name}
+use Rattle.back_model.proofs.ShardPlaces.{none_at, apart_rest, apart_head, behind, same_name}
 use Rattle.back_model.proofs.Sets.{equal_number}
 
 or_none : (a b : Bool) → b ≡ false → (a || b) ≡ a

@@ -1,21 +1,21 @@
 //! Blobs in memory.
 use crate::faults::{MakeFault, RemoveFault};
 use crate::traits::BlobBackend;
-use arrival_table::{Table, in_key_order};
 use meta_types::{Digest, Fault};
+use row_tables::{RowTable, in_key_order};
 use std::alloc::Global;
 use std::marker::Model;
 
 /// Blobs in memory, each found by a hash of its digest. No device fails.
 #[derive(Drop)]
 pub struct MemBlobs {
-    digests: Table<Digest, Digest>,
+    digests: RowTable<Digest, Digest>,
 }
 
 impl Model for MemBlobs {
     ghost use Rattle.std.specs.Prelude.{List};
     ghost use Rattle.meta_types.specs.Text.{Text};
-    ghost use Rattle.arrival_table.specs.Arrived.{one_text, sorted};
+    ghost use Rattle.row_tables.specs.Arrived.{one_text, sorted};
 
     ghost Value = { List Text };
 
@@ -29,7 +29,7 @@ impl BlobBackend for MemBlobs {
 
     fn fresh(alloc: Global) -> MemBlobs {
         MemBlobs {
-            digests: Table::new(alloc),
+            digests: RowTable::new(alloc),
         }
     }
 

@@ -8,18 +8,18 @@ use Rattle.std.proofs.lemmas.Slice.Eq.{bytes_eq-Decides}
 use Rattle.std.proofs.lemmas.List.Elements.{All-contains}
 use Rattle.meta_types.specs.Text.{Text}
 use Rattle.meta_types.specs.Rows.{Records, BackLists, State, BackSnap}
-use Rattle.meta_types.specs.Backends.{no_objects, is_named, owns_snapshot, snapshot_object_stays, is_below_one}
+use Rattle.meta_types.specs.Backends.{no_objects, is_named, owns_snapshot, snapshot_object_stays, is_ancestor_of_one}
 use Rattle.meta_types.specs.Collected.{collected_records}
 use Rattle.meta_types.specs.Sound.{IsSound}
 use Rattle.meta_types.proofs.Members.{from_filter, found_by_any}
-use Rattle.meta_types.proofs.Found.{first_of}
+use Rattle.meta_types.proofs.ListSearches.{first_of}
 use Rattle.meta_types.proofs.Falling.{one_object}
 use Rattle.meta_types.proofs.ObjectsAfter.{back_parent_left}
 use Rattle.table_sweep.specs.declared.planning.Plan.{Plan}
 use Rattle.backend_sweep.specs.Shards.{IsAbove}
 use Rattle.backend_sweep.specs.Backed.{MaySweep}
 use Rattle.backend_sweep.specs.Planned.{IsPlanOf, IsPlanned}
-use Rattle.backend_sweep.proofs.Ends.{goes_by_is}
+use Rattle.backend_sweep.proofs.SweptBackends.{goes_by_is}
 
 module _ (state : State) (at : ℤ) (plan : Plan) (p : IsPlanOf state.records (length state.records.tables.namespaces) state.backends at plan) (s : IsSound state) where
   -- the records that are left
@@ -39,7 +39,7 @@ module _ (state : State) (at : ℤ) (plan : Plan) (p : IsPlanOf state.records (l
   owned_above snap above cs ca up own =
       let all = state.backends.snapshots in
       let stays : BackSnap → Bool = snapshot_object_stays left.tables all no_objects in
-      let here : stays snap ≡ true = first_of (owns_snapshot left.tables snap) (list_any (λ (name : Text × ℕ). is_named name snap) no_objects.snapshots) (is_below_one all no_objects.snapshots snap) own in
+      let here : stays snap ≡ true = first_of (owns_snapshot left.tables snap) (list_any (λ (name : Text × ℕ). is_named name snap) no_objects.snapshots) (is_ancestor_of_one all no_objects.snapshots snap) own in
       let found = subst (λ (o : Option ℕ). IfSome o (λ number. IsTrue (list_any (is_named (snap.snapshotter, number)) (filter stays all)) × (number < snap.number))) up.1
       (back_parent_left state at no_objects p.reached p.tells s snap cs here) in
       let one = found_by_any (is_named (snap.snapshotter, above.number)) (filter stays all) found.0 in

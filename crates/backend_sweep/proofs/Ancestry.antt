@@ -7,13 +7,13 @@ use Rattle.meta_types.specs.Text.{Text}
 use Rattle.meta_types.specs.Rows.{BackSnap}
 use Rattle.meta_types.specs.Backends.{is_named, ancestors, ancestors_of}
 use Rattle.meta_types.proofs.Members.{first_or_later, none_in_nothing}
-use Rattle.meta_types.proofs.Found.{none_or_some, found_is}
+use Rattle.meta_types.proofs.ListSearches.{none_or_some, found_is}
 use Rattle.meta_types.proofs.Falling.{object_above}
 use Rattle.back_model.specs.Snaps.{Snaps}
 use Rattle.back_model.specs.Shown.{Shard, AreApart, snaps_at, back_snap, all_snaps}
 use Rattle.backend_sweep.specs.Shards.{IsChild}
 use Rattle.backend_sweep.specs.Sweep.{IsAncestor}
-use Rattle.backend_sweep.proofs.Found.{found_is as found_in_shard}
+use Rattle.backend_sweep.proofs.SnapshotSearches.{found_is as found_in_shard}
 
 module _ (olds : List Shard) (apart : AreApart olds) (name : Text) (m : Snaps) (at : snaps_at name olds ≡ m) where
   abbrev all : List BackSnap

@@ -15,7 +15,7 @@ use Rattle.meta_types.specs.Backends.{BackNames, no_objects, removed_objects}
 use Rattle.meta_types.proofs.Members.{here, later, first_or_later, none_in_nothing}
 use Rattle.back_model.specs.Snaps.{Snaps}
 use Rattle.back_model.specs.Shown.{Shard, AreApart, snaps_at, shown, all_failures}
-use Rattle.back_model.proofs.Places.{apart_head, apart_rest}
+use Rattle.back_model.proofs.ShardPlaces.{apart_head, apart_rest}
 use Rattle.backend_sweep.specs.Shards.{is_number, numbers_of}
 use Rattle.backend_sweep.specs.Sweep.{Childfirst}
 use Rattle.backend_sweep.specs.Singles.{AreHeldOnce, SweepsEach}
@@ -24,7 +24,7 @@ use Rattle.backend_sweep.specs.Backed.{MaySweep}
 use Rattle.backend_sweep.specs.Swept.{held_in, IsSwept, count_names}
 use Rattle.backend_sweep.proofs.Zipped.{Triple, olds_of, lanes_of, news_of, One, Zips, zipped}
 use Rattle.backend_sweep.proofs.Counting.{counted}
-use Rattle.backend_sweep.proofs.Ends.{held_once, texts_apart, numbers_apart, first_by, swept}
+use Rattle.backend_sweep.proofs.SweptBackends.{held_once, texts_apart, numbers_apart, first_by, swept}
 
 -- a vector after all of its slice was written
 taken : {X : Type 0} (xs ys : List X) → take (length xs) (xs ++ ys) ≡ xs

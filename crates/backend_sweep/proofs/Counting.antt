@@ -9,7 +9,7 @@ use Rattle.meta_types.specs.Text.{Text, text_cmp}
 use Rattle.meta_types.proofs.Members.{here, later}
 use Rattle.std.specs.declared.cmp.Ordering.TheVariants.{Less}
 use Rattle.back_model.specs.Shown.{AreApart, all_failures}
-use Rattle.back_model.proofs.Places.{apart_head, apart_rest}
+use Rattle.back_model.proofs.ShardPlaces.{apart_head, apart_rest}
 use Rattle.backend_sweep.specs.Shards.{has}
 use Rattle.backend_sweep.specs.Lanes.{Laned, is_failed}
 use Rattle.backend_sweep.proofs.Zipped.{Triple, olds_of, lanes_of, news_of, One, less_differ, behind_head, filter_twice, filter_images}

@@ -9,7 +9,7 @@ use Rattle.std.specs.Prelude.{filter}
 use Rattle.std.proofs.Common.{append-nil}
 use Rattle.backend_sweep.specs.Shards.{IsChild, has}
 use Rattle.back_model.specs.Snaps.{Snaps}
-use Rattle.backend_sweep.specs.Sweep.{Climbs, InOrder}
+use Rattle.backend_sweep.specs.Sweep.{Climbs, IsInOrderOf}
 
 -- tests
 pub or_cases : (a b : Bool) → (a || b) ≡ true → (a ≡ true) ⊎ (b ≡ true)
@@ -115,14 +115,14 @@ filter_alike p q (x ∷ xs) alike =
     let rest = filter_alike p q xs (λ y h. alike y (or_right (x == y) (has xs y) h)) in
     λ i. cond (e i) (x ∷ rest i) (rest i)
 
-pub order_grows : (done xs : List ℕ) (n : ℕ) → InOrder done xs → has done n ≡ false → InOrder (done ++ n ∷ []) (xs ++ n ∷ [])
+pub order_grows : (done xs : List ℕ) (n : ℕ) → IsInOrderOf done xs → has done n ≡ false → IsInOrderOf (done ++ n ∷ []) (xs ++ n ∷ [])
 order_grows done xs n order fresh =
     let p : ℕ → Bool = λ q. has (xs ++ n ∷ []) q in
     let alike = filter_alike p (λ q. has xs q) done (λ q h. has_push xs n q ∙ ap (λ (b : Bool). has xs q || b) (ne_eqb n q (λ e. not_both (has done q) h (ap (has done) (sym e) ∙ fresh))) ∙ or_nothing (has xs q)) in
     let last : filter p (n ∷ []) ≡ n ∷ [] = ap (λ (b : Bool). cond b (n ∷ []) []) (push_new xs n n refl) in
     sym (filter-append p done (n ∷ []) ∙ (λ i. alike i ++ last i) ∙ ap (λ (l : List ℕ). l ++ n ∷ []) (sym order))
 
-pub order_stays : (done xs : List ℕ) (n : ℕ) → InOrder done xs → has xs n ≡ false → InOrder (done ++ n ∷ []) xs
+pub order_stays : (done xs : List ℕ) (n : ℕ) → IsInOrderOf done xs → has xs n ≡ false → IsInOrderOf (done ++ n ∷ []) xs
 order_stays done xs n order none =
     let last : filter (λ q. has xs q) (n ∷ []) ≡ [] = ap (λ (b : Bool). cond b (n ∷ []) []) none in
     sym (filter-append (λ q. has xs q) done (n ∷ []) ∙ (λ i. sym order i ++ last i) ∙ append-nil xs)

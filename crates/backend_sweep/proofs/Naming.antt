@@ -17,7 +17,7 @@ use Rattle.meta_types.specs.Keys.{in_order}
 use Rattle.meta_types.specs.Changes.{stands_before}
 use Rattle.meta_types.specs.Backends.{is_named, object_name, ancestors, ancestors_of, depth_of, goes_before}
 use Rattle.meta_types.proofs.Members.{here, first_or_later, in_filter, from_filter, any_from, found_by_any}
-use Rattle.meta_types.proofs.Found.{finds, none_or_some, no_none, found_is, fewer, no_more}
+use Rattle.meta_types.proofs.ListSearches.{finds, none_or_some, no_none, found_is, fewer, no_more}
 use Rattle.meta_types.proofs.Filtered.{all_stay}
 use Rattle.meta_types.proofs.Falling.{one_object, object_above}
 use Rattle.back_model.specs.Snaps.{Snaps}

@@ -6,7 +6,7 @@ use Rattle.back_model.specs.Snaps.{Snaps}
 use Rattle.back_model.specs.Shown.{shown}
 use Rattle.backend_sweep.specs.Lanes.{Laned, IsReady, SweepsLane}
 use Rattle.backend_sweep.specs.Singles.{SweepsEach}
-use Rattle.backend_sweep.specs.declared.jobs.Job.{Job}
+use Rattle.backend_sweep.specs.declared.shard_jobs.ShardJob.{ShardJob}
 
 -- the image of what stands at a place
 mapped : {X Y : Type 0} (f : X → Y) (xs : List X) (i : ℕ) (d : X) → slice_index_or (map f xs) i (f d) ≡ f (slice_index_or xs i d)
@@ -34,31 +34,31 @@ module _ {S : Type 0} (contents : S → Snaps) (fails : S → ℕ) where
   each_same xs xs' ys ys' ls ls' after after' x y l a h =
       subst (λ (k : List (Text × S)). Each k ls after ys) (sym x) (subst (λ (k : List (Text × S)). Each xs' ls after k) (sym y) (subst (λ (k : List Laned). Each xs' k after ys') (sym l) (subst (λ (k : List Laned). Each xs' ls' k ys') (sym a) h)))
 
-  module _ (jobs : List (Job S)) (xs : List (Text × S)) (ls : List Laned) (xs_are : map (λ (job : Job S). job.entry) jobs ≡ xs) (ls_are : map (λ (job : Job S). job.lane) jobs ≡ ls) where
+  module _ (jobs : List (ShardJob S)) (xs : List (Text × S)) (ls : List Laned) (xs_are : map (λ (job : ShardJob S). job.entry) jobs ≡ xs) (ls_are : map (λ (job : ShardJob S). job.lane) jobs ≡ ls) where
     inside : (k : ℕ) → k < length jobs → k < length xs
-    inside k lt = subst (λ (n : ℕ). k < n) (sym (map_length (λ (job : Job S). job.entry) jobs) ∙ ap (λ (l : List (Text × S)). length l) xs_are) lt
+    inside k lt = subst (λ (n : ℕ). k < n) (sym (map_length (λ (job : ShardJob S). job.entry) jobs) ∙ ap (λ (l : List (Text × S)). length l) xs_are) lt
 
     within : (k : ℕ) → k < length xs → k < length jobs
-    within k lt = subst (λ (n : ℕ). k < n) (ap (λ (l : List (Text × S)). length l) (sym xs_are) ∙ map_length (λ (job : Job S). job.entry) jobs) lt
+    within k lt = subst (λ (n : ℕ). k < n) (ap (λ (l : List (Text × S)). length l) (sym xs_are) ∙ map_length (λ (job : ShardJob S). job.entry) jobs) lt
 
-    entry_at : (k : ℕ) (d : Job S) → slice_index_or xs k d.entry ≡ (slice_index_or jobs k d).entry
-    entry_at k d = ap (λ (l : List (Text × S)). slice_index_or l k d.entry) (sym xs_are) ∙ mapped (λ (job : Job S). job.entry) jobs k d
+    entry_at : (k : ℕ) (d : ShardJob S) → slice_index_or xs k d.entry ≡ (slice_index_or jobs k d).entry
+    entry_at k d = ap (λ (l : List (Text × S)). slice_index_or l k d.entry) (sym xs_are) ∙ mapped (λ (job : ShardJob S). job.entry) jobs k d
 
-    lane_at : (k : ℕ) (d : Job S) → slice_index_or ls k d.lane ≡ (slice_index_or jobs k d).lane
-    lane_at k d = ap (λ (l : List Laned). slice_index_or l k d.lane) (sym ls_are) ∙ mapped (λ (job : Job S). job.lane) jobs k d
+    lane_at : (k : ℕ) (d : ShardJob S) → slice_index_or ls k d.lane ≡ (slice_index_or jobs k d).lane
+    lane_at k d = ap (λ (l : List Laned). slice_index_or l k d.lane) (sym ls_are) ∙ mapped (λ (job : ShardJob S). job.lane) jobs k d
 
-    pub jobs_ready : Ready xs ls → All (λ (job : Job S). IsReady (shown contents fails job.entry) job.lane) jobs
+    pub jobs_ready : Ready xs ls → All (λ (job : ShardJob S). IsReady (shown contents fails job.entry) job.lane) jobs
     jobs_ready h k d lt =
         subst (λ (x : Text × S). IsReady (shown contents fails x) (slice_index_or jobs k d).lane) (entry_at k d)
         (subst (λ (l : Laned). IsReady (shown contents fails (slice_index_or xs k d.entry)) l) (lane_at k d) (h k d.entry d.lane (inside k lt)))
 
-    module _ (new : List (Job S)) (ys : List (Text × S)) (after : List Laned) (ys_are : ys ≡ map (λ (job : Job S). job.entry) new) (after_are : after ≡ map (λ (job : Job S). job.lane) new)
-        (each : (i : ℕ) (d : Job S) → i < length jobs → SweepsLane (shown contents fails (slice_index_or jobs i d).entry) (slice_index_or jobs i d).lane (slice_index_or new i d).lane (shown contents fails (slice_index_or new i d).entry)) where
+    module _ (new : List (ShardJob S)) (ys : List (Text × S)) (after : List Laned) (ys_are : ys ≡ map (λ (job : ShardJob S). job.entry) new) (after_are : after ≡ map (λ (job : ShardJob S). job.lane) new)
+        (each : (i : ℕ) (d : ShardJob S) → i < length jobs → SweepsLane (shown contents fails (slice_index_or jobs i d).entry) (slice_index_or jobs i d).lane (slice_index_or new i d).lane (shown contents fails (slice_index_or new i d).entry)) where
       pub jobs_each : Each xs ls after ys
       jobs_each i d e lt =
-          let job : Job S = record { entry = d; lane = e } in
-          let a : slice_index_or ys i d ≡ (slice_index_or new i job).entry = ap (λ (l : List (Text × S)). slice_index_or l i d) ys_are ∙ mapped (λ (j : Job S). j.entry) new i job in
-          let b : slice_index_or after i e ≡ (slice_index_or new i job).lane = ap (λ (l : List Laned). slice_index_or l i e) after_are ∙ mapped (λ (j : Job S). j.lane) new i job in
+          let job : ShardJob S = record { entry = d; lane = e } in
+          let a : slice_index_or ys i d ≡ (slice_index_or new i job).entry = ap (λ (l : List (Text × S)). slice_index_or l i d) ys_are ∙ mapped (λ (j : ShardJob S). j.entry) new i job in
+          let b : slice_index_or after i e ≡ (slice_index_or new i job).lane = ap (λ (l : List Laned). slice_index_or l i e) after_are ∙ mapped (λ (j : ShardJob S). j.lane) new i job in
           subst (λ (x : Text × S). SweepsLane (shown contents fails x) (slice_index_or ls i e) (slice_index_or after i e) (shown contents fails (slice_index_or ys i d))) (sym (entry_at i job))
           (subst (λ (l : Laned). SweepsLane (shown contents fails (slice_index_or jobs i job).entry) l (slice_index_or after i e) (shown contents fails (slice_index_or ys i d))) (sym (lane_at i job))
           (subst (λ (l : Laned). SweepsLane (shown contents fails (slice_index_or jobs i job).entry) (slice_index_or jobs i job).lane l (shown contents fails (slice_index_or ys i d))) (sym b)
@@ -66,8 +66,8 @@ module _ {S : Type 0} (contents : S → Snaps) (fails : S → ℕ) where
 
       pub jobs_lengths : length new ≡ length jobs → (length ys ≡ length xs) × (length after ≡ length ls)
       jobs_lengths same = (
-        ap (λ (l : List (Text × S)). length l) ys_are ∙ map_length (λ (job : Job S). job.entry) new ∙ same ∙ sym (map_length (λ (job : Job S). job.entry) jobs) ∙ ap (λ (l : List (Text × S)). length l) xs_are,
-        ap (λ (l : List Laned). length l) after_are ∙ map_length (λ (job : Job S). job.lane) new ∙ same ∙ sym (map_length (λ (job : Job S). job.lane) jobs) ∙ ap (λ (l : List Laned). length l) ls_are,
+        ap (λ (l : List (Text × S)). length l) ys_are ∙ map_length (λ (job : ShardJob S). job.entry) new ∙ same ∙ sym (map_length (λ (job : ShardJob S). job.entry) jobs) ∙ ap (λ (l : List (Text × S)). length l) xs_are,
+        ap (λ (l : List Laned). length l) after_are ∙ map_length (λ (job : ShardJob S). job.lane) new ∙ same ∙ sym (map_length (λ (job : ShardJob S). job.lane) jobs) ∙ ap (λ (l : List Laned). length l) ls_are,
       )
 
 -- a sweep of the same backend, of the same list

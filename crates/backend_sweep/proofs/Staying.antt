@@ -9,9 +9,9 @@ use Rattle.std.proofs.lemmas.Bool.Decides.{Decides-eqb}
 use Rattle.std.proofs.lemmas.Slice.Eq.{bytes_eq-Decides}
 use Rattle.meta_types.specs.Text.{Text}
 use Rattle.meta_types.specs.Rows.{Tables, BackSnap}
-use Rattle.meta_types.specs.Backends.{BackNames, is_named, object_name, ancestors, ancestors_of, is_below_one, owns_snapshot, snapshot_object_stays}
+use Rattle.meta_types.specs.Backends.{BackNames, is_named, object_name, ancestors, ancestors_of, is_ancestor_of_one, owns_snapshot, snapshot_object_stays}
 use Rattle.meta_types.proofs.Members.{any_from, found_by_any, first_or_later, none_in_nothing}
-use Rattle.meta_types.proofs.Found.{finds, none_or_some, some_is, no_none, found_is, first_of, third_of}
+use Rattle.meta_types.proofs.ListSearches.{finds, none_or_some, some_is, no_none, found_is, first_of, third_of}
 use Rattle.meta_types.specs.Changes.{stands_before}
 use Rattle.meta_types.proofs.Falling.{one_object, object_above, parent_is_ancestor, all_ancestors}
 use Rattle.back_model.specs.Snaps.{Snaps}
@@ -83,7 +83,7 @@ module _ (olds : List Shard) (tables : Tables) (failed : BackNames) (name : Text
   is_failed snap = list_any (λ other. is_named other snap) failed.snapshots
 
   abbrev is_below : BackSnap → Bool
-  is_below snap = is_below_one all failed.snapshots snap
+  is_below snap = is_ancestor_of_one all failed.snapshots snap
 
   -- an ancestor of what failed is below
   below_by : (n f : ℕ) (p pf : Option ℕ) → finmap.get m n ≡ Some p → finmap.get m f ≡ Some pf → has r.failed f ≡ true → IsAncestor m n f → is_below (snap_of n p) ≡ true

@@ -15,11 +15,11 @@ use Rattle.std.proofs.lemmas.Map.Text.{is_eq-slice_cmp}
 use Rattle.meta_types.specs.Text.{Text, text_cmp}
 use Rattle.meta_types.specs.Rows.{Tables, BackSnap}
 use Rattle.meta_types.specs.Keys.{in_order}
-use Rattle.meta_types.specs.Backends.{BackNames, is_named, object_name, goes_before, owns_snapshot, snapshot_object_stays, is_below_one}
+use Rattle.meta_types.specs.Backends.{BackNames, is_named, object_name, goes_before, owns_snapshot, snapshot_object_stays, is_ancestor_of_one}
 use Rattle.meta_types.proofs.Members.{here, later, first_or_later, none_in_nothing, in_filter, from_filter, any_from, found_by_any}
 use Rattle.back_model.specs.Snaps.{Snaps}
 use Rattle.back_model.specs.Shown.{Shard, AreApart, snaps_at, back_snap, snaps_in, all_snaps, shown}
-use Rattle.back_model.proofs.Places.{apart_head, apart_rest}
+use Rattle.back_model.proofs.ShardPlaces.{apart_head, apart_rest}
 use Rattle.backend_sweep.specs.Shards.{has, numbers_of}
 use Rattle.backend_sweep.specs.Sweep.{Swept, Childfirst, Sweeps}
 use Rattle.backend_sweep.specs.Lanes.{Laned, lane_for, SweepsLane, in_lane, is_removed, is_failed}
@@ -278,9 +278,9 @@ module _ (zs : List Triple) (tables : Tables) (goes : BackSnap → Bool) (names 
         go false false true h = refl
         go false false false h = refl
 
-    pub apart_here : (x : BackSnap) → Contains all x → s ≡ x.snapshotter → list_any (λ name. is_named name x) failed.snapshots ≡ true → is_below_one all failed.snapshots x ≡ false
+    pub apart_here : (x : BackSnap) → Contains all x → s ≡ x.snapshotter → list_any (λ name. is_named name x) failed.snapshots ≡ true → is_ancestor_of_one all failed.snapshots x ≡ false
     apart_here x there e h =
-        ap (is_below_one all failed.snapshots) (sym (snap_is x e))
+        ap (is_ancestor_of_one all failed.snapshots) (sym (snap_is x e))
         ∙ apart_is (olds_of zs) tables failed s z.0.snaps z.2.snaps z.1.list z.0.failures z.2.failures r of x.number x.parent (held_here x there e)
         (ap (λ (k : BackSnap). list_any (λ name. is_named name k) failed.snapshots) (snap_is x e) ∙ h)
 
@@ -313,7 +313,7 @@ module _ (zs : List Triple) (tables : Tables) (goes : BackSnap → Bool) (names 
             both_ways (is_failed lanes name) f (ap (is_failed lanes) (sym (same_is_name other.0 name other.2)) ∙ (from_filter (is_failed lanes) names other.0 other.1).1)) ∙ sym f
       ]
 
-  pub failed_apart : All (λ snap. IsTrue (list_any (λ name. is_named name snap) failed.snapshots) → is_below_one all failed.snapshots snap ≡ false) all
+  pub failed_apart : All (λ snap. IsTrue (list_any (λ name. is_named name snap) failed.snapshots) → is_ancestor_of_one all failed.snapshots snap ≡ false) all
   failed_apart k d lt h = (
       let x = slice_index_or all k d in
       let c : Contains all x = in_place all k d lt in

@@ -39,8 +39,8 @@ abbrev pub is_told : Swept → ℕ → Bool
 is_told r n = has r.removed n || (has r.failed n || has r.kept n)
 
 -- the members of the list that are these, in the list's order
-abbrev pub InOrder : List ℕ → List ℕ → Type 0
-InOrder list xs = xs ≡ filter (λ n. has xs n) list
+abbrev pub IsInOrderOf : List ℕ → List ℕ → Type 0
+IsInOrderOf list xs = xs ≡ filter (λ n. has xs n) list
 
 -- what was swept of the list: all is removed but what the device failed and the ancestors of that, which are kept; each told once, in the list's order
 pub record Sweeps (list : List ℕ) (m now : Snaps) (before after : ℕ) (r : Swept) : Type 0 where
@@ -51,9 +51,9 @@ pub record Sweeps (list : List ℕ) (m now : Snaps) (before after : ℕ) (r : Sw
   pub why : (n : ℕ) → has r.kept n ≡ true → (f : ℕ) × (has r.failed f ≡ true) × IsAncestor m n f
   pub all : (n p : ℕ) → (has r.failed n || has r.kept n) ≡ true → IsChild m p n → has list p ≡ true → has r.kept p ≡ true
   pub count : after ≡ before + length r.failed
-  pub removed_in_order : InOrder list r.removed
-  pub failed_in_order : InOrder list r.failed
-  pub kept_in_order : InOrder list r.kept
+  pub removed_in_order : IsInOrderOf list r.removed
+  pub failed_in_order : IsInOrderOf list r.failed
+  pub kept_in_order : IsInOrderOf list r.kept
 
 -- one removal: it isn't tried where a child is left
 abbrev pub Tries : Removal → Bool → ℕ → Snaps → Snaps → ℕ → ℕ → Type 0

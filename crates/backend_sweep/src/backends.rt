@@ -8,8 +8,8 @@ ghost use Rattle.backend_sweep.specs.Planned.{IsPlanned};
 ghost use Rattle.backend_sweep.specs.Swept.{held_in, AreOf, SweepsNames, count_names};
 
 use crate::gate::SweepGate;
-use crate::jobs::{lanes_and_room, sweep_beside};
-use crate::lanes::{lanes_of, sweep_in_turn};
+use crate::shard_jobs::{lanes_and_room, sweep_beside};
+use crate::shard_plans::{lanes_of, sweep_in_turn};
 use crate::swept::{Swept, finish};
 use back_model::{Backends, BlobBackend, IngestBackend, SnapBackend};
 use meta_types::{Fault, is_worker_count};

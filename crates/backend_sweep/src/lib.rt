@@ -3,11 +3,11 @@
 
 mod backends;
 mod gate;
-mod jobs;
-mod lanes;
-mod numbers;
+mod number_set;
 mod room;
 mod shard;
+mod shard_jobs;
+mod shard_plans;
 mod shard_swept;
 mod singles;
 mod swept;

@@ -4,7 +4,7 @@ ghost use Rattle.meta_types.specs.Faults.{Refuses};
 ghost use Rattle.backend_sweep.specs.Shards.{has};
 ghost use Rattle.backend_sweep.specs.Sweep.{put_of};
 
-use crate::numbers::Numbers;
+use crate::number_set::NumberSet;
 use meta_types::Fault;
 use std::alloc::Global;
 use std::marker::Model;
@@ -22,10 +22,10 @@ pub(crate) enum Removal {
 #[derive(Drop)]
 pub struct ShardSwept {
     removed: Vec<u64>,
-    failed: Numbers,
-    kept: Numbers,
+    failed: NumberSet,
+    kept: NumberSet,
     // The parents of what failed or was kept.
-    parents: Numbers,
+    parents: NumberSet,
     room: usize,
 }
 
@@ -56,9 +56,9 @@ impl ShardSwept {
             ≡ record { removed = []; failed = []; kept = []; parents = []; room = room }) }
     {
         let removed = Vec::with_capacity(alloc, room)?;
-        let failed = Numbers::with_room(alloc, room)?;
-        let kept = Numbers::with_room(alloc, room)?;
-        let parents = Numbers::with_room(alloc, room)?;
+        let failed = NumberSet::with_room(alloc, room)?;
+        let kept = NumberSet::with_room(alloc, room)?;
+        let parents = NumberSet::with_room(alloc, room)?;
         Ok(ShardSwept {
             removed,
             failed,
@@ -75,9 +75,9 @@ impl ShardSwept {
     {
         ShardSwept {
             removed: Vec::new(alloc),
-            failed: Numbers::none(alloc),
-            kept: Numbers::none(alloc),
-            parents: Numbers::none(alloc),
+            failed: NumberSet::none(alloc),
+            kept: NumberSet::none(alloc),
+            parents: NumberSet::none(alloc),
             room: 0,
         }
     }

@@ -7,8 +7,8 @@ ghost use Rattle.backend_sweep.specs.Shards.{is_number};
 ghost use Rattle.backend_sweep.specs.Singles.{AreHeldOnce, SweepsEach};
 ghost use Rattle.backend_sweep.specs.Swept.{AreOf};
 
-use crate::lanes::{Lane, snapshots_swept};
 use crate::room::{Room, blobs_room, ingests_room, snapshots_room};
+use crate::shard_plans::{ShardPlan, snapshots_swept};
 use crate::singles::{blobs_swept, ingests_swept};
 use back_model::{Backends, BlobBackend, IngestBackend, SnapBackend};
 use gc_report::Objects;
@@ -124,7 +124,7 @@ impl Swept {
 pub(crate) fn finish<S: SnapBackend, B: BlobBackend, I: IngestBackend>(
     alloc: Global,
     backends: &mut Backends<S, B, I>,
-    lanes: &[Lane],
+    lanes: &[ShardPlan],
     room: Swept,
 ) -> Swept
     requires blobs { AreHeldOnce bytes_eq room.room.blobs (B.contents backends.old.blobs) }

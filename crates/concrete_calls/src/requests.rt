@@ -5,12 +5,12 @@ use back_model::{
     BlobBackend, FuseBackend, FuseBlobs, FuseIngests, IngestBackend, MemBackend, MemBlobs,
     MemIngests, SnapBackend,
 };
-use meta_types::{Fault, Reply, Request, Words};
+use meta_types::{Fault, RawText, Reply, Request};
 use request_core::State;
 use std::alloc::Global;
 
 pub(crate) fn space(alloc: Global) -> Result<Request, Fault> {
-    let ns = Words::new(String::from_str(alloc, "x")?);
+    let ns = RawText::new(String::from_str(alloc, "x")?);
     Ok(Request::NsAdd { ns })
 }
 

@@ -1,13 +1,13 @@
 pub mod Truths
 pub mod References
 pub mod Same
-pub mod Apart
+pub mod NodesApart
 pub mod Collected
 pub mod Lists
 pub mod Things
 pub mod Walks
-pub mod Numbers
+pub mod BookNumbers
 pub mod Tells
-pub mod Places
+pub mod RootPlaces
 pub mod Stores
 pub mod Orders

@@ -20,10 +20,10 @@ use Rattle.gc_graph.specs.declared.rows.StoreRows.{StoreRows}
 use Rattle.gc_graph.specs.Targets.{ingest_node, content_node, snapshot_node, nodes_of, node_things, root_things}
 use Rattle.gc_graph.specs.Built.{put_node, targets_in, root_targets, places, root_places, AreApart, IsBuilt}
 use Rattle.gc_graph.specs.Stored.{records_of}
-use Rattle.gc_graph.proofs.Apart.{book_is}
+use Rattle.gc_graph.proofs.NodesApart.{book_is}
 use Rattle.gc_graph.proofs.Things.{map_of_map}
 use Rattle.gc_graph.proofs.Walks.{is_built}
-use Rattle.gc_graph.proofs.Places.{fold-append, no_places, root_places_of, root_places-append, root_targets_of}
+use Rattle.gc_graph.proofs.RootPlaces.{fold-append, no_places, root_places_of, root_places-append, root_targets_of}
 
 assoc5 : {X : Type 0} (a b c d e : List X) → (((a ++ b) ++ c) ++ d) ++ e ≡ a ++ ((b ++ c) ++ (d ++ e))
 assoc5 a b c d e = append_assoc ((a ++ b) ++ c) d e ∙ ap (λ l. l ++ (d ++ e)) (append_assoc a b c) ∙ append_assoc a (b ++ c) (d ++ e)

@@ -16,7 +16,7 @@ use Rattle.gc_graph.specs.Nodes.{is_node}
 use Rattle.gc_graph.specs.Targets.{node_of, nodes_of, node_things, root_things}
 use Rattle.gc_graph.specs.Built.{number_of}
 use Rattle.gc_graph.proofs.Same.{node_known, node_self}
-use Rattle.gc_graph.proofs.Apart.{All-map, All-append}
+use Rattle.gc_graph.proofs.NodesApart.{All-map, All-append}
 use Rattle.gc_graph.proofs.References.{name_of}
 
 -- ---- numbers

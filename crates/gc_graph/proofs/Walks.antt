@@ -17,7 +17,7 @@ use Rattle.gc_graph.specs.Nodes.{is_node}
 use Rattle.gc_graph.specs.Targets.{node_of, nodes_of, node_things, root_things, targets_of}
 use Rattle.gc_graph.specs.Built.{number_of, targets_in, root_places, IsGraphOf, AreApart, IsBuilt}
 use Rattle.gc_graph.proofs.Same.{node_known, node_self}
-use Rattle.gc_graph.proofs.Apart.{All-map, nodes_apart}
+use Rattle.gc_graph.proofs.NodesApart.{All-map, nodes_apart}
 use Rattle.gc_graph.proofs.References.{name_of, edge_says, no_edge}
 use Rattle.gc_graph.proofs.Lists.{in_filter_map, from_filter_map, in_flat_map, from_flat_map, in_places, from_places}
 use Rattle.gc_graph.proofs.Things.{nodes_are, same_place, numbered_at, number_at, HasNode, HasNone, with_nodes, without_nodes, is_thing, is_root_thing, split_thing}

@@ -2,6 +2,7 @@
 #![tactic(auto)]
 
 mod book;
+mod build_graph;
 mod edges;
 mod ends;
 mod ignored;
@@ -12,11 +13,10 @@ mod parallel;
 mod refs;
 mod roots;
 mod rows;
-mod whole;
 
 pub use book::NodeBook;
+pub use build_graph::{Starts, build, find_starts};
 pub use ends::{image_stays, lease_stays};
 pub use ignored::Ignored;
 pub use node::Node;
 pub use rows::StoreRows;
-pub use whole::{Starts, build, find_starts};

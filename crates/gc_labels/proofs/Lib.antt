@@ -1,4 +1,4 @@
 pub mod Days
 pub mod Scales
-pub mod Places
+pub mod InstantParts
 pub mod Wide

@@ -2,7 +2,7 @@
 ghost use Rattle.std.specs.Prelude.{◌≡◌, option_map};
 ghost use Rattle.meta_types.specs.Text.{begins_with};
 ghost use Rattle.meta_types.specs.CollectorLabels.{is_content_key, snapshotter_in, is_marked_root, is_flat, expiry_of, is_unreadable};
-ghost use Rattle.gc_labels.specs.Ends.{end_of, is_unread};
+ghost use Rattle.gc_labels.specs.ExpiryEnds.{end_of, is_unread};
 
 use crate::ends::Expiry;
 use crate::instants::read_instant;

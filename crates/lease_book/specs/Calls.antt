@@ -1,5 +1,5 @@
 -- What each call is refused for, and which ids it gives. Ours, unless a source stands beside.
-pub use Rattle.arrival_table.specs.Arrived.{kept}
+pub use Rattle.row_tables.specs.Arrived.{kept}
 use Rattle.std.specs.Prelude.{Bool, false, true, not, List, [], ◌∷◌, map, Option, filter, is_none, bytes_eq}
 use Rattle.std.specs.Option.{option_map_or}
 use Rattle.meta_types.specs.Text.{Text}

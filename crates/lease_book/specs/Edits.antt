@@ -20,12 +20,12 @@ abbrev pub refuses_label : Text → Text → LeaseRow → Option Fault
 refuses_label key value row = unless (takes_label key value row.labels) InvalidArgument
 
 -- the lease holds one resource more (containerd leases service, AddResource)
-abbrev pub with_held : Resource → LeaseRow → LeaseRow
-with_held resource row = record row { resources = held resource row.resources }
+abbrev pub with_resource : Resource → LeaseRow → LeaseRow
+with_resource resource row = record row { resources = held resource row.resources }
 
 -- the lease drops a resource (containerd leases service, DeleteResource)
-abbrev pub without_held : Resource → LeaseRow → LeaseRow
-without_held resource row = record row { resources = remove_row resource_key (resource_key resource) row.resources }
+abbrev pub without_resource : Resource → LeaseRow → LeaseRow
+without_resource resource row = record row { resources = remove_row resource_key (resource_key resource) row.resources }
 
 -- the lease becomes another, or is refused and stays as it was
 pub record Edits (refusal : LeaseRow → Option Fault) (after : LeaseRow → LeaseRow) (old : LeaseRow) (answer : Result (Unit {0}) Fault) (new : LeaseRow) : Type 0 where
@@ -42,4 +42,4 @@ edits_keep refusal after part keeps old (Err f) new e = ap part e.err
 -- the lease lets a resource go, and it is told whether it held it (containerd leases service, DeleteResource)
 pub record Releases (resource : Resource) (old : LeaseRow) (told : Bool) (new : LeaseRow) : Type 0 where
   pub found : told ≡ has_row resource_key (resource_key resource) old.resources
-  pub left : new ≡ without_held resource old
+  pub left : new ≡ without_resource resource old

@@ -1,11 +1,11 @@
 //! What may be done to a lease in its place.
 ghost use Rattle.std.specs.Prelude.{None, refl};
 ghost use Rattle.std.proofs.Common.{ap};
-ghost use Rattle.lease_book.specs.Edits.{Edits, edits_keep, Releases, with_label, refuses_label, with_held};
+ghost use Rattle.lease_book.specs.Edits.{Edits, edits_keep, Releases, with_label, refuses_label, with_resource};
 
 use crate::lease::Lease;
-use arrival_table::Change;
 use meta_types::{Fault, Name, Resource};
+use row_tables::Change;
 use std::alloc::Global;
 
 /// One label more, or another value of one.
@@ -35,9 +35,9 @@ pub(crate) struct Hold {
 }
 
 impl Change<Name, Lease, Result<(), Fault>> for Hold {
-    ghost changes = { λ c. Edits (λ row. None) (with_held c.resource) };
+    ghost changes = { λ c. Edits (λ row. None) (with_resource c.resource) };
 
-    ghost keeps_name = { λ c. edits_keep (λ row. None) (with_held c.resource) (λ row. row.id)
+    ghost keeps_name = { λ c. edits_keep (λ row. None) (with_resource c.resource) (λ row. row.id)
         (λ row. refl) };
 
     fn change(self, row: &mut Lease) -> Result<(), Fault> {

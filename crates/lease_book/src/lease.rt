@@ -6,8 +6,8 @@ ghost use Rattle.meta_types.specs.Labels.{put_label, takes_label};
 ghost use Rattle.meta_types.specs.Faults.{Refuses, unless};
 ghost use Rattle.meta_types.specs.declared.fault.Fault.TheVariants.{InvalidArgument};
 
-use arrival_table::{GroupedRow, Row, Table, in_key_order};
 use meta_types::{Fault, Labels, Name, Resource, ShortName};
+use row_tables::{GroupedRow, NamedRow, RowTable, in_key_order};
 use std::alloc::Global;
 use std::marker::Model;
 
@@ -17,13 +17,13 @@ pub struct Lease {
     ns: ShortName,
     id: Name,
     labels: Labels,
-    resources: Table<Resource, Resource>,
+    resources: RowTable<Resource, Resource>,
 }
 
 impl Model for Lease {
     ghost use Rattle.meta_types.specs.Resources.{resource_key};
     ghost use Rattle.meta_types.specs.Rows.{LeaseRow};
-    ghost use Rattle.arrival_table.specs.Arrived.{sorted};
+    ghost use Rattle.row_tables.specs.Arrived.{sorted};
 
     ghost Value = { LeaseRow };
 
@@ -44,7 +44,7 @@ impl Lease {
             ns,
             id,
             labels,
-            resources: Table::new(alloc),
+            resources: RowTable::new(alloc),
         }
     }
 
@@ -135,7 +135,7 @@ impl Lease {
     }
 }
 
-impl Row<Name> for Lease {
+impl NamedRow<Name> for Lease {
     ghost name_of = { λ row. row.id };
 
     fn name(&self) -> &Name {

@@ -3,14 +3,14 @@ ghost use Rattle.std.specs.Prelude.{◌≡◌, length, ◌++◌, ◌∷◌, [], 
 ghost use Rattle.meta_types.specs.Keys.{are_in_order, row_at, has_row, add_row, remove_row, change_row};
 ghost use Rattle.meta_types.specs.Labels.{put_label};
 ghost use Rattle.meta_types.specs.Rows.{lease_key};
-ghost use Rattle.meta_types.specs.Changes.{holds_in, hold_in, drop_in, has_lease_in};
+ghost use Rattle.meta_types.specs.Changes.{lease_holds, hold_in_lease, release_in_lease, has_lease_in};
 ghost use Rattle.meta_types.specs.Faults.{Refuses, OnlyRefuses};
 ghost use Rattle.lease_book.specs.Calls.{creating_fault, missing_fault, labelling_fault, ids_in, kept};
 
 use crate::edits::{Hold, OneLabel, Release};
 use crate::lease::Lease;
-use arrival_table::ByNamespace;
 use meta_types::{Fault, Labels, Name, Resource, ShortName};
+use row_tables::ByNamespace;
 use std::alloc::Global;
 use std::marker::Model;
 
@@ -65,7 +65,7 @@ impl Leases {
 
     /// Whether the lease holds the resource, which needn't be there.
     pub fn holds(&self, ns: &ShortName, id: &Name, resource: &Resource) -> bool
-        ensures { result ≡ holds_in (ns.now ∷ id.now ∷ []) resource.now self.now }
+        ensures { result ≡ lease_holds (ns.now ∷ id.now ∷ []) resource.now self.now }
     {
         match self.rows.get(ns, id) {
             Some(lease) => lease.holds(resource),
@@ -171,7 +171,7 @@ impl Leases {
     ) -> Result<(), Fault>
         ensures fault { Refuses result
             (missing_fault (has_row lease_key (ns.now ∷ id.now ∷ []) self.old)) }
-        ensures ok { OnOk result (self.new ≡ hold_in (ns.now ∷ id.now ∷ []) resource self.old) }
+        ensures ok { OnOk result (self.new ≡ hold_in_lease (ns.now ∷ id.now ∷ []) resource self.old) }
         ensures err { OnErr result (self.new ≡ self.old) }
     {
         match self.rows.change(ns, id, Hold { resource }) {
@@ -189,8 +189,8 @@ impl Leases {
         resource: &Resource,
     ) -> Result<(), Fault>
         ensures fault { OnlyRefuses result
-            (missing_fault (holds_in (ns.now ∷ id.now ∷ []) resource.now self.old)) }
-        ensures left { self.new ≡ drop_in (ns.now ∷ id.now ∷ []) resource.now self.old }
+            (missing_fault (lease_holds (ns.now ∷ id.now ∷ []) resource.now self.old)) }
+        ensures left { self.new ≡ release_in_lease (ns.now ∷ id.now ∷ []) resource.now self.old }
         ensures err { OnErr result (self.new ≡ self.old) }
     {
         match self.rows.change(ns, id, Release { resource }) {

@@ -2,6 +2,6 @@ pub mod Reach
 pub mod Bits
 pub mod Claims
 pub mod Machine
-pub mod Boards
+pub mod MachineStates
 pub mod Sound
 pub mod Replays

@@ -1,18 +1,18 @@
 //! A numbered graph, its marking by one thread, and the mark machine: what workers may do.
 #![tactic(auto)]
 
-mod board;
-mod desk;
 mod event;
 mod found;
 mod graph;
 mod laws;
 mod machine;
+mod machine_state;
 mod marks;
 mod plain;
 mod replay_fault;
 mod state;
 mod steps;
+mod worker_state;
 
 pub use event::MarkEvent;
 pub use graph::Graph;

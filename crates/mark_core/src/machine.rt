@@ -8,9 +8,9 @@ ghost use Rattle.mark_core.specs.Machine.{machine_start};
 ghost use Rattle.mark_core.specs.Sound.{IsSound, IsIdle, IsMarked};
 ghost use Rattle.mark_core.specs.Replays.{Replays, RefusesReplay};
 
-use crate::board::Board;
 use crate::event::MarkEvent;
 use crate::graph::Graph;
+use crate::machine_state::MachineState;
 use crate::replay_fault::ReplayFault;
 use crate::state::MarkState;
 use meta_types::{Fault, is_worker_count};
@@ -27,8 +27,8 @@ pub fn start(alloc: Global, graph: &Graph, workers: usize) -> Result<MarkState, 
     if !is_worker_count(workers) {
         return Err(Fault::InvalidArgument);
     }
-    let board = Board::new(alloc, graph, workers)?;
-    Ok(MarkState { board })
+    let machine_state = MachineState::new(alloc, graph, workers)?;
+    Ok(MarkState { machine_state })
 }
 
 /// The state after the events, which happen one after another from the start.
@@ -47,13 +47,13 @@ pub fn replay(
     if !is_worker_count(workers) {
         return Err(ReplayFault::Workers);
     }
-    let mut board = Board::new(alloc, graph, workers)?;
+    let mut machine_state = MachineState::new(alloc, graph, workers)?;
     let mut place = 0;
     for event in events {
-        if !board.step(graph, *event)? {
+        if !machine_state.step(graph, *event)? {
             return Err(ReplayFault::BadEvent { place });
         }
         place += 1;
     }
-    Ok(MarkState { board })
+    Ok(MarkState { machine_state })
 }

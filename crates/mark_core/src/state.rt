@@ -3,13 +3,13 @@ ghost use Rattle.std.specs.Prelude.{◌≡◌, ◌↔◌, IsTrue, Contains};
 ghost use Rattle.mark_core.specs.Machine.{worker_at};
 ghost use Rattle.mark_core.specs.Sound.{IsIdle};
 
-use crate::board::Board;
+use crate::machine_state::MachineState;
 use std::marker::Model;
 
 /// A state of the mark machine. `start` and `replay` make it; nothing changes it.
 #[derive(Drop)]
 pub struct MarkState {
-    pub(crate) board: Board,
+    pub(crate) machine_state: MachineState,
 }
 
 impl Model for MarkState {
@@ -17,9 +17,9 @@ impl Model for MarkState {
 
     ghost Value = { Machine };
 
-    ghost use Rattle.mark_core.specs.Boards.{machine_of};
+    ghost use Rattle.mark_core.specs.MachineStates.{machine_of};
 
-    ghost view = { λ s. machine_of s.board };
+    ghost view = { λ s. machine_of s.machine_state };
 }
 
 impl MarkState {
@@ -27,15 +27,15 @@ impl MarkState {
     pub fn claimed(&self, node: u32) -> bool
         ensures { IsTrue result ↔ Contains self.now.claimed node }
     {
-        self.board.found.marks.has(node)
+        self.machine_state.found.marks.has(node)
     }
 
     /// The nodes that a worker has scanned, in order. A number that is no worker's has none.
     pub fn log(&self, worker: usize) -> &[u32]
         ensures { result.now ≡ (worker_at self.now.workers worker).log }
     {
-        match self.board.desks.get(worker) {
-            Some(desk) => desk.log(),
+        match self.machine_state.worker_states.get(worker) {
+            Some(worker_state) => worker_state.log(),
             None => &[],
         }
     }
@@ -44,6 +44,9 @@ impl MarkState {
     pub fn idle(&self) -> bool
         ensures { IsTrue result ↔ IsIdle self.now }
     {
-        self.board.desks.iter().all(|desk| desk.is_idle())
+        self.machine_state
+            .worker_states
+            .iter()
+            .all(|worker_state| worker_state.is_idle())
     }
 }

@@ -3,11 +3,11 @@ ghost use Rattle.std.specs.Prelude.{◌≡◌, ◌<◌, ◌^◌, length, slice_g
 ghost use Rattle.mark_core.specs.declared.event.MarkEvent.TheVariants.{Look, Put, Take, Finish};
 ghost use Rattle.mark_core.specs.Bits.{HasRoom};
 ghost use Rattle.mark_core.specs.Reach.{IsInRange, node_count, targets};
-ghost use Rattle.mark_core.specs.Boards.{Answers};
+ghost use Rattle.mark_core.specs.MachineStates.{Answers};
 
-use crate::board::Board;
 use crate::event::{Hand, MarkEvent};
 use crate::graph::Graph;
+use crate::machine_state::MachineState;
 use std::alloc::AllocError;
 
 // The edge of a node at a place, if it has so many.
@@ -18,7 +18,7 @@ fn edge_at(graph: &Graph, node: u32, place: usize) -> Option<u32>
     graph.targets(node).get(place).copied()
 }
 
-impl Board {
+impl MachineState {
     fn look(&mut self, graph: &Graph, worker: usize, target: u32) -> Result<bool, AllocError>
         requires range { IsInRange graph.now }
         requires room { HasRoom (node_count graph.now) self.old.found.marks }
@@ -26,7 +26,7 @@ impl Board {
         ensures answer { IfOk result
             (λ done. Answers graph.now (Look worker target) self.old done self.new) }
     {
-        if worker >= self.desks.len() {
+        if worker >= self.worker_states.len() {
             return Ok(false);
         }
         let Some(hand) = self.hand(worker) else {
@@ -59,7 +59,7 @@ impl Board {
         ensures answer { IfOk result
             (λ done. Answers graph.now (Put worker) self.old done self.new) }
     {
-        if worker >= self.desks.len() {
+        if worker >= self.worker_states.len() {
             return Ok(false);
         }
         let Some(hand) = self.hand(worker) else {
@@ -84,10 +84,10 @@ impl Board {
         ensures room { length self.new.found.marks ≡ length self.old.found.marks }
         ensures answer { Answers graph.now (Take worker from) self.old result self.new }
     {
-        if worker >= self.desks.len() {
+        if worker >= self.worker_states.len() {
             return false;
         }
-        if from >= self.desks.len() {
+        if from >= self.worker_states.len() {
             return false;
         }
         if self.hand(worker).is_some() {
@@ -112,7 +112,7 @@ impl Board {
         ensures answer { IfOk result
             (λ done. Answers graph.now (Finish worker) self.old done self.new) }
     {
-        if worker >= self.desks.len() {
+        if worker >= self.worker_states.len() {
             return Ok(false);
         }
         let Some(hand) = self.hand(worker) else {

@@ -6,7 +6,7 @@ use Rattle.std.proofs.lemmas.List.Elements.{filter_agree}
 use Rattle.meta_types.specs.Keys.{in_order}
 use Rattle.meta_types.specs.Rows.{State, Tables, BackLists, BackSnap}
 use Rattle.meta_types.specs.Paths.{Thing, TellsReached}
-use Rattle.meta_types.specs.Backends.{BackNames, no_objects, owns_snapshot, is_named, object_name, ancestors_of, is_below_one, blob_stays, ingest_object_stays, snapshot_object_stays, collected_backends, removed_objects, goes_before}
+use Rattle.meta_types.specs.Backends.{BackNames, no_objects, owns_snapshot, is_named, object_name, ancestors_of, is_ancestor_of_one, blob_stays, ingest_object_stays, snapshot_object_stays, collected_backends, removed_objects, goes_before}
 use Rattle.meta_types.specs.Collected.{collected_records, collected}
 use Rattle.meta_types.specs.Reports.{Report, Collects, report_of, kept_of}
 use Rattle.meta_types.specs.Promises.{ChangesNothing}
@@ -19,7 +19,7 @@ use Rattle.meta_types.proofs.Again.{tells_left, again, no_row_is_gone}
 
 -- without failures a snapshot's object stays where it is owned
 unfailed : (tables : Tables) (shards : List BackSnap) (snap : BackSnap) → snapshot_object_stays tables shards no_objects snap ≡ owns_snapshot tables snap
-unfailed tables shards snap = go (owns_snapshot tables snap) (is_below_one shards [] snap) (none_passes (λ one. list_any (λ name. is_named name one) [] && list_any (is_named (object_name snap)) (ancestors_of shards one)) (λ one. refl) shards)
+unfailed tables shards snap = go (owns_snapshot tables snap) (is_ancestor_of_one shards [] snap) (none_passes (λ one. list_any (λ name. is_named name one) [] && list_any (is_named (object_name snap)) (ancestors_of shards one)) (λ one. refl) shards)
   where
     go : (b x : Bool) → x ≡ false → (b || false || x) ≡ b
     go true x e = refl

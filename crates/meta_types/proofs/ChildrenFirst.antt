@@ -14,8 +14,8 @@ use Rattle.meta_types.specs.Reports.{Report, Collects, Plans}
 use Rattle.meta_types.specs.Sound.{IsSound, IsChildfirst}
 use Rattle.meta_types.specs.Promises.{numbers_of, shard_of}
 use Rattle.meta_types.proofs.Members.{in_filter, from_filter, any_from}
-use Rattle.meta_types.proofs.Kept.{from_map, in_map}
-use Rattle.meta_types.proofs.Found.{finds, found_is}
+use Rattle.meta_types.proofs.FilteredNames.{from_map, in_map}
+use Rattle.meta_types.proofs.ListSearches.{finds, found_is}
 use Rattle.meta_types.proofs.Falling.{one_object, object_above, deeper}
 use Rattle.meta_types.proofs.ObjectsAfter.{falls, above_stays, has_name, name_is}
 use Rattle.meta_types.proofs.Sorted.{all_from_each, pairs_of_members, pairs_of_images, in_ordered, ordered_has, order_pairs}

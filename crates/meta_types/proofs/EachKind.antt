@@ -7,7 +7,7 @@ use Rattle.meta_types.specs.Text.{Text}
 use Rattle.meta_types.specs.Rows.{Records, State, Tables, BackSnap, LeaseRow, content_key, ingest_key, snap_key, image_key, lease_key}
 use Rattle.meta_types.specs.Keys.{Key, are_in_order}
 use Rattle.meta_types.specs.Paths.{Thing, ingest, content, snapshot, image_stays, lease_stays, IsReached, TellsReached}
-use Rattle.meta_types.specs.Backends.{BackNames, no_objects, owns_blob, owns_snapshot, owns_ingest, object_name, is_named, is_below_one, ancestors_of, blob_stays, ingest_object_stays, snapshot_object_stays, goes_before}
+use Rattle.meta_types.specs.Backends.{BackNames, no_objects, owns_blob, owns_snapshot, owns_ingest, object_name, is_named, is_ancestor_of_one, ancestors_of, blob_stays, ingest_object_stays, snapshot_object_stays, goes_before}
 use Rattle.meta_types.specs.Collected.{content_stays, snapshot_stays, ingest_stays, collected, collected_records}
 use Rattle.meta_types.specs.Reports.{Report, Collects, Plans, report_of}
 use Rattle.meta_types.specs.Sound.{IsSound}
@@ -19,8 +19,8 @@ use Rattle.meta_types.specs.declared.rows.SnapRow.{SnapRow}
 use Rattle.meta_types.specs.declared.resource.Mode.{Mode}
 use Rattle.meta_types.specs.declared.resource.Mode.TheVariants.{Full, Flat}
 use Rattle.meta_types.proofs.Members.{in_filter, from_filter}
-use Rattle.meta_types.proofs.Kept.{from_map, in_map}
-use Rattle.meta_types.proofs.Apart.{one_row}
+use Rattle.meta_types.proofs.FilteredNames.{from_map, in_map}
+use Rattle.meta_types.proofs.OneRowPerKey.{one_row}
 use Rattle.meta_types.proofs.Once.{ingest_in, full_in, flat_in, full_snap_in, flat_snap_in, same_scanned}
 use Rattle.meta_types.proofs.Promised.{reached_content, reached_snapshot, content_name, ingest_name, snapshot_name, content_names, ingest_names, snapshot_names}
 use Rattle.meta_types.proofs.Sorted.{in_ordered, ordered_has}
@@ -175,11 +175,11 @@ module _ (state : State) (at : ℤ) (reached : Thing → Bool) (dry : Bool) wher
   abbrev stays : BackSnap → Bool
   stays = snapshot_object_stays left shards no_objects
 
-  none_below : (snap : BackSnap) → is_below_one shards [] snap ≡ false
+  none_below : (snap : BackSnap) → is_ancestor_of_one shards [] snap ≡ false
   none_below snap = nothing_below (λ one. list_any (is_named (object_name snap)) (ancestors_of shards one)) shards
 
   only_owner : (snap : BackSnap) → stays snap ≡ true → owns_snapshot left snap ≡ true
-  only_owner snap h = only_first (owns_snapshot left snap) false (is_below_one shards [] snap) refl (none_below snap) h
+  only_owner snap h = only_first (owns_snapshot left snap) false (is_ancestor_of_one shards [] snap) refl (none_below snap) h
 
   owner_keeps : (snap : BackSnap) → owns_snapshot left snap ≡ true → stays snap ≡ true
   owner_keeps snap h = rw h refl

@@ -13,7 +13,7 @@ use Rattle.meta_types.specs.Backends.{is_named, ancestors, ancestors_of, depth_o
 use Rattle.meta_types.specs.Changes.{stands_before}
 use Rattle.meta_types.proofs.Members.{here, later, first_or_later, none_in_nothing}
 use Rattle.meta_types.proofs.Filtered.{all_stay}
-use Rattle.meta_types.proofs.Found.{no_none, none_or_some, found_is, one_item, no_more, fewer}
+use Rattle.meta_types.proofs.ListSearches.{no_none, none_or_some, found_is, one_item, no_more, fewer}
 
 -- ---- names are apart
 

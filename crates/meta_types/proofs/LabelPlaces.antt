@@ -17,7 +17,7 @@ use Rattle.meta_types.specs.Text.{Text, texts_of, text_cmp}
 use Rattle.meta_types.specs.Keys.{is_key, is_before, are_in_order, row_at}
 use Rattle.meta_types.specs.Labels.{LabelList, label_key, has_label, value_of, put_label}
 use Rattle.meta_types.proofs.Searched.{key_cmp, Finds, searched, position_or_len-map, has_row-map, are_in_order-map}
-use Rattle.meta_types.proofs.Places.{row_at_place}
+use Rattle.meta_types.proofs.RowAtPlace.{row_at_place}
 use Rattle.meta_types.proofs.Puts.{placed, removed_found, set_found, inserted_found}
 
 abbrev pub Entry : Type 0

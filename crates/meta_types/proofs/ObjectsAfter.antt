@@ -10,12 +10,12 @@ use Rattle.std.proofs.lemmas.Slice.Eq.{bytes_eq-Decides}
 use Rattle.meta_types.specs.Text.{Text}
 use Rattle.meta_types.specs.Rows.{Tables, State, BackSnap}
 use Rattle.meta_types.specs.Paths.{Thing, TellsReached}
-use Rattle.meta_types.specs.Backends.{BackNames, is_named, object_name, ancestors_of, is_below_one, owns_snapshot, snapshot_object_stays}
+use Rattle.meta_types.specs.Backends.{BackNames, is_named, object_name, ancestors_of, is_ancestor_of_one, owns_snapshot, snapshot_object_stays}
 use Rattle.meta_types.specs.Collected.{snapshot_stays, collected_records}
 use Rattle.meta_types.specs.Sound.{parent_of, HasParent, object_of, IsSound}
 use Rattle.meta_types.specs.declared.rows.SnapRow.{SnapRow}
 use Rattle.meta_types.proofs.Members.{in_filter, from_filter, any_from, found_by_any}
-use Rattle.meta_types.proofs.Found.{some_is, no_none, first_of, third_of, one_of_three, found_is, finds, found_again}
+use Rattle.meta_types.proofs.ListSearches.{some_is, no_none, first_of, third_of, one_of_three, found_is, finds, found_again}
 use Rattle.meta_types.proofs.TablesAfter.{same_parent, parent_left}
 use Rattle.meta_types.proofs.Falling.{one_object, object_above, ancestor_there, parent_is_ancestor, all_ancestors}
 
@@ -66,7 +66,7 @@ module _ (state : State) (at : ℤ) (failed : BackNames) (reached : Thing → Bo
   object_left row c h =
       let own = owned tables row (object rows row) (in_filter (snapshot_stays reached) rows row c h) refl refl in
       found_again (is_named (row.key.snapshotter, row.number)) stays shards (object rows row) (has_object row c)
-      (first_of (owns_snapshot tables (object rows row)) (is_failed (object rows row)) (is_below_one shards failed.snapshots (object rows row)) own)
+      (first_of (owns_snapshot tables (object rows row)) (is_failed (object rows row)) (is_ancestor_of_one shards failed.snapshots (object rows row)) own)
       ∙ ap (λ (o : Option SnapRow). Some (record { snapshotter = row.key.snapshotter; number = row.number; parent = option_map_or (λ (above : SnapRow). Some above.number) o None })) (sym (parent_same row c h))
 
   -- ---- the parent of what stays
@@ -108,7 +108,7 @@ module _ (state : State) (at : ℤ) (failed : BackNames) (reached : Thing → Bo
             owned tables top above left.0 (sym left.1 ∙ same ∙ sym names.0) (some_is top.number number p ∙ sym names.1))
 
     -- where its removal failed, the parent is an ancestor of one whose removal failed
-    above_failed : is_failed snap ≡ true → is_below_one shards failed.snapshots above ≡ true
+    above_failed : is_failed snap ≡ true → is_ancestor_of_one shards failed.snapshots above ≡ true
     above_failed h =
         let some : 0 < length shards = omega (arith, c.1) in
         let ancestor = parent_is_ancestor shards (length shards) snap above some is_above in
@@ -117,7 +117,7 @@ module _ (state : State) (at : ℤ) (failed : BackNames) (reached : Thing → Bo
         (any_from (is_named (object_name above)) (ancestors_of shards snap) above ancestor (has_name above.snapshotter above.number above refl refl)))
 
     -- and where it is such an ancestor, the parent is too
-    above_below : is_below_one shards failed.snapshots snap ≡ true → is_below_one shards failed.snapshots above ≡ true
+    above_below : is_ancestor_of_one shards failed.snapshots snap ≡ true → is_ancestor_of_one shards failed.snapshots above ≡ true
     above_below h =
         let one = found_by_any (λ one. is_failed one && list_any (is_named (object_name snap)) (ancestors_of shards one)) shards h in
         let parts = and_parts (is_failed one.0) (list_any (is_named (object_name snap)) (ancestors_of shards one.0)) one.2 in
@@ -131,10 +131,10 @@ module _ (state : State) (at : ℤ) (failed : BackNames) (reached : Thing → Bo
 
     -- so the parent of what stays does, for whichever reason it stays
     pub above_stays : stays snap ≡ true → stays above ≡ true
-    above_stays h = elim (one_of_three (owns_snapshot tables snap) (is_failed snap) (is_below_one shards failed.snapshots snap) h) [
-      | inl own ↦ first_of (owns_snapshot tables above) (is_failed above) (is_below_one shards failed.snapshots above) (above_owned own)
-      | inr (inl fails) ↦ third_of (owns_snapshot tables above) (is_failed above) (is_below_one shards failed.snapshots above) (above_failed fails)
-      | inr (inr below) ↦ third_of (owns_snapshot tables above) (is_failed above) (is_below_one shards failed.snapshots above) (above_below below)
+    above_stays h = elim (one_of_three (owns_snapshot tables snap) (is_failed snap) (is_ancestor_of_one shards failed.snapshots snap) h) [
+      | inl own ↦ first_of (owns_snapshot tables above) (is_failed above) (is_ancestor_of_one shards failed.snapshots above) (above_owned own)
+      | inr (inl fails) ↦ third_of (owns_snapshot tables above) (is_failed above) (is_ancestor_of_one shards failed.snapshots above) (above_failed fails)
+      | inr (inr below) ↦ third_of (owns_snapshot tables above) (is_failed above) (is_ancestor_of_one shards failed.snapshots above) (above_below below)
     ]
 
   -- and stands in the backend that is left

@@ -6,13 +6,13 @@ use Rattle.std.proofs.lemmas.Bool.{or_left, both_ways}
 use Rattle.meta_types.specs.Text.{Text}
 use Rattle.meta_types.specs.Rows.{Tables, State, BackSnap}
 use Rattle.meta_types.specs.Paths.{Thing}
-use Rattle.meta_types.specs.Backends.{BackNames, is_named, object_name, is_below_one, goes_before, owns_snapshot, owns_ingest, snapshot_object_stays, ingest_object_stays}
+use Rattle.meta_types.specs.Backends.{BackNames, is_named, object_name, is_ancestor_of_one, goes_before, owns_snapshot, owns_ingest, snapshot_object_stays, ingest_object_stays}
 use Rattle.meta_types.specs.Collected.{collected, collected_records}
 use Rattle.meta_types.specs.Reports.{Report, Collects, report_of}
 use Rattle.meta_types.specs.Promises.{KeepsOwnedObjects, RemovesUnownedObjects}
 use Rattle.meta_types.proofs.Members.{in_filter, from_filter}
-use Rattle.meta_types.proofs.Kept.{from_map, in_map}
-use Rattle.meta_types.proofs.Found.{first_of}
+use Rattle.meta_types.proofs.FilteredNames.{from_map, in_map}
+use Rattle.meta_types.proofs.ListSearches.{first_of}
 use Rattle.meta_types.proofs.Sorted.{in_ordered, ordered_has}
 
 module _ (state : State) (at : ℤ) (failed : BackNames) (reached : Thing → Bool) where
@@ -36,7 +36,7 @@ module _ (state : State) (at : ℤ) (failed : BackNames) (reached : Thing → Bo
 
   -- what is owned stays
   owned_stays : (snap : BackSnap) → owns_snapshot tables snap ≡ true → stays snap ≡ true
-  owned_stays snap owns = first_of (owns_snapshot tables snap) (is_failed snap) (is_below_one shards failed.snapshots snap) owns
+  owned_stays snap owns = first_of (owns_snapshot tables snap) (is_failed snap) (is_ancestor_of_one shards failed.snapshots snap) owns
 
   -- the owner of a name is that of each snapshot of the name
   same_owner : (a b : BackSnap) → object_name a ≡ object_name b → owns_snapshot tables a ≡ owns_snapshot tables b

@@ -13,7 +13,7 @@ use Rattle.meta_types.specs.declared.rows.SnapRow.{SnapRow}
 use Rattle.meta_types.specs.declared.resource.Mode.TheVariants.{Full, Flat}
 use Rattle.meta_types.proofs.Members.{here, later}
 use Rattle.meta_types.proofs.Exists.{tests_agree}
-use Rattle.meta_types.proofs.Kept.{in_map}
+use Rattle.meta_types.proofs.FilteredNames.{in_map}
 
 module _ {X : Type 0} where
   -- tests that agree on the items keep the same

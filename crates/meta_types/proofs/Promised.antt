@@ -18,7 +18,7 @@ use Rattle.meta_types.specs.declared.resource.Mode.{Mode}
 use Rattle.meta_types.specs.declared.resource.Mode.TheVariants.{Full, Flat}
 use Rattle.meta_types.proofs.Members.{in_filter, from_filter}
 use Rattle.meta_types.proofs.Once.{ingest_in, full_in, flat_in, full_snap_in, flat_snap_in}
-use Rattle.meta_types.proofs.Kept.{not_named, gone_and_named}
+use Rattle.meta_types.proofs.FilteredNames.{not_named, gone_and_named}
 
 -- ---- names are keys
 

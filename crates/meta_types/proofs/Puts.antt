@@ -7,7 +7,7 @@ use Rattle.std.proofs.lemmas.Grind.{common_steps}
 use Rattle.std.proofs.lemmas.Bool.{cases_Bool, and_parts, both_ways}
 use Rattle.meta_types.specs.Keys.{Key, is_key, is_before, has_row, add_row, remove_row, put_row, is_first, are_in_order}
 use Rattle.meta_types.proofs.Ordered.{keys_total, before_trans, in_order_added, in_order_removed}
-use Rattle.meta_types.proofs.Places.{put_at_place, remove_at_place}
+use Rattle.meta_types.proofs.RowAtPlace.{put_at_place, remove_at_place}
 use Rattle.meta_types.proofs.Searched.{one_way, not_key, even, same_before, in_order_rest, Finds}
 use Rattle.std.specs.Ordering.{is_lt}
 

@@ -11,7 +11,7 @@ use Rattle.meta_types.specs.contracts.rows.SnapKey as snap_keys
 use Rattle.meta_types.specs.contracts.rows.SnapRow as snaps
 use Rattle.meta_types.specs.contracts.instant.Instant as instants
 use Rattle.meta_types.specs.contracts.resource.Resource as resources
-use Rattle.meta_types.specs.contracts.reply.Row as rows
+use Rattle.meta_types.specs.contracts.reply.ReplyRow as rows
 use denote.Enum.Declared.{tag_of}
 use Rattle.meta_types.proofs.Decided.{Test, text, number, signed, maybe, listed, one, ◌⊗◌, ◌⊕◌, fields, tags, variants}
 

@@ -6,8 +6,8 @@ use Rattle.std.proofs.lemmas.List.Elements.{All-contains, All-contains_itself, A
 use Rattle.std.proofs.lemmas.List.Kept.{AllPairs-cons}
 use Rattle.meta_types.specs.Keys.{put_in_order, in_order}
 use Rattle.meta_types.proofs.Members.{here, later, first_or_later, none_in_nothing}
-use Rattle.meta_types.proofs.Kept.{from_map}
-use Rattle.meta_types.proofs.Found.{pairs_head, pairs_tail}
+use Rattle.meta_types.proofs.FilteredNames.{from_map}
+use Rattle.meta_types.proofs.ListSearches.{pairs_head, pairs_tail}
 
 -- ---- what holds of members
 

@@ -19,7 +19,7 @@ use Rattle.meta_types.specs.declared.rows.IngestRow.{IngestRow}
 use Rattle.meta_types.specs.declared.rows.SnapRow.{SnapRow}
 use Rattle.meta_types.proofs.Members.{in_filter, any_from, found_by_any}
 use Rattle.meta_types.proofs.Filtered.{in_order_filtered}
-use Rattle.meta_types.proofs.Found.{all_left}
+use Rattle.meta_types.proofs.ListSearches.{all_left}
 use Rattle.meta_types.proofs.TablesAfter.{rows_filtered, tables_left}
 use Rattle.meta_types.proofs.ObjectsAfter.{object_left, back_parent_left}
 

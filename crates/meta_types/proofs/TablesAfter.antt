@@ -22,7 +22,7 @@ use Rattle.meta_types.specs.declared.resource.Mode.{Mode}
 use Rattle.meta_types.specs.declared.resource.Mode.TheVariants.{Full, Flat}
 use Rattle.meta_types.proofs.Once.{full_snap_in, flat_snap_in}
 use Rattle.meta_types.proofs.Filtered.{in_order_filtered}
-use Rattle.meta_types.proofs.Found.{no_none, found_is, found_again, row_is_found, all_left}
+use Rattle.meta_types.proofs.ListSearches.{no_none, found_is, found_again, row_is_found, all_left}
 
 -- rows that a test keeps are sound
 pub rows_filtered : {Row : Type 0} (key_of : Row → Key) (ns_of : Row → Text) (p : Row → Bool) (namespaces : List Text) (rows : List Row) → AreRows key_of ns_of namespaces rows → AreRows key_of ns_of namespaces (filter p rows)

@@ -6,7 +6,7 @@ use Rattle.std.proofs.lemmas.List.Elements.{All-weaker}
 use Rattle.std.proofs.lemmas.List.Sums.{AllPass-from_list_all}
 use Rattle.meta_types.specs.Rows.{State, Tables, BackLists, BackSnap}
 use Rattle.meta_types.specs.Paths.{Thing}
-use Rattle.meta_types.specs.Backends.{BackNames, IsFailure, no_objects, removed_objects, is_named, is_below_one}
+use Rattle.meta_types.specs.Backends.{BackNames, IsFailure, no_objects, removed_objects, is_named, is_ancestor_of_one}
 use Rattle.meta_types.specs.Collected.{collected, collected_records}
 use Rattle.meta_types.specs.Reports.{Report, report_of, Collects}
 use Rattle.meta_types.proofs.Closure.{is_found, passes, passes_are_reached, tells_if_closed, closed_from_pass}
@@ -44,7 +44,7 @@ pub record Fits (tables : Tables) (back : BackLists) (failed : BackNames) : Type
   pub blobs : failed.blobs ≡ filter (λ digest. list_any (bytes_eq digest) failed.blobs) (removed_objects tables no_objects back).blobs
   pub ingests : failed.ingests ≡ filter (λ number. list_any (λ other. other == number) failed.ingests) (removed_objects tables no_objects back).ingests
   pub snapshots : failed.snapshots ≡ filter (λ name. list_any (λ other. bytes_eq other.0 name.0 && other.1 == name.1) failed.snapshots) (removed_objects tables no_objects back).snapshots
-  pub apart : list_all (λ snap. not (is_failed failed snap) || not (is_below_one back.snapshots failed.snapshots snap)) back.snapshots ≡ true
+  pub apart : list_all (λ snap. not (is_failed failed snap) || not (is_ancestor_of_one back.snapshots failed.snapshots snap)) back.snapshots ≡ true
 
 either_not : (p q : Bool) → (not p || not q) ≡ true → p ≡ true → q ≡ false
 either_not true true h t = absurd cc
@@ -56,10 +56,10 @@ fits tables back failed h = record {
   blobs = h.blobs;
   ingests = h.ingests;
   snapshots = h.snapshots;
-  apart = All-weaker (λ snap. IsTrue (not (is_failed failed snap) || not (is_below_one back.snapshots failed.snapshots snap)))
-      (λ snap. IsTrue (is_failed failed snap) → is_below_one back.snapshots failed.snapshots snap ≡ false)
-      (λ snap either. either_not (is_failed failed snap) (is_below_one back.snapshots failed.snapshots snap) either) back.snapshots
-      (AllPass-from_list_all (λ snap. not (is_failed failed snap) || not (is_below_one back.snapshots failed.snapshots snap)) back.snapshots h.apart);
+  apart = All-weaker (λ snap. IsTrue (not (is_failed failed snap) || not (is_ancestor_of_one back.snapshots failed.snapshots snap)))
+      (λ snap. IsTrue (is_failed failed snap) → is_ancestor_of_one back.snapshots failed.snapshots snap ≡ false)
+      (λ snap either. either_not (is_failed failed snap) (is_ancestor_of_one back.snapshots failed.snapshots snap) either) back.snapshots
+      (AllPass-from_list_all (λ snap. not (is_failed failed snap) || not (is_ancestor_of_one back.snapshots failed.snapshots snap)) back.snapshots h.apart);
 }
 
 -- where one pass more adds nothing, and these removals may have failed, report and store are those of a collection

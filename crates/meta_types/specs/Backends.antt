@@ -40,21 +40,21 @@ object_name snap = (snap.snapshotter, snap.number)
 
 -- the parent, its parent and so on, at most so many (containerd snapshots service, parents)
 abbrev pub ancestors : ℕ → List BackSnap → BackSnap → List BackSnap
-ancestors zero shards snap = []
-ancestors (suc most) shards snap =
-    option_map_or (λ above. above ∷ ancestors most shards above) (option_and_then (λ number. find (is_named (snap.snapshotter, number)) shards) snap.parent) []
+ancestors zero snapshots snap = []
+ancestors (suc most) snapshots snap =
+    option_map_or (λ above. above ∷ ancestors most snapshots above) (option_and_then (λ number. find (is_named (snap.snapshotter, number)) snapshots) snap.parent) []
 
 -- all ancestors: there are fewer than snapshots
 abbrev pub ancestors_of : List BackSnap → BackSnap → List BackSnap
-ancestors_of shards snap = ancestors (length shards) shards snap
+ancestors_of snapshots snap = ancestors (length snapshots) snapshots snap
 
 abbrev pub depth_of : List BackSnap → BackSnap → ℕ
-depth_of shards snap = length (ancestors_of shards snap)
+depth_of snapshots snap = length (ancestors_of snapshots snap)
 
 -- the snapshot is an ancestor of one that is named
-abbrev pub is_below_one : List BackSnap → List (Text × ℕ) → BackSnap → Bool
-is_below_one shards names snap =
-    list_any (λ one. list_any (λ name. is_named name one) names && list_any (is_named (object_name snap)) (ancestors_of shards one)) shards
+abbrev pub is_ancestor_of_one : List BackSnap → List (Text × ℕ) → BackSnap → Bool
+is_ancestor_of_one snapshots names snap =
+    list_any (λ one. list_any (λ name. is_named name one) names && list_any (is_named (object_name snap)) (ancestors_of snapshots one)) snapshots
 
 -- ---- what stays, and what goes
 
@@ -68,8 +68,8 @@ ingest_object_stays tables failed number = owns_ingest tables number || list_any
 
 -- a snapshot's object stays where these tables own it, its removal failed, or that of a descendant failed (containerd snapshots service: a parent isn't removed before its children)
 abbrev pub snapshot_object_stays : Tables → List BackSnap → BackNames → BackSnap → Bool
-snapshot_object_stays tables shards failed snap = owns_snapshot tables snap
-    || list_any (λ name. is_named name snap) failed.snapshots || is_below_one shards failed.snapshots snap
+snapshot_object_stays tables snapshots failed snap = owns_snapshot tables snap
+    || list_any (λ name. is_named name snap) failed.snapshots || is_ancestor_of_one snapshots failed.snapshots snap
 
 abbrev pub collected_backends : Tables → BackNames → BackLists → BackLists
 collected_backends tables failed back = record {
@@ -80,9 +80,9 @@ collected_backends tables failed back = record {
 
 -- snapshots go by snapshotter, then the deepest first, then by number (children before parents: containerd snapshots service)
 abbrev pub goes_before : List BackSnap → BackSnap → BackSnap → Bool
-goes_before shards a b = is_lt (text_cmp a.snapshotter b.snapshotter)
-    || bytes_eq a.snapshotter b.snapshotter && (nat_lt (depth_of shards b) (depth_of shards a)
-    || depth_of shards a == depth_of shards b && nat_lt a.number b.number)
+goes_before snapshots a b = is_lt (text_cmp a.snapshotter b.snapshotter)
+    || bytes_eq a.snapshotter b.snapshotter && (nat_lt (depth_of snapshots b) (depth_of snapshots a)
+    || depth_of snapshots a == depth_of snapshots b && nat_lt a.number b.number)
 
 -- what the backend gives up, in the order of a report
 abbrev pub removed_objects : Tables → BackNames → BackLists → BackNames
@@ -98,4 +98,4 @@ pub record IsFailure (tables : Tables) (back : BackLists) (failed : BackNames) :
   pub blobs : failed.blobs ≡ filter (λ digest. list_any (bytes_eq digest) failed.blobs) (removed_objects tables no_objects back).blobs
   pub ingests : failed.ingests ≡ filter (λ number. list_any (λ other. other == number) failed.ingests) (removed_objects tables no_objects back).ingests
   pub snapshots : failed.snapshots ≡ filter (λ name. list_any (λ other. bytes_eq other.0 name.0 && other.1 == name.1) failed.snapshots) (removed_objects tables no_objects back).snapshots
-  pub apart : All (λ snap. IsTrue (list_any (λ name. is_named name snap) failed.snapshots) → is_below_one back.snapshots failed.snapshots snap ≡ false) back.snapshots
+  pub apart : All (λ snap. IsTrue (list_any (λ name. is_named name snap) failed.snapshots) → is_ancestor_of_one back.snapshots failed.snapshots snap ≡ false) back.snapshots

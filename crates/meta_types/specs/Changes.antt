@@ -43,32 +43,32 @@ with_snapshots state rows = with_tables state (record state.records.tables { sna
 -- ---- leases
 
 -- the lease holds the resource (containerd leases service)
-abbrev pub holds_in : Key → Resource → List LeaseRow → Bool
-holds_in key resource leases = option_map_or (λ (row : LeaseRow). has_row resource_key (resource_key resource) row.resources) (row_at lease_key key leases) false
+abbrev pub lease_holds : Key → Resource → List LeaseRow → Bool
+lease_holds key resource leases = option_map_or (λ (row : LeaseRow). has_row resource_key (resource_key resource) row.resources) (row_at lease_key key leases) false
 
 -- the lease holds one resource more (containerd leases service, AddResource)
-abbrev pub hold_in : Key → Resource → List LeaseRow → List LeaseRow
-hold_in key resource leases = change_row lease_key key (λ row. record row { resources = held resource row.resources }) leases
+abbrev pub hold_in_lease : Key → Resource → List LeaseRow → List LeaseRow
+hold_in_lease key resource leases = change_row lease_key key (λ row. record row { resources = held resource row.resources }) leases
 
 -- the lease drops a resource (containerd leases service, DeleteResource)
-abbrev pub drop_in : Key → Resource → List LeaseRow → List LeaseRow
-drop_in key resource leases = change_row lease_key key (λ row. record row { resources = remove_row resource_key (resource_key resource) row.resources }) leases
+abbrev pub release_in_lease : Key → Resource → List LeaseRow → List LeaseRow
+release_in_lease key resource leases = change_row lease_key key (λ row. record row { resources = remove_row resource_key (resource_key resource) row.resources }) leases
 
 -- the lease that a request names, if one, holds the resource (containerd leases service: what is made under a lease is held by it)
-abbrev pub held_by : Text → Option Text → Resource → List LeaseRow → List LeaseRow
-held_by ns lease resource leases = option_map_or (λ id. hold_in (ns ∷ id ∷ []) resource leases) lease leases
+abbrev pub hold_under : Text → Option Text → Resource → List LeaseRow → List LeaseRow
+hold_under ns lease resource leases = option_map_or (λ id. hold_in_lease (ns ∷ id ∷ []) resource leases) lease leases
 
 -- that lease, if one, drops the resource
-abbrev pub dropped_by : Text → Option Text → Resource → List LeaseRow → List LeaseRow
-dropped_by ns lease resource leases = option_map_or (λ id. drop_in (ns ∷ id ∷ []) resource leases) lease leases
+abbrev pub release_under : Text → Option Text → Resource → List LeaseRow → List LeaseRow
+release_under ns lease resource leases = option_map_or (λ id. release_in_lease (ns ∷ id ∷ []) resource leases) lease leases
 
 -- that lease, if one, doesn't hold the resource yet
 abbrev pub is_new_to : Text → Option Text → Resource → List LeaseRow → Bool
-is_new_to ns lease resource leases = option_map_or (λ id. not (holds_in (ns ∷ id ∷ []) resource leases)) lease false
+is_new_to ns lease resource leases = option_map_or (λ id. not (lease_holds (ns ∷ id ∷ []) resource leases)) lease false
 
 -- the new object goes into the lease that the request names (containerd leases service)
 abbrev pub holding : Text → Option Text → Resource → State → State
-holding ns lease resource state = with_leases state (held_by ns lease resource state.records.leases)
+holding ns lease resource state = with_leases state (hold_under ns lease resource state.records.leases)
 
 -- ---- backend objects
 

@@ -14,7 +14,7 @@ use Rattle.meta_types.specs.Labels.{LabelList, is_label, has_room}
 use Rattle.meta_types.specs.Rows.{State}
 use Rattle.meta_types.specs.Changes.{has_namespace, has_lease}
 use Rattle.meta_types.specs.declared.fault.Fault.{Fault}
-use Rattle.meta_types.specs.declared.reply.Row.{Row}
+use Rattle.meta_types.specs.declared.reply.ReplyRow.{ReplyRow}
 use Rattle.meta_types.specs.declared.reply.Reply.{Reply}
 use Rattle.meta_types.specs.declared.reply.Reply.TheVariants as R
 
@@ -36,7 +36,7 @@ abbrev pub done : State → Outcome
 done state = record { invalid = false; missing = false; there = false; forbidden = false; reply = R.Done; after = state }
 
 -- the row that was asked for
-abbrev pub row_reply : {A : Type 0} → (A → Row) → Option A → Reply
+abbrev pub row_reply : {A : Type 0} → (A → ReplyRow) → Option A → Reply
 row_reply shown found = option_map_or (λ a. R.Row (shown a)) found R.Done
 
 -- the names of a namespace's rows, in their order (containerd, listings)

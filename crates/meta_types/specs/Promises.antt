@@ -5,7 +5,7 @@ use Rattle.meta_types.specs.Text.{Text}
 use Rattle.meta_types.specs.Rows.{Records, State, BackSnap}
 use Rattle.meta_types.specs.Paths.{Thing, ingest, content, snapshot, IsReached, TellsReached}
 use Rattle.meta_types.specs.Finding.{reached_in}
-use Rattle.meta_types.specs.Backends.{BackNames, owns_blob, owns_snapshot, owns_ingest, is_named, is_below_one, object_name, no_objects}
+use Rattle.meta_types.specs.Backends.{BackNames, owns_blob, owns_snapshot, owns_ingest, is_named, is_ancestor_of_one, object_name, no_objects}
 use Rattle.meta_types.specs.Reports.{Report, Collects, Plans, Removed}
 use Rattle.meta_types.specs.Sound.{IsSound, IsChildfirst}
 use Rattle.meta_types.specs.declared.rows.ContentRow.{ContentRow}
@@ -83,7 +83,7 @@ OwnedObjectsStay = (state : State) (at : ℤ) (failed : BackNames) (report : Rep
 -- they go, and are reported as removed, where none owns them, unless their removal failed or, of a snapshot, that of a descendant
 pub record RemovesUnownedObjects (state : State) (report : Report) (new : State) : Type 0 where
   pub snapshots : (snap : BackSnap) → Contains state.backends.snapshots snap → owns_snapshot new.records.tables snap ≡ false
-      → list_any (λ name. is_named name snap) report.failed.snapshots ≡ false → is_below_one state.backends.snapshots report.failed.snapshots snap ≡ false
+      → list_any (λ name. is_named name snap) report.failed.snapshots ≡ false → is_ancestor_of_one state.backends.snapshots report.failed.snapshots snap ≡ false
       → (Contains new.backends.snapshots snap → ⊥) × Contains report.backend.snapshots (object_name snap)
   pub ingests : (number : ℕ) → Contains state.backends.ingests number → owns_ingest new.records.tables number ≡ false → list_any (λ other. other == number) report.failed.ingests ≡ false
       → (Contains new.backends.ingests number → ⊥) × Contains report.backend.ingests number

@@ -7,7 +7,7 @@ use Rattle.meta_types.specs.Ops.Containers.{adds_container, removes_container, g
 use Rattle.meta_types.specs.Ops.Content.{adds_content, removes_content, gets_content, labels_content, lists_content}
 use Rattle.meta_types.specs.Ops.Ingests.{begins_ingest, commits_ingest, aborts_ingest, gets_ingest, lists_ingests}
 use Rattle.meta_types.specs.Ops.Snapshots.{prepares, commits_snapshot, removes_snapshot, gets_snapshot, labels_snapshot, lists_snapshots}
-use Rattle.meta_types.specs.Ops.Leases.{adds_lease, removes_lease, gets_lease, labels_lease, lists_leases, holds_resource, drops_resource, lists_resources}
+use Rattle.meta_types.specs.Ops.Leases.{adds_lease, removes_lease, gets_lease, labels_lease, lists_leases, holds_resource, releases_resource, lists_resources}
 use Rattle.meta_types.specs.declared.rows.SnapKind.TheVariants.{Active, View}
 use Rattle.meta_types.specs.declared.request.Request.{Request}
 use Rattle.meta_types.specs.declared.request.Request.TheVariants.{NsAdd, NsRemove, NsList, ImageAdd, ImageTarget, ImageRemove, ImageGet, ImageList, ImageLabel, ContainerAdd, ContainerRemove, ContainerGet, ContainerList, ContainerLabel, ContentAdd, ContentRemove, ContentGet, ContentLabel, ContentList, IngestBegin, IngestCommit, IngestAbort, IngestGet, IngestList, SnapPrepare, SnapView, SnapCommit, SnapRemove, SnapGet, SnapLabel, SnapList, LeaseAdd, LeaseRemove, LeaseGet, LeaseLabel, LeaseList, LeaseHold, LeaseDrop, LeaseResources, Profile}
@@ -52,7 +52,7 @@ outcome state (LeaseGet ns id) = gets_lease state ns id
 outcome state (LeaseLabel ns id key value) = labels_lease state ns id key value
 outcome state (LeaseList ns) = lists_leases state ns
 outcome state (LeaseHold ns id kind resource) = holds_resource state ns id kind resource
-outcome state (LeaseDrop ns id kind resource) = drops_resource state ns id kind resource
+outcome state (LeaseDrop ns id kind resource) = releases_resource state ns id kind resource
 outcome state (LeaseResources ns id) = lists_resources state ns id
 outcome state (Profile v) = chooses_profile state v
 

@@ -50,7 +50,7 @@ pub record AreTables (tables : Tables) : Type 0 where
 
 -- the backend object of a snapshot
 abbrev pub object_of : List BackSnap → Text → ℕ → Option BackSnap
-object_of shards snapshotter number = find (is_named (snapshotter, number)) shards
+object_of snapshot_objects snapshotter number = find (is_named (snapshotter, number)) snapshot_objects
 
 -- each content row's blob is in the backend (containerd content-flow.md)
 pub record HaveBlobs (content : List ContentRow) (blobs : List Text) : Type 0 where
@@ -58,16 +58,16 @@ pub record HaveBlobs (content : List ContentRow) (blobs : List Text) : Type 0 wh
   pub in_order : IsTrue (are_in_order namespace_key blobs)
 
 -- each snapshot's and ingest's object is in the backend, a snapshot's over its parent's; each number is below the next
-pub record HaveObjects (snapshots : List SnapRow) (ingests : List IngestRow) (next : ℕ) (shards : List BackSnap) (begun : List ℕ) : Type 0 where
+pub record HaveObjects (snapshots : List SnapRow) (ingests : List IngestRow) (next : ℕ) (snapshot_objects : List BackSnap) (begun : List ℕ) : Type 0 where
   pub snapshots_below : All (λ (row : SnapRow). row.number < next) snapshots
   pub ingests_below : All (λ (row : IngestRow). row.number < next) ingests
-  pub objects_below : All (λ (snap : BackSnap). snap.number < next) shards
+  pub objects_below : All (λ (snap : BackSnap). snap.number < next) snapshot_objects
   pub begun_below : All (λ number. number < next) begun
   pub ingests_begun : All (λ (row : IngestRow). IsTrue (list_any (λ number. number == row.number) begun)) ingests
-  pub objects : All (λ (row : SnapRow). object_of shards row.key.snapshotter row.number
+  pub objects : All (λ (row : SnapRow). object_of snapshot_objects row.key.snapshotter row.number
       ≡ Some (record { snapshotter = row.key.snapshotter; number = row.number; parent = option_map_or (λ above. Some above.number) (parent_of snapshots row) None })) snapshots
-  pub back_parents : All (λ (snap : BackSnap). IfSome snap.parent (λ number. IsTrue (list_any (is_named (snap.snapshotter, number)) shards) × (number < snap.number))) shards
-  pub objects_in_order : AllPairs (λ a b. IsTrue (stands_before a b)) shards
+  pub back_parents : All (λ (snap : BackSnap). IfSome snap.parent (λ number. IsTrue (list_any (is_named (snap.snapshotter, number)) snapshot_objects) × (number < snap.number))) snapshot_objects
+  pub objects_in_order : AllPairs (λ a b. IsTrue (stands_before a b)) snapshot_objects
   pub begun_in_order : AllPairs (λ a b. a < b) begun
 
 -- a store is sound: its tables, its leases, and its backend objects

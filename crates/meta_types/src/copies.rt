@@ -4,7 +4,7 @@ ghost use Rattle.meta_types.specs.Faults.{Refuses};
 ghost use Rattle.meta_types.specs.declared.reply.Reply.TheVariants as P;
 
 use crate::fault::Fault;
-use crate::reply::{Reply, Row};
+use crate::reply::{Reply, ReplyRow};
 use crate::request::{Removal, Request};
 use std::alloc::{AllocError, Global};
 
@@ -462,9 +462,9 @@ impl Removal {
     }
 }
 
-impl Row {
+impl ReplyRow {
     /// Another of the same row.
-    pub fn copy(&self, _alloc: Global) -> Result<Row, Fault>
+    pub fn copy(&self, _alloc: Global) -> Result<ReplyRow, Fault>
         ensures fault { Refuses result None }
         ensures ok { IfOk result (λ row. row ≡ self.now) }
     {

@@ -157,7 +157,7 @@ impl Holdings {
 
 /// A row that was asked for; of a lease its id and its labels.
 #[derive(PartialEq, Clone, Drop)]
-pub enum Row {
+pub enum ReplyRow {
     Image(ImageRow),
     Container(ContainerRow),
     Content(ContentRow),
@@ -171,6 +171,6 @@ pub enum Row {
 pub enum Reply {
     Done,
     Names(Listing),
-    Row(Row),
+    Row(ReplyRow),
     Resources(Holdings),
 }

@@ -2,25 +2,25 @@
 ghost use Rattle.std.specs.Prelude.{◌≡◌, ◌↔◌, IsTrue};
 
 use crate::labels::Labels;
-use crate::reply::{Holdings, Listing, Reply, Row};
+use crate::raw::{RawLabels, RawText};
+use crate::reply::{Holdings, Listing, Reply, ReplyRow};
 use crate::request::{Removal, Request};
 use crate::resource::Resource;
 use crate::rows::{ContainerRow, ContentRow, ImageRow, IngestRow, SnapKey, SnapRow};
-use crate::words::{Pairs, Words};
 
-impl Words {
+impl RawText {
     /// Whether both are of one text.
-    pub fn is(&self, words: &Words) -> bool
+    pub fn is(&self, words: &RawText) -> bool
         ensures { IsTrue result ↔ (self.now ≡ words.now) }
     {
         self == words
     }
 }
 
-impl Pairs {
+impl RawLabels {
     /// Whether both are of the same texts, in the same order.
     #[tactic(auto, using(crate::proofs::Decided::same_labels))]
-    pub fn is(&self, pairs: &Pairs) -> bool
+    pub fn is(&self, pairs: &RawLabels) -> bool
         ensures { IsTrue result ↔ (self.now ≡ pairs.now) }
     {
         self == pairs
@@ -128,9 +128,9 @@ impl SnapRow {
     }
 }
 
-impl Row {
+impl ReplyRow {
     /// Whether both are the same row.
-    pub fn is(&self, row: &Row) -> bool
+    pub fn is(&self, row: &ReplyRow) -> bool
         ensures { IsTrue result ↔ (self.now ≡ row.now) }
     {
         self == row

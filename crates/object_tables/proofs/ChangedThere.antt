@@ -2,8 +2,8 @@
 use Rattle.std.proofs.Common.{◌≡◌, List, [], ◌∷◌, Some, refl, sym, ap, ◌∙◌, inl, inr}
 use Rattle.std.proofs.lemmas.Bool.{cases_Bool}
 use Rattle.meta_types.specs.Keys.{Key, is_key, row_at, change_row}
-use Rattle.meta_types.proofs.Found.{some_is}
-use Rattle.arrival_table.specs.Arrived.{Becomes}
+use Rattle.meta_types.proofs.ListSearches.{some_is}
+use Rattle.row_tables.specs.Arrived.{Becomes}
 
 module _ {Row : Type 0} (key_of : Row → Key) (key : Key) where
   -- the row that is there is all that a change reads

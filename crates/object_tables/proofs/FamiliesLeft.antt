@@ -6,12 +6,12 @@ use Rattle.meta_types.specs.Text.{Text}
 use Rattle.meta_types.specs.Keys.{Key, row_at, has_row, remove_row, change_row, are_in_order}
 use Rattle.meta_types.specs.declared.rows.SnapRow.{SnapRow}
 use Rattle.meta_types.specs.declared.rows.SnapKey.{SnapKey}
-use Rattle.meta_types.proofs.Found.{none_or_some}
+use Rattle.meta_types.proofs.ListSearches.{none_or_some}
 use Rattle.meta_types.proofs.KeepsSound.{in_order_changed}
 use Rattle.meta_types.proofs.Ordered.{in_order_removed}
-use Rattle.arrival_table.specs.Arrived.{Becomes}
-use Rattle.arrival_table.specs.Telling.{all_parted}
-use Rattle.object_tables.specs.Children.{left, left_by, parted, parent_key, family_key, family_names, without_child, left_in, families_left, families_left_by, families_parted}
+use Rattle.row_tables.specs.Arrived.{Becomes}
+use Rattle.row_tables.specs.Visiting.{all_visited}
+use Rattle.object_tables.specs.Children.{left, left_by, without_row, parent_key, family_key, family_names, without_child, left_in, families_left, families_left_by, families_visited}
 use Rattle.object_tables.specs.declared.families.Family.{Family}
 use Rattle.object_tables.proofs.ChangedThere.{became, same_there}
 use Rattle.object_tables.proofs.RowsKept.{row_is}
@@ -103,11 +103,11 @@ order_by : (key : SnapKey) (parent : Option Text) (families : List Family) → a
 order_by key None families order = order
 order_by key (Some parent) families order = order_left key parent families order
 
-pub named_parted : (row : SnapRow) (families : List Family) → are_in_order family_key families ≡ true → family_names (families_parted families row) ≡ parted (family_names families) row
-named_parted row families order = named_by row.key row.parent families order
+pub named_without_row : (row : SnapRow) (families : List Family) → are_in_order family_key families ≡ true → family_names (families_visited families row) ≡ without_row (family_names families) row
+named_without_row row families order = named_by row.key row.parent families order
 
 -- one after the other
-pub named_all : (gone : List SnapRow) (families : List Family) → are_in_order family_key families ≡ true → family_names (all_parted families_parted gone families) ≡ all_parted parted gone (family_names families)
+pub named_all : (gone : List SnapRow) (families : List Family) → are_in_order family_key families ≡ true → family_names (all_visited families_visited gone families) ≡ all_visited without_row gone (family_names families)
 named_all [] families order = refl
-named_all (row ∷ gone) families order = named_all gone (families_parted families row) (order_by row.key row.parent families order)
-    ∙ ap (all_parted parted gone) (named_parted row families order)
+named_all (row ∷ gone) families order = named_all gone (families_visited families row) (order_by row.key row.parent families order)
+    ∙ ap (all_visited without_row gone) (named_without_row row families order)

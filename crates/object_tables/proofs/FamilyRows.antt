@@ -7,8 +7,8 @@ use Rattle.meta_types.specs.Keys.{Key, is_key, is_before, row_at, has_row, add_r
 use Rattle.meta_types.specs.declared.fault.Fault.{Fault}
 use Rattle.meta_types.specs.declared.fault.Fault.TheVariants.{OutOfMemory}
 use Rattle.meta_types.specs.declared.rows.SnapKey.{SnapKey}
-use Rattle.meta_types.proofs.Found.{no_none}
-use Rattle.arrival_table.specs.Arrived.{one_text, Becomes}
+use Rattle.meta_types.proofs.ListSearches.{no_none}
+use Rattle.row_tables.specs.Arrived.{one_text, Becomes}
 use Rattle.object_tables.specs.Children.{Enters, entered, left, parent_key, family_key, names_of, family_names, first_family, with_child, without_child}
 use Rattle.object_tables.specs.declared.families.Family.{Family}
 use Rattle.object_tables.proofs.ChangedThere.{stayed}

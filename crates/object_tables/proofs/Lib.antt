@@ -5,7 +5,7 @@ pub mod Committing
 pub mod FamiliesLeft
 pub mod FamilyRows
 pub mod Inserted
-pub mod Kept
+pub mod OrderStays
 pub mod KeyOrder
 pub mod NamesAfter
 pub mod NamesUnder

@@ -8,10 +8,10 @@ use Rattle.meta_types.specs.Rows.{snap_key}
 use Rattle.meta_types.specs.declared.fault.Fault.{Fault}
 use Rattle.meta_types.specs.declared.rows.SnapRow.{SnapRow}
 use Rattle.meta_types.specs.declared.rows.SnapKey.{SnapKey}
-use Rattle.arrival_table.specs.Arrived.{one_text, kept}
-use Rattle.arrival_table.specs.Telling.{gone, all_parted}
-use Rattle.object_tables.specs.Children.{NamesByParent, names_under, entered, left, parted}
-use Rattle.object_tables.proofs.Kept.{nothing_to_remove}
+use Rattle.row_tables.specs.Arrived.{one_text, kept}
+use Rattle.row_tables.specs.Visiting.{gone, all_visited}
+use Rattle.object_tables.specs.Children.{NamesByParent, names_under, entered, left, without_row}
+use Rattle.object_tables.proofs.OrderStays.{nothing_to_remove}
 use Rattle.object_tables.proofs.NamesUnder.{named_added, named_plain, named_less, named_relabelled, named_free, named_kept, entered_left}
 use Rattle.object_tables.proofs.RowsKept.{row_is}
 
@@ -36,10 +36,10 @@ module _ (rows : List SnapRow) (names : NamesByParent) (are : names ≡ names_un
     entry_undone free more less after is gone err = gone ∙ ap (left key parent) is ∙ entered_left key parent names (child_free free) ∙ are ∙ ap names_under (sym err)
 
   -- a row that goes
-  pub row_parted : (key : Key) (row : SnapRow) (less : NamesByParent) (after : List SnapRow) → row_at snap_key key rows ≡ Some row → less ≡ parted names row → after ≡ remove_row snap_key key rows → less ≡ names_under after
-  row_parted key row less after found is gone =
+  pub row_left : (key : Key) (row : SnapRow) (less : NamesByParent) (after : List SnapRow) → row_at snap_key key rows ≡ Some row → less ≡ without_row names row → after ≡ remove_row snap_key key rows → less ≡ names_under after
+  row_left key row less after found is gone =
       let own : key ≡ snap_key row = (row_is snap_key key rows row found).1 in
-      is ∙ ap (λ n. parted n row) are ∙ sym (named_less row rows (ap (λ k. row_at snap_key k rows) (sym own) ∙ found))
+      is ∙ ap (λ n. without_row n row) are ∙ sym (named_less row rows (ap (λ k. row_at snap_key k rows) (sym own) ∙ found))
       ∙ ap (λ k. names_under (remove_row snap_key k rows)) (sym own) ∙ ap names_under (sym gone)
 
   -- what isn't there doesn't go
@@ -53,5 +53,5 @@ module _ (rows : List SnapRow) (names : NamesByParent) (are : names ≡ names_un
   names_labelled key labels_in after (Err fault) ok err = are ∙ ap names_under (sym err)
 
   -- those that stay, once it was told of the others
-  pub names_kept : (marks : List Bool) → length marks ≡ length rows → are_in_order snap_key rows ≡ true → all_parted parted (gone marks rows) names ≡ names_under (kept marks rows)
-  names_kept marks len order = ap (all_parted parted (gone marks rows)) are ∙ named_kept marks rows len order
+  pub names_kept : (marks : List Bool) → length marks ≡ length rows → are_in_order snap_key rows ≡ true → all_visited without_row (gone marks rows) names ≡ names_under (kept marks rows)
+  names_kept marks len order = ap (all_visited without_row (gone marks rows)) are ∙ named_kept marks rows len order

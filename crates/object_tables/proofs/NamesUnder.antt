@@ -16,12 +16,12 @@ use Rattle.meta_types.specs.Rows.{snap_key}
 use Rattle.meta_types.specs.Ops.Snapshots.{is_child_of}
 use Rattle.meta_types.specs.declared.rows.SnapRow.{SnapRow}
 use Rattle.meta_types.specs.declared.rows.SnapKey.{SnapKey}
-use Rattle.meta_types.proofs.Apart.{before_all}
-use Rattle.meta_types.proofs.Found.{some_is, no_none}
+use Rattle.meta_types.proofs.OneRowPerKey.{before_all}
+use Rattle.meta_types.proofs.ListSearches.{some_is, no_none}
 use Rattle.meta_types.proofs.Searched.{not_key}
-use Rattle.arrival_table.specs.Arrived.{one_text, kept}
-use Rattle.arrival_table.specs.Telling.{gone, all_parted}
-use Rattle.object_tables.specs.Children.{NamesByParent, names_under, entered, left, left_by, parted, child_named}
+use Rattle.row_tables.specs.Arrived.{one_text, kept}
+use Rattle.row_tables.specs.Visiting.{gone, all_visited}
+use Rattle.object_tables.specs.Children.{NamesByParent, names_under, entered, left, left_by, without_row, child_named}
 use Rattle.object_tables.specs.Calls.{children_of}
 use Rattle.object_tables.proofs.Inserted.{filtered_in, filtered_out}
 use Rattle.object_tables.proofs.RowsKept.{key_itself, all_kept, taken_out}
@@ -173,10 +173,10 @@ named_past row rows e found = λ i a b c. ap (map name) (filtered_past (is_child
 
 -- by its parent, if it has one
 pub named_less : (row : SnapRow) (rows : List SnapRow) → row_at snap_key (snap_key row) rows ≡ Some row
-    → names_under (remove_row snap_key (snap_key row) rows) ≡ parted (names_under rows) row
+    → names_under (remove_row snap_key (snap_key row) rows) ≡ without_row (names_under rows) row
 named_less row rows found = go row.parent refl
   where
-    go : (o : Option Text) → row.parent ≡ o → names_under (remove_row snap_key (snap_key row) rows) ≡ parted (names_under rows) row
+    go : (o : Option Text) → row.parent ≡ o → names_under (remove_row snap_key (snap_key row) rows) ≡ without_row (names_under rows) row
     go None e = named_past row rows e found ∙ ap (λ o. left_by row.key o (names_under rows)) (sym e)
     go (Some p) e = named_removed row p rows e found ∙ ap (λ o. left_by row.key o (names_under rows)) (sym e)
 
@@ -284,16 +284,16 @@ left_behind row key p names apart = λ i a b c. at a b c i
       | inr f ↦ rw f refl
     ]
 
-parted_behind : (row other : SnapRow) (names : NamesByParent) → is_key (snap_key other) (snap_key row) ≡ false → parted (consed row names) other ≡ consed row (parted names other)
-parted_behind row other names apart = go other.parent
+without_row_behind : (row other : SnapRow) (names : NamesByParent) → is_key (snap_key other) (snap_key row) ≡ false → without_row (consed row names) other ≡ consed row (without_row names other)
+without_row_behind row other names apart = go other.parent
   where
     go : (o : Option Text) → left_by other.key o (consed row names) ≡ consed row (left_by other.key o names)
     go None = refl
     go (Some p) = left_behind row other.key p names apart
 
 -- the row itself goes
-parted_own : (row : SnapRow) (names : NamesByParent) → parted (consed row names) row ≡ names
-parted_own row names = go row.parent refl
+without_row_own : (row : SnapRow) (names : NamesByParent) → without_row (consed row names) row ≡ names
+without_row_own row names = go row.parent refl
   where
     go : (o : Option Text) → row.parent ≡ o → left_by row.key o (consed row names) ≡ names
     go None e = λ i a b c. ap (λ v. if v then name row ∷ names a b c else names a b c) (no_child row e a b c) i
@@ -306,28 +306,28 @@ parted_own row names = go row.parent refl
         ]
 
 all_behind : (row : SnapRow) (gone_rows : List SnapRow) (names : NamesByParent) → All (λ other. is_key (snap_key other) (snap_key row) ≡ false) gone_rows
-    → all_parted parted gone_rows (consed row names) ≡ consed row (all_parted parted gone_rows names)
+    → all_visited without_row gone_rows (consed row names) ≡ consed row (all_visited without_row gone_rows names)
 all_behind row [] names apart = refl
 all_behind row (other ∷ rest) names apart =
-    ap (all_parted parted rest) (parted_behind row other names (All-head (λ x. is_key (snap_key x) (snap_key row) ≡ false) other rest apart))
-    ∙ all_behind row rest (parted names other) (All-tail (λ x. is_key (snap_key x) (snap_key row) ≡ false) other rest apart)
+    ap (all_visited without_row rest) (without_row_behind row other names (All-head (λ x. is_key (snap_key x) (snap_key row) ≡ false) other rest apart))
+    ∙ all_behind row rest (without_row names other) (All-tail (λ x. is_key (snap_key x) (snap_key row) ≡ false) other rest apart)
 
 -- the names of those that stay are what is left once the others have gone
 pub named_kept : (marks : List Bool) (rows : List SnapRow) → length marks ≡ length rows → are_in_order snap_key rows ≡ true
-    → all_parted parted (gone marks rows) (names_under rows) ≡ names_under (kept marks rows)
+    → all_visited without_row (gone marks rows) (names_under rows) ≡ names_under (kept marks rows)
 named_kept [] [] len o = refl
 named_kept [] (row ∷ rows) len o = absurd (omega (arith, len))
 named_kept (mark ∷ marks) [] len o = absurd (omega (arith, len))
 named_kept (true ∷ marks) (row ∷ rows) len o =
     let parts = and_parts (is_first snap_key row rows) (are_in_order snap_key rows) o in
     let later = before_all snap_key row rows parts.0 parts.1 in
-    ap (all_parted parted (gone marks rows)) (named_cons row rows)
+    ap (all_visited without_row (gone marks rows)) (named_cons row rows)
     ∙ all_behind row (gone marks rows) (names_under rows)
     (all_kept (λ other. is_key (snap_key other) (snap_key row) ≡ false) (map not marks) rows (λ k d lt. not_key (snap_key row) (snap_key (get_or rows k d)) (later k d lt)))
     ∙ ap (consed row) (named_kept marks rows (omega (arith, len)) parts.1)
     ∙ sym (named_cons row (kept marks rows))
 named_kept (false ∷ marks) (row ∷ rows) len o =
     let parts = and_parts (is_first snap_key row rows) (are_in_order snap_key rows) o in
-    ap (λ names. all_parted parted (gone marks rows) (parted names row)) (named_cons row rows)
-    ∙ ap (all_parted parted (gone marks rows)) (parted_own row (names_under rows))
+    ap (λ names. all_visited without_row (gone marks rows) (without_row names row)) (named_cons row rows)
+    ∙ ap (all_visited without_row (gone marks rows)) (without_row_own row (names_under rows))
     ∙ named_kept marks rows (omega (arith, len)) parts.1

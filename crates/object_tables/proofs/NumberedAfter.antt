@@ -12,7 +12,7 @@ use Rattle.meta_types.specs.Sound.{AreNumbered}
 use Rattle.meta_types.specs.declared.fault.Fault.{Fault}
 use Rattle.meta_types.specs.declared.rows.IngestRow.{IngestRow}
 use Rattle.meta_types.specs.declared.rows.SnapRow.{SnapRow}
-use Rattle.arrival_table.proofs.Entries.{was_free}
+use Rattle.row_tables.proofs.Entries.{was_free}
 use Rattle.object_tables.specs.Calls.{kept}
 use Rattle.object_tables.proofs.ParentsKept.{relabel}
 use Rattle.object_tables.proofs.NumbersKept.{numbered_ingest_removed, numbered_snap_removed, numbered_snap_relabelled}

@@ -11,7 +11,7 @@ use Rattle.meta_types.specs.Rows.{snap_key}
 use Rattle.meta_types.specs.Ops.Snapshots.{is_committed, parent_row, is_child_of}
 use Rattle.meta_types.specs.Sound.{parent_of, HasParent}
 use Rattle.meta_types.specs.declared.rows.SnapRow.{SnapRow}
-use Rattle.meta_types.proofs.Found.{no_none}
+use Rattle.meta_types.proofs.ListSearches.{no_none}
 use Rattle.object_tables.proofs.RowsKept.{row_is, no_row_of, row_removed, row_added, row_changed}
 
 -- ---- parents

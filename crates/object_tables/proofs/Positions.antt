@@ -12,10 +12,10 @@ use Rattle.std.proofs.lemmas.Option.{slice_get_past, slice_get_cases, slice_get_
 use Rattle.std.proofs.lemmas.List.Quantifiers.{position-Some}
 use Rattle.std.proofs.lemmas.Bool.Decides.{nat_tests}
 use Rattle.meta_types.specs.Keys.{Key, is_key, row_at, has_row, remove_row, change_row, put_in_order}
-use Rattle.object_tables.proofs.Kept.{changed_there}
+use Rattle.object_tables.proofs.OrderStays.{changed_there}
 use Rattle.std.proofs.Common.{subst}
 use Rattle.std.specs.Prelude.{slice_set}
-use Rattle.meta_types.proofs.Places.{row_at_place, remove_at_place, put_at_place}
+use Rattle.meta_types.proofs.RowAtPlace.{row_at_place, remove_at_place, put_at_place}
 
 pub place_within : {X : Type 0} (p : X → Bool) (xs : List X) → position_or_len p xs ≤ length xs
 place_within p xs = prefix_len-le-length (λ x. not (p x)) xs

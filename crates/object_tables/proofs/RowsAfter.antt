@@ -8,7 +8,7 @@ use Rattle.meta_types.specs.Faults.{Refuses, least_of}
 use Rattle.meta_types.specs.Sound.{AreRows}
 use Rattle.meta_types.specs.declared.fault.Fault.{Fault}
 use Rattle.meta_types.proofs.KeepsSound.{rows_added, rows_removed, rows_changed}
-use Rattle.arrival_table.proofs.Entries.{was_free}
+use Rattle.row_tables.proofs.Entries.{was_free}
 use Rattle.object_tables.specs.Calls.{kept}
 use Rattle.object_tables.proofs.OtherTables.{rows_kept}
 

@@ -10,7 +10,7 @@ use Rattle.std.proofs.lemmas.List.Kept.{AllPairs-cons}
 use Rattle.meta_types.specs.Keys.{Key, is_key, is_before, row_at, has_row, add_row, remove_row, change_row}
 use Rattle.object_tables.specs.Calls.{kept}
 use Rattle.meta_types.proofs.Ordered.{keys_total, key_ties}
-use Rattle.meta_types.proofs.Found.{some_is, no_none, found_is, row_is_found}
+use Rattle.meta_types.proofs.ListSearches.{some_is, no_none, found_is, row_is_found}
 use Rattle.meta_types.proofs.KeepsSound.{all_removed, all_changed}
 use Rattle.object_tables.proofs.PairsKept.{pairs_head, pairs_tail}
 

@@ -8,7 +8,7 @@ use Rattle.meta_types.specs.Ops.Snapshots.{is_child_of}
 use Rattle.meta_types.specs.declared.fault.Fault.{Fault}
 use Rattle.meta_types.specs.declared.rows.SnapRow.{SnapRow}
 use Rattle.meta_types.specs.declared.rows.SnapKey.{SnapKey}
-use Rattle.arrival_table.specs.Arrived.{one_text}
+use Rattle.row_tables.specs.Arrived.{one_text}
 use Rattle.object_tables.specs.declared.families.Family.{Family}
 
 -- names by the namespace, the snapshotter and the name of a parent
@@ -38,8 +38,8 @@ left_by key None names = names
 left_by key (Some parent) names = left key parent names
 
 -- without a snapshot that goes
-abbrev pub parted : NamesByParent → SnapRow → NamesByParent
-parted names row = left_by row.key row.parent names
+abbrev pub without_row : NamesByParent → SnapRow → NamesByParent
+without_row names row = left_by row.key row.parent names
 
 -- the key of a child
 abbrev pub child_named : Text → Text → Text → SnapKey
@@ -102,5 +102,5 @@ families_left_by key None families = families
 families_left_by key (Some parent) families = families_left key parent families
 
 -- the families without a snapshot that goes
-abbrev pub families_parted : List Family → SnapRow → List Family
-families_parted families row = families_left_by row.key row.parent families
+abbrev pub families_visited : List Family → SnapRow → List Family
+families_visited families row = families_left_by row.key row.parent families

@@ -8,12 +8,12 @@ ghost use Rattle.meta_types.specs.Rows.{snap_key};
 ghost use Rattle.meta_types.specs.Faults.{Refuses};
 ghost use Rattle.meta_types.specs.Ops.Snapshots.{is_child_of};
 ghost use Rattle.object_tables.specs.Calls.{children_of, labelling_fault, kept};
-ghost use Rattle.object_tables.specs.Children.{child_named, families_parted};
+ghost use Rattle.object_tables.specs.Children.{child_named, families_visited};
 
 use crate::families::Families;
 use crate::stored::relabel_snap;
-use arrival_table::{BySnapshotter, Parting};
 use meta_types::{Fault, Name, SnapKey, SnapRow};
+use row_tables::{BySnapshotter, RemovedRows};
 use std::alloc::Global;
 use std::marker::Model;
 
@@ -126,7 +126,7 @@ impl Snapshots {
     {
         let _ = self.rows.len();
         let _ = self.families.len();
-        self.rows.tell(keep, &mut self.families);
+        self.rows.visit_removed(keep, &mut self.families);
         self.rows.retain(keep);
     }
 
@@ -148,10 +148,10 @@ impl Snapshots {
     }
 }
 
-impl Parting<SnapRow> for Families {
-    ghost parted = { families_parted };
+impl RemovedRows<SnapRow> for Families {
+    ghost after_visit = { families_visited };
 
-    fn part(&mut self, row: &SnapRow) {
+    fn visit(&mut self, row: &SnapRow) {
         if let Some(parent) = &row.parent {
             self.leave(&row.key, parent);
         }

@@ -3,12 +3,12 @@ ghost use Rattle.std.specs.Prelude.{◌≡◌, ◌∷◌, [], ◌==◌, map, not
 ghost use Rattle.std.proofs.Common.{ap};
 ghost use Rattle.meta_types.specs.Keys.{row_at, has_row, are_in_order};
 ghost use Rattle.meta_types.specs.Faults.{Refuses};
-ghost use Rattle.arrival_table.specs.Arrived.{one_text};
+ghost use Rattle.row_tables.specs.Arrived.{one_text};
 ghost use Rattle.object_tables.specs.Children.{Enters, enters_keep, Leaves, entered, left, family_key, family_names, families_left, first_family};
 
 use crate::names::Names;
-use arrival_table::{BySnapshotter, Change, GroupedRow, Row, SnapshotterRow};
 use meta_types::{Fault, Name, ShortName, SnapKey};
+use row_tables::{BySnapshotter, Change, GroupedRow, NamedRow, SnapshotterRow};
 use std::alloc::Global;
 use std::marker::Model;
 
@@ -21,7 +21,7 @@ pub(crate) struct Family {
     pub(crate) children: Names,
 }
 
-impl Row<Name> for Family {
+impl NamedRow<Name> for Family {
     ghost name_of = { λ family. family.parent };
 
     fn name(&self) -> &Name {

@@ -11,8 +11,8 @@ ghost use Rattle.object_tables.specs.Calls.{adding_fault, missing_fault, kept, l
 
 use crate::stored::relabel;
 use crate::tables::Tables;
-use arrival_table::{ByNamespace, Change};
 use meta_types::{Digest, Fault, ImageRow, Name, ShortName};
+use row_tables::{ByNamespace, Change};
 use std::alloc::Global;
 
 /// Other content for an image to run from.

@@ -7,8 +7,8 @@ ghost use Rattle.meta_types.specs.Sound.{AreNumbered};
 ghost use Rattle.object_tables.specs.Calls.{adding_fault, missing_fault, kept};
 
 use crate::tables::Tables;
-use arrival_table::Test;
 use meta_types::{Fault, IngestRow, Name, ShortName};
+use row_tables::Test;
 use std::alloc::Global;
 
 /// Whether a row's backend number is below this one.

@@ -8,10 +8,10 @@ mod families;
 mod images;
 mod ingests;
 mod keyed;
+mod keyed_table;
 mod names;
 mod snapshots;
 mod stored;
-mod table;
 mod tables;
 
 pub use tables::{Counts, Tables};

@@ -2,23 +2,23 @@
 ghost use Rattle.std.specs.Prelude.{◌≡◌, ◌∷◌, [], ◌==◌, map, false, None, IfOk, OnOk, OnErr, length};
 ghost use Rattle.meta_types.specs.Keys.{has_row, add_row, remove_row};
 ghost use Rattle.meta_types.specs.Faults.{Refuses, least_of};
-ghost use Rattle.arrival_table.specs.Arrived.{one_text};
+ghost use Rattle.row_tables.specs.Arrived.{one_text};
 
-use arrival_table::{Table, in_key_order};
 use meta_types::{Fault, Name};
+use row_tables::{RowTable, in_key_order};
 use std::alloc::Global;
 use std::marker::Model;
 
 /// Names in the order in which they came, each found by a hash, which contracts see by their bytes.
 #[derive(Drop)]
 pub(crate) struct Names {
-    rows: Table<Name, Name>,
+    rows: RowTable<Name, Name>,
 }
 
 impl Model for Names {
     ghost use Rattle.std.specs.Prelude.{List};
     ghost use Rattle.meta_types.specs.Text.{Text};
-    ghost use Rattle.arrival_table.specs.Arrived.{one_text, sorted};
+    ghost use Rattle.row_tables.specs.Arrived.{one_text, sorted};
 
     ghost Value = { List Text };
 
@@ -31,7 +31,7 @@ impl Names {
         ensures { result ≡ [] }
     {
         Names {
-            rows: Table::new(alloc),
+            rows: RowTable::new(alloc),
         }
     }
 

@@ -17,8 +17,8 @@ ghost use Rattle.object_tables.specs.Calls.{adding_snap_fault, removing_snap_fau
 use crate::ingests::Below;
 use crate::stored::names_of;
 use crate::tables::Tables;
-use arrival_table::Test;
 use meta_types::{Fault, Labels, Listing, Name, ShortName, SnapKey, SnapKind, SnapRow};
+use row_tables::Test;
 use std::alloc::Global;
 
 impl Test<SnapRow> for Below {

@@ -7,16 +7,16 @@ ghost use Rattle.meta_types.specs.Rows.{snap_key};
 ghost use Rattle.meta_types.specs.Faults.{Refuses, unless};
 ghost use Rattle.meta_types.specs.Ops.{names_in};
 ghost use Rattle.meta_types.specs.declared.fault.Fault.TheVariants.{InvalidArgument};
-ghost use Rattle.arrival_table.specs.Namespaces.{full_key};
+ghost use Rattle.row_tables.specs.Namespaces.{full_key};
 ghost use Rattle.object_tables.specs.Calls.{labelling_fault};
 ghost use Rattle.object_tables.specs.Edits.{Relabels, relabels_keep};
 
-use crate::table::is_label;
-use arrival_table::{ByNamespace, BySnapshotter, Change, GroupedRow, Named};
+use crate::keyed_table::is_label;
 use meta_types::{
     ContainerRow, ContentRow, Digest, Fault, ImageRow, IngestRow, Listing, Name, ShortName,
     SnapKey, SnapRow,
 };
+use row_tables::{ByNamespace, BySnapshotter, Change, GroupedRow, Named};
 use std::alloc::Global;
 
 /// A row that is listed by its name.

@@ -9,19 +9,19 @@ ghost use Rattle.meta_types.specs.Sound.{AreTables};
 
 use crate::children::Snapshots;
 use crate::ingests::Below;
+use crate::keyed_table::KeyedTable;
 use crate::stored::names_in;
-use crate::table::Table;
-use arrival_table::ByNamespace;
 use meta_types::{
     ContainerRow, ContentRow, Digest, Fault, ImageRow, IngestRow, Kind, Listing, Name, ShortName,
 };
+use row_tables::ByNamespace;
 use std::alloc::Global;
 use std::marker::Model;
 
 /// Rows of all kinds, by namespace.
 #[derive(Drop)]
 pub struct Tables {
-    pub(crate) namespaces: Table<ShortName>,
+    pub(crate) namespaces: KeyedTable<ShortName>,
     pub(crate) images: ByNamespace<Name, ImageRow>,
     pub(crate) containers: ByNamespace<Name, ContainerRow>,
     pub(crate) content: ByNamespace<Digest, ContentRow>,
@@ -78,7 +78,7 @@ impl Tables {
         } }
     {
         Tables {
-            namespaces: Table::new(alloc),
+            namespaces: KeyedTable::new(alloc),
             images: ByNamespace::new(alloc),
             containers: ByNamespace::new(alloc),
             content: ByNamespace::new(alloc),

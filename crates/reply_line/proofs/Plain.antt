@@ -9,8 +9,8 @@ use Rattle.meta_types.specs.Labels.{LabelList}
 use Rattle.meta_types.specs.Steps.{Answer, answered, reported, refused}
 use Rattle.meta_types.specs.declared.reply.Reply.{Reply}
 use Rattle.meta_types.specs.declared.reply.Reply.TheVariants as R
-use Rattle.meta_types.specs.declared.reply.Row.{Row}
-use Rattle.meta_types.specs.declared.reply.Row.TheVariants as W
+use Rattle.meta_types.specs.declared.reply.ReplyRow.{ReplyRow}
+use Rattle.meta_types.specs.declared.reply.ReplyRow.TheVariants as W
 use Rattle.gc_report.specs.Reports.{pair_data}
 use Rattle.gc_report.proofs.Plain.{list_plain, report_plain}
 use Rattle.reply_line.specs.Replies.{with_labels, if_any, resource_data, row_data, reply_data, answer_data, answer_text}
@@ -40,7 +40,7 @@ if_any_plain : {A : Type 0} (data_of : A → Data) → ((x : A) → has_float (d
 if_any_plain data_of plain None = refl
 if_any_plain data_of plain (Some x) = plain x
 
-row_plain : (row : Row) → has_float (row_data row) ≡ false
+row_plain : (row : ReplyRow) → has_float (row_data row) ≡ false
 row_plain (W.Image row) = rw (labels_plain no_members row.labels refl) refl
 row_plain (W.Container row) = rw (labels_plain no_members row.labels refl, if_any_plain pair_data (λ _. refl) row.snapshot) refl
 row_plain (W.Content row) = rw (labels_plain no_members row.labels refl) refl

@@ -10,8 +10,8 @@ use Rattle.meta_types.specs.Resources.{type_of, id_of}
 use Rattle.meta_types.specs.Steps.{Answer, answered, reported, refused}
 use Rattle.meta_types.specs.declared.reply.Reply.{Reply}
 use Rattle.meta_types.specs.declared.reply.Reply.TheVariants as R
-use Rattle.meta_types.specs.declared.reply.Row.{Row}
-use Rattle.meta_types.specs.declared.reply.Row.TheVariants as W
+use Rattle.meta_types.specs.declared.reply.ReplyRow.{ReplyRow}
+use Rattle.meta_types.specs.declared.reply.ReplyRow.TheVariants as W
 use Rattle.meta_types.specs.declared.resource.Resource.{Resource}
 use Rattle.meta_types.specs.declared.rows.SnapKind.{SnapKind}
 use Rattle.meta_types.specs.declared.rows.SnapKind.TheVariants.{Active, View, Committed}
@@ -44,7 +44,7 @@ resource_data resource = pair_data (type_of resource, id_of resource)
 -- ---- replies
 
 -- a row that was asked for; `own` says that an ingest has an end of its own
-abbrev pub row_data : Row → Data
+abbrev pub row_data : ReplyRow → Data
 row_data (W.Image row) = object
     (member (codes "labels") (labels_data row.labels)
     (member (codes "name") (string row.name)

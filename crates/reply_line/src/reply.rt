@@ -10,7 +10,7 @@ use crate::answer::Answer;
 use crate::parts::{name_values, resource_values};
 use crate::rows::row_value;
 use gc_report::Report;
-use meta_types::{Fault, Holdings, Listing, Reply, Row};
+use meta_types::{Fault, Holdings, Listing, Reply, ReplyRow};
 use serde_json::{Value, json};
 use std::alloc::{AllocError, Global};
 
@@ -27,7 +27,7 @@ fn listing_value(alloc: Global, listing: &Listing) -> Result<Value, AllocError>
     json!(in alloc; {"names": names, "ok": true})
 }
 
-fn row_reply(alloc: Global, row: &Row) -> Result<Value, AllocError>
+fn row_reply(alloc: Global, row: &ReplyRow) -> Result<Value, AllocError>
     ensures { IfOk result (λ v. view v ≡ reply_data (Reply.Row row.now)) }
 {
     let row = row_value(alloc, row)?;

@@ -4,19 +4,19 @@ ghost use Rattle.serde_json.specs.View.{view};
 ghost use Rattle.reply_line.specs.Replies.{row_data};
 
 use crate::parts::{digest_value, kind_text, labels_value, name_value, snapshot_value};
-use meta_types::{ContainerRow, ContentRow, ImageRow, IngestRow, Labels, Name, Row, SnapRow};
+use meta_types::{ContainerRow, ContentRow, ImageRow, IngestRow, Labels, Name, ReplyRow, SnapRow};
 use serde_json::{Value, json};
 use std::alloc::{AllocError, Global};
 
 fn image_value(alloc: Global, row: &ImageRow) -> Result<Value, AllocError>
-    ensures { IfOk result (λ v. view v ≡ row_data (Row.Image row.now)) }
+    ensures { IfOk result (λ v. view v ≡ row_data (ReplyRow.Image row.now)) }
 {
     let labels = labels_value(alloc, &row.labels)?;
     json!(in alloc; {"labels": labels, "name": row.name.text(), "target": row.target.text()})
 }
 
 fn container_value(alloc: Global, row: &ContainerRow) -> Result<Value, AllocError>
-    ensures { IfOk result (λ v. view v ≡ row_data (Row.Container row.now)) }
+    ensures { IfOk result (λ v. view v ≡ row_data (ReplyRow.Container row.now)) }
 {
     let labels = labels_value(alloc, &row.labels)?;
     let snapshot = snapshot_value(alloc, &row.snapshot)?;
@@ -24,14 +24,14 @@ fn container_value(alloc: Global, row: &ContainerRow) -> Result<Value, AllocErro
 }
 
 fn content_value(alloc: Global, row: &ContentRow) -> Result<Value, AllocError>
-    ensures { IfOk result (λ v. view v ≡ row_data (Row.Content row.now)) }
+    ensures { IfOk result (λ v. view v ≡ row_data (ReplyRow.Content row.now)) }
 {
     let labels = labels_value(alloc, &row.labels)?;
     json!(in alloc; {"digest": row.digest.text(), "labels": labels})
 }
 
 fn ingest_value(alloc: Global, row: &IngestRow) -> Result<Value, AllocError>
-    ensures { IfOk result (λ v. view v ≡ row_data (Row.Ingest row.now)) }
+    ensures { IfOk result (λ v. view v ≡ row_data (ReplyRow.Ingest row.now)) }
 {
     let expected = digest_value(alloc, &row.expected)?;
     json!(in alloc; {
@@ -43,7 +43,7 @@ fn ingest_value(alloc: Global, row: &IngestRow) -> Result<Value, AllocError>
 }
 
 fn snap_value(alloc: Global, row: &SnapRow) -> Result<Value, AllocError>
-    ensures { IfOk result (λ v. view v ≡ row_data (Row.Snap row.now)) }
+    ensures { IfOk result (λ v. view v ≡ row_data (ReplyRow.Snap row.now)) }
 {
     let labels = labels_value(alloc, &row.labels)?;
     let parent = name_value(alloc, &row.parent)?;
@@ -57,22 +57,22 @@ fn snap_value(alloc: Global, row: &SnapRow) -> Result<Value, AllocError>
 }
 
 fn lease_value(alloc: Global, id: &Name, labels: &Labels) -> Result<Value, AllocError>
-    ensures { IfOk result (λ v. view v ≡ row_data (Row.Lease id.now labels.now)) }
+    ensures { IfOk result (λ v. view v ≡ row_data (ReplyRow.Lease id.now labels.now)) }
 {
     let labels = labels_value(alloc, labels)?;
     json!(in alloc; {"id": id.text(), "labels": labels})
 }
 
 // A row that was asked for.
-pub(crate) fn row_value(alloc: Global, row: &Row) -> Result<Value, AllocError>
+pub(crate) fn row_value(alloc: Global, row: &ReplyRow) -> Result<Value, AllocError>
     ensures { IfOk result (λ v. view v ≡ row_data row.now) }
 {
     match row {
-        Row::Image(row) => image_value(alloc, row),
-        Row::Container(row) => container_value(alloc, row),
-        Row::Content(row) => content_value(alloc, row),
-        Row::Ingest(row) => ingest_value(alloc, row),
-        Row::Snap(row) => snap_value(alloc, row),
-        Row::Lease(id, labels) => lease_value(alloc, id, labels),
+        ReplyRow::Image(row) => image_value(alloc, row),
+        ReplyRow::Container(row) => container_value(alloc, row),
+        ReplyRow::Content(row) => content_value(alloc, row),
+        ReplyRow::Ingest(row) => ingest_value(alloc, row),
+        ReplyRow::Snap(row) => snap_value(alloc, row),
+        ReplyRow::Lease(id, labels) => lease_value(alloc, id, labels),
     }
 }

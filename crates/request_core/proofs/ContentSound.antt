@@ -9,7 +9,7 @@ use Rattle.meta_types.specs.Keys.{Key, add_row, remove_row, change_row}
 use Rattle.meta_types.specs.Labels.{labels_of, put_label}
 use Rattle.meta_types.specs.Resources.{resource_key, resource_of, held}
 use Rattle.meta_types.specs.Rows.{State, LeaseRow, content_key, lease_key}
-use Rattle.meta_types.specs.Changes.{with_content, with_blob, put_blob, hold_in, drop_in}
+use Rattle.meta_types.specs.Changes.{with_content, with_blob, put_blob, hold_in_lease, release_in_lease}
 use Rattle.meta_types.specs.Ops.{least_fault}
 use Rattle.meta_types.specs.Requests.{outcome}
 use Rattle.meta_types.specs.Sound.{AreRows, IsSound}
@@ -119,7 +119,7 @@ after_lease_hold state ns id kind text s =
     go : (resource : Option Resource) (leases : List LeaseRow)
         → AreLeases state.records.tables.namespaces leases
         → AreLeases state.records.tables.namespaces
-        (option_map_or (λ r. hold_in (ns ∷ id ∷ []) r leases) resource leases)
+        (option_map_or (λ r. hold_in_lease (ns ∷ id ∷ []) r leases) resource leases)
     go None leases s = s
     go (Some resource) leases s =
         lease_changed state.records.tables.namespaces (ns ∷ id ∷ [])
@@ -134,7 +134,7 @@ after_lease_drop state ns id kind text s =
     go : (resource : Option Resource) (leases : List LeaseRow)
         → AreLeases state.records.tables.namespaces leases
         → AreLeases state.records.tables.namespaces
-        (option_map_or (λ r. drop_in (ns ∷ id ∷ []) r leases) resource leases)
+        (option_map_or (λ r. release_in_lease (ns ∷ id ∷ []) r leases) resource leases)
     go None leases s = s
     go (Some resource) leases s =
         lease_changed state.records.tables.namespaces (ns ∷ id ∷ [])

@@ -8,7 +8,7 @@ use Rattle.meta_types.specs.Keys.{is_key, row_at}
 use Rattle.meta_types.specs.Labels.{LabelList}
 use Rattle.meta_types.specs.Rows.{LeaseRow, lease_key}
 use Rattle.meta_types.specs.Ops.{row_reply}
-use Rattle.meta_types.specs.declared.reply.Row.TheVariants as W
+use Rattle.meta_types.specs.declared.reply.ReplyRow.TheVariants as W
 use Rattle.meta_types.specs.declared.reply.Reply.TheVariants as R
 
 pub lease_shown : (ns id : Text) (rows : List LeaseRow) (labels : LabelList) → Some labels ≡ option_map (λ (row : LeaseRow). row.labels) (row_at lease_key (ns ∷ id ∷ []) rows)

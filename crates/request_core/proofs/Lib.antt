@@ -1,10 +1,10 @@
 pub mod PairLabels
 pub mod Refusals
 pub mod Undone
-pub mod Numbers
+pub mod FreeNumbers
 pub mod Quiet
 pub mod Following
-pub mod Ends
+pub mod IngestEnds
 pub mod LeaseRows
 pub mod ObjectOrder
 pub mod ObjectsKept

@@ -8,7 +8,7 @@ use Rattle.meta_types.specs.Text.{Text}
 use Rattle.meta_types.specs.Keys.{add_row, is_before}
 use Rattle.meta_types.specs.Resources.{held}
 use Rattle.meta_types.specs.Rows.{State, LeaseRow, BackSnap, namespace_key, content_key, lease_key}
-use Rattle.meta_types.specs.Changes.{with_images, with_containers, with_leases, put_blob, held_by}
+use Rattle.meta_types.specs.Changes.{with_images, with_containers, with_leases, put_blob, hold_under}
 use Rattle.meta_types.specs.Faults.{least_of}
 use Rattle.meta_types.specs.Ops.{Outcome, least_fault}
 use Rattle.meta_types.specs.Sound.{AreRows, AreTables, HaveBlobs, HaveObjects, IsSound}
@@ -130,7 +130,7 @@ still_stored rows row blobs s = elim (cases_Bool (list_any (bytes_eq row.digest)
 -- what a lease holds is no part of it
 pub leases_held : (namespaces : List Text) (ns : Text) (lease : Option Text) (resource : Resource)
     (leases : List LeaseRow) → AreRows lease_key (λ (row : LeaseRow). row.ns) namespaces leases
-    → AreRows lease_key (λ (row : LeaseRow). row.ns) namespaces (held_by ns lease resource leases)
+    → AreRows lease_key (λ (row : LeaseRow). row.ns) namespaces (hold_under ns lease resource leases)
 leases_held namespaces ns None resource leases s = s
 leases_held namespaces ns (Some id) resource leases s =
     rows_changed lease_key (λ (row : LeaseRow). row.ns) namespaces (ns ∷ id ∷ [])

@@ -15,7 +15,7 @@ use Rattle.meta_types.specs.declared.rows.IngestRow.{IngestRow}
 use Rattle.meta_types.specs.declared.rows.SnapRow.{SnapRow}
 use Rattle.meta_types.proofs.KeepsSound.{all_added}
 use Rattle.meta_types.proofs.TablesAfter.{above_is}
-use Rattle.meta_types.proofs.Found.{no_none}
+use Rattle.meta_types.proofs.ListSearches.{no_none}
 use Rattle.request_core.proofs.ListsSound.{sound_snapshots}
 use Rattle.object_tables.proofs.PairsKept.{all_put}
 use Rattle.object_tables.proofs.ParentsKept.{key_above, number_above, parent_kept, stays_added}

@@ -14,7 +14,7 @@ use Rattle.meta_types.specs.Sound.{object_of}
 use Rattle.meta_types.specs.declared.rows.SnapRow.{SnapRow}
 use Rattle.meta_types.proofs.KeepsSound.{any_added}
 use Rattle.meta_types.proofs.Members.{any_from}
-use Rattle.meta_types.proofs.Found.{found_is}
+use Rattle.meta_types.proofs.ListSearches.{found_is}
 use Rattle.object_tables.proofs.PairsKept.{all_put, finds_other, finds_new, all_both}
 use Rattle.object_tables.proofs.ParentsKept.{number_above}
 

@@ -15,7 +15,7 @@ use Rattle.meta_types.specs.Backends.{is_named}
 use Rattle.meta_types.specs.Ops.Snapshots.{parent_row}
 use Rattle.meta_types.specs.declared.rows.SnapRow.{SnapRow}
 use Rattle.object_tables.specs.Calls.{adding_snap_fault}
-use Rattle.request_core.proofs.Numbers.{apart}
+use Rattle.request_core.proofs.FreeNumbers.{apart}
 use Rattle.request_core.proofs.ObjectsKept.{HasObject, object_there}
 
 -- ---- the number is free

@@ -8,7 +8,7 @@ use Rattle.meta_types.proofs.Ordered.{keys_total, key_ties}
 use Rattle.meta_types.specs.Text.{Text}
 use Rattle.meta_types.specs.Keys.{Key, is_key, is_before, has_row, add_row, remove_row}
 use Rattle.meta_types.specs.Resources.{resource_key}
-use Rattle.meta_types.specs.Changes.{hold_in, drop_in, holds_in, held_by, dropped_by, is_new_to}
+use Rattle.meta_types.specs.Changes.{hold_in_lease, release_in_lease, lease_holds, hold_under, release_under, is_new_to}
 use Rattle.meta_types.specs.Rows.{LeaseRow, Tables, content_key, ingest_key, lease_key}
 use Rattle.meta_types.specs.declared.rows.ContentRow.{ContentRow}
 use Rattle.meta_types.specs.declared.rows.IngestRow.{IngestRow}
@@ -35,34 +35,34 @@ module _ {Row : Type 0} (key_of : Row → Key) where
   ]
 
 -- a resource that a lease came to hold is dropped again
-dropped_held : (key : Key) (resource : Resource) (rows : List LeaseRow) → holds_in key resource rows ≡ false → drop_in key resource (hold_in key resource rows) ≡ rows
+dropped_held : (key : Key) (resource : Resource) (rows : List LeaseRow) → lease_holds key resource rows ≡ false → release_in_lease key resource (hold_in_lease key resource rows) ≡ rows
 dropped_held key resource [] free = refl
 dropped_held key resource (row ∷ rows) free = elim (cases_Bool (is_key key (lease_key row))) [
   | inl t ↦ (
       let absent : has_row resource_key (resource_key resource) row.resources ≡ false = rw t at free in
       rw (t, t, absent, removed_added resource_key resource row.resources absent) refl)
   | inr f ↦ (
-      let later : holds_in key resource rows ≡ false = rw f at free in
+      let later : lease_holds key resource rows ≡ false = rw f at free in
       rw (f, f) (ap (λ (rs : List LeaseRow). row ∷ rs) (dropped_held key resource rows later)))
 ]
 
 -- a lease that held it already is as it was
-held_again : (key : Key) (resource : Resource) (rows : List LeaseRow) → holds_in key resource rows ≡ true → hold_in key resource rows ≡ rows
+held_again : (key : Key) (resource : Resource) (rows : List LeaseRow) → lease_holds key resource rows ≡ true → hold_in_lease key resource rows ≡ rows
 held_again key resource [] there = refl
 held_again key resource (row ∷ rows) there = elim (cases_Bool (is_key key (lease_key row))) [
   | inl t ↦ (
       let present : has_row resource_key (resource_key resource) row.resources ≡ true = rw t at there in
       rw (t, present) refl)
   | inr f ↦ (
-      let later : holds_in key resource rows ≡ true = rw f at there in
+      let later : lease_holds key resource rows ≡ true = rw f at there in
       rw f (ap (λ (rs : List LeaseRow). row ∷ rs) (held_again key resource rows later)))
 ]
 
 -- what is done to let a resource go where it was new, and nothing where it wasn't
-pub let_go : (ns : Text) (lease : Option Text) (resource : Resource) (rows : List LeaseRow)
-    → (if is_new_to ns lease resource rows then dropped_by ns lease resource (held_by ns lease resource rows) else held_by ns lease resource rows) ≡ rows
-let_go ns None resource rows = refl
-let_go ns (Some id) resource rows = elim (cases_Bool (holds_in (ns ∷ id ∷ []) resource rows)) [
+pub release : (ns : Text) (lease : Option Text) (resource : Resource) (rows : List LeaseRow)
+    → (if is_new_to ns lease resource rows then release_under ns lease resource (hold_under ns lease resource rows) else hold_under ns lease resource rows) ≡ rows
+release ns None resource rows = refl
+release ns (Some id) resource rows = elim (cases_Bool (lease_holds (ns ∷ id ∷ []) resource rows)) [
   | inl t ↦ rw t (held_again (ns ∷ id ∷ []) resource rows t)
   | inr f ↦ rw f (dropped_held (ns ∷ id ∷ []) resource rows f)
 ]

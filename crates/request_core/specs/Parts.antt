@@ -4,7 +4,7 @@ use Rattle.std.specs.Option.{option_map_or}
 use Rattle.meta_types.specs.Text.{Text}
 use Rattle.meta_types.specs.Keys.{has_row}
 use Rattle.meta_types.specs.Rows.{LeaseRow, Records, State, lease_key}
-use Rattle.meta_types.specs.Changes.{dropped_by}
+use Rattle.meta_types.specs.Changes.{release_under}
 use Rattle.meta_types.specs.Ops.{found_fault, in_store}
 use Rattle.meta_types.specs.Ops.Snapshots.{commit_findings, prepare_findings}
 use Rattle.meta_types.specs.Ops.Ingests.{ingest_commit_findings}
@@ -19,8 +19,8 @@ abbrev pub is_lease_there : Text → Option Text → List LeaseRow → Bool
 is_lease_there ns lease leases = option_map_or (λ id. has_row lease_key (ns ∷ id ∷ []) leases) lease true
 
 -- a resource is let go where it was new
-abbrev pub let_go_if : Bool → Text → Option Text → Resource → List LeaseRow → List LeaseRow
-let_go_if new ns lease resource leases = if new then dropped_by ns lease resource leases else leases
+abbrev pub release_if : Bool → Text → Option Text → Resource → List LeaseRow → List LeaseRow
+release_if new ns lease resource leases = if new then release_under ns lease resource leases else leases
 
 -- an object is made, or memory was wanting, or the device failed once
 abbrev pub MakesOrFails : Result (Unit {0}) Fault → ℕ → ℕ → Type 0

@@ -19,17 +19,17 @@ impl<S: SnapBackend, B: BlobBackend, I: IngestBackend> State<S, B, I> {
         ensures quiet { (result ≡ Ok P.Done) ⊎ (self.new.state ≡ self.old.state) }
         ensures sound { IsSound self.new.state }
     {
-        self.answer_plainly(alloc, request)
+        self.apply_exactly(alloc, request)
     }
 
-    fn answer_plainly(&mut self, alloc: Global, request: &Request) -> Result<Reply, Fault>
+    fn apply_exactly(&mut self, alloc: Global, request: &Request) -> Result<Reply, Fault>
         requires { IsSound self.old.state }
         ensures { Answers self.old request.now result self.new }
     {
-        plain(self.answer(alloc, request))
+        plain(self.dispatch(alloc, request))
     }
 
-    fn answer(&mut self, alloc: Global, request: &Request) -> Result<Reply, Refusal>
+    fn dispatch(&mut self, alloc: Global, request: &Request) -> Result<Reply, Refusal>
         requires { IsSound self.old.state }
         ensures { AnswersExactly self.old request.now result self.new }
     {

@@ -1,24 +1,13 @@
 //! Requests, and what they do to a store.
 #![tactic(auto)]
 
-mod commit_growth;
-mod containers;
-mod content;
+mod add;
 mod dispatch;
-mod growth;
-mod images;
-mod ingest_growth;
-mod ingests;
-mod labels;
 pub mod laws;
-mod leases;
-mod lists;
-mod namespaces;
+mod ops;
+mod read;
 mod refusal;
-mod snap_growth;
-mod snapshots;
 mod state;
-mod texts;
 mod unfailing;
 
 pub use back_model::{Backends, BlobBackend, IngestBackend, SnapBackend};

@@ -7,7 +7,7 @@ use Rattle.serde_json.specs.Find.{get_member}
 use Rattle.serde_json.specs.View.{view, members_view}
 use Rattle.serde_json.proofs.Views.{Entry}
 use Rattle.meta_types.specs.Text.{Text}
-use Rattle.request_line.specs.Table.{Members as Row}
+use Rattle.request_line.specs.Table.{Members as OpForm}
 use Rattle.request_line.specs.Lines.{is_text, are_texts, is_among, is_listed, has_kind, are_listed}
 
 pub is_among-borrowed : (key : Text) (ks : List (Bor Text)) → list_any (λ k. bytes_eq k.now key) ks ≡ is_among key (map (λ k. k.now) ks)
@@ -18,7 +18,7 @@ pub are_texts_entries : (es : List Entry) → list_all (λ e. is_text (view e.1)
 are_texts_entries [] = refl
 are_texts_entries (e ∷ es) = rw (are_texts_entries es) refl
 
-pub are_listed-entries : (row : Row) (es : List Entry)
+pub are_listed-entries : (row : OpForm) (es : List Entry)
     → list_all (λ e. is_listed row (string_bytes e.0) && has_kind (string_bytes e.0) (view e.1)) es ≡ are_listed row (members_view es)
 are_listed-entries row [] = refl
 are_listed-entries row (e ∷ es) = rw (are_listed-entries row es) refl

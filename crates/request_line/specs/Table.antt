@@ -5,7 +5,7 @@ use Rattle.std.specs.Str.{bytes_eq}
 use Rattle.meta_types.specs.Text.{Text}
 use Rattle.request_line.specs.declared.op.Op.{Op}
 use Rattle.request_line.specs.declared.op.Op.TheVariants.{NsAdd, NsRemove, NsList, ImageAdd, ImageTarget, ImageRemove, ImageGet, ImageList, ImageLabel, ContainerAdd, ContainerRemove, ContainerGet, ContainerList, ContainerLabel, ContentAdd, ContentRemove, ContentGet, ContentLabel, ContentList, IngestBegin, IngestCommit, IngestAbort, IngestGet, IngestList, SnapPrepare, SnapView, SnapCommit, SnapRemove, SnapGet, SnapLabel, SnapList, LeaseAdd, LeaseRemove, LeaseGet, LeaseLabel, LeaseList, LeaseHold, LeaseDrop, LeaseResources, Profile, GcRun, GcPlan}
-use Rattle.request_line.specs.declared.op.Row.{Row}
+use Rattle.request_line.specs.declared.op.OpForm.{OpForm}
 
 -- a row: the name of an op, the members that stand beside it, and those that may
 pub record Members : Type 0 where
@@ -68,5 +68,5 @@ abbrev pub op_named : Text → Option Op
 op_named name = find (λ op. bytes_eq (members_of op).op name) ops
 
 -- a row of the program's table, as texts
-abbrev pub row_view : Row → Members
+abbrev pub row_view : OpForm → Members
 row_view row = members row.op.now (map (λ t. t.now) row.required.now) (map (λ t. t.now) row.optional.now)

@@ -1,12 +1,12 @@
 //! What a line asks for.
-use meta_types::{Removal, Request, Words};
+use meta_types::{RawText, Removal, Request};
 
 /// What a line asks for, in texts that are not yet read.
 #[derive(Drop)]
 pub enum Asked {
     Request(Request),
     /// A collection at a moment, or a dry run of one.
-    Collect { at: Words, dry: bool },
+    Collect { at: RawText, dry: bool },
     /// A removal with a collection at a moment, as one event.
-    Remove { removal: Removal, at: Words },
+    Remove { removal: Removal, at: RawText },
 }

@@ -8,7 +8,7 @@ ghost use Rattle.request_line.specs.Table.{members_of, row_view};
 ghost use Rattle.request_line.specs.Lines.{is_text, are_texts, has_kind, is_among, is_listed, are_listed, has_required, are_of, op_in};
 
 use crate::members::member;
-use crate::op::{Op, Row};
+use crate::op::{Op, OpForm};
 use serde_json::{Map, Value};
 
 // Whether all values are texts.
@@ -52,7 +52,7 @@ fn is_any(key: &str, keys: &[&str]) -> bool
 }
 
 // Whether a member is one of the op's.
-fn is_for(row: &Row, key: &str) -> bool
+fn is_for(row: &OpForm, key: &str) -> bool
     ensures { result ≡ (is_among key.now (row_view row.now).required || is_among key.now
         (row_view row.now).optional) }
 {
@@ -60,27 +60,27 @@ fn is_for(row: &Row, key: &str) -> bool
 }
 
 // Whether a member may stand in the line.
-fn is_listed(row: &Row, key: &str) -> bool
+fn is_listed(row: &OpForm, key: &str) -> bool
     ensures { result ≡ is_listed (row_view row.now) key.now }
 {
     key == "op" || is_for(row, key)
 }
 
 // Whether a member may stand in the line, and is of its kind.
-fn fits(row: &Row, key: &str, value: &Value) -> bool
+fn fits(row: &OpForm, key: &str, value: &Value) -> bool
     ensures { result ≡ (is_listed (row_view row.now) key.now && has_kind key.now (view value.now)) }
 {
     is_listed(row, key) && has_kind(key, value)
 }
 
 // Whether each member may stand in the line, and is of its kind.
-fn are_listed(row: &Row, members: &Map<String, Value>) -> bool
+fn are_listed(row: &OpForm, members: &Map<String, Value>) -> bool
     ensures { result ≡ are_listed (row_view row.now) (members_view members.now.entries) }
 {
     all_fit(row, members)
 }
 
-fn all_fit(row: &Row, members: &Map<String, Value>) -> bool
+fn all_fit(row: &OpForm, members: &Map<String, Value>) -> bool
     ensures { result ≡ list_all (λ e. is_listed (row_view row.now) (string_bytes e.0)
         && has_kind (string_bytes e.0) (view e.1)) members.now.entries }
 {
@@ -88,7 +88,7 @@ fn all_fit(row: &Row, members: &Map<String, Value>) -> bool
 }
 
 // Whether each member that must stand in the line is there.
-fn has_required(row: &Row, members: &Map<String, Value>) -> bool
+fn has_required(row: &OpForm, members: &Map<String, Value>) -> bool
     ensures { result ≡ has_required (row_view row.now) (members_view members.now.entries) }
 {
     has_all(row.required, members)

@@ -17,4 +17,4 @@ mod snapshot_ops;
 
 pub use asked::Asked;
 pub use line::read_line;
-pub use op::{Op, Row};
+pub use op::{Op, OpForm};

@@ -7,7 +7,7 @@ ghost use Rattle.meta_types.specs.Faults.{Refuses};
 ghost use Rattle.request_line.specs.Members.{text_at, text_if_any, whole_at, labels_at, pairs_from};
 ghost use Rattle.request_line.specs.Taking.{without};
 
-use meta_types::{Fault, Pairs, Words};
+use meta_types::{Fault, RawLabels, RawText};
 use serde_json::{Map, Value};
 use std::alloc::Global;
 
@@ -42,29 +42,29 @@ fn text_of(alloc: Global, value: Value) -> String
 }
 
 // Takes out a member's text.
-pub(crate) fn text(alloc: Global, members: &mut Map<String, Value>, name: &str) -> Words
+pub(crate) fn text(alloc: Global, members: &mut Map<String, Value>, name: &str) -> RawText
     ensures text { result ≡ text_at name.now (members_view members.old.entries) }
     ensures left { members_view members.new.entries ≡ without name.now
         (members_view members.old.entries) }
 {
     match members.remove(name) {
-        Some(value) => Words::new(text_of(alloc, value)),
-        None => Words::new(String::new(alloc)),
+        Some(value) => RawText::new(text_of(alloc, value)),
+        None => RawText::new(String::new(alloc)),
     }
 }
 
 // A value's text, where it is one.
-fn text_in(value: Value) -> Option<Words>
+fn text_in(value: Value) -> Option<RawText>
     ensures { result ≡ as_str (view value) }
 {
     match value {
-        Value::String(text) => Some(Words::new(text)),
+        Value::String(text) => Some(RawText::new(text)),
         _ => None,
     }
 }
 
 // Takes out the text of a member that may be left out.
-pub(crate) fn text_if_any(members: &mut Members, name: &str) -> Option<Words>
+pub(crate) fn text_if_any(members: &mut Members, name: &str) -> Option<RawText>
     ensures text { result ≡ text_if_any name.now (members_view members.old.entries) }
     ensures left { members_view members.new.entries ≡ without name.now
         (members_view members.old.entries) }
@@ -86,7 +86,7 @@ pub(crate) fn whole(members: &Members, name: &str) -> u64
 }
 
 // An object's keys and texts, in the order of the keys.
-fn pairs_of(alloc: Global, members: Map<String, Value>) -> Result<Pairs, Fault>
+fn pairs_of(alloc: Global, members: Map<String, Value>) -> Result<RawLabels, Fault>
     ensures fault { Refuses result None }
     ensures ok { IfOk result (λ pairs. pairs ≡ pairs_from (members_view members.entries)) }
 {
@@ -94,28 +94,28 @@ fn pairs_of(alloc: Global, members: Map<String, Value>) -> Result<Pairs, Fault>
     for (key, value) in members {
         entries.push((key, text_of(alloc, value)))?;
     }
-    Ok(Pairs::new(entries))
+    Ok(RawLabels::new(entries))
 }
 
 // The keys and texts of a value: none, where it is no object.
-fn pairs_in(alloc: Global, value: Value) -> Result<Pairs, Fault>
+fn pairs_in(alloc: Global, value: Value) -> Result<RawLabels, Fault>
     ensures fault { Refuses result None }
     ensures ok { IfOk result (λ pairs. pairs ≡ option_map_or pairs_from (as_object
         (view value)) []) }
 {
     match members_in(value) {
         Some(members) => pairs_of(alloc, members),
-        None => Ok(Pairs::new(Vec::new(alloc))),
+        None => Ok(RawLabels::new(Vec::new(alloc))),
     }
 }
 
 // Takes out the labels, which may be left out.
-pub(crate) fn labels(alloc: Global, members: &mut Map<String, Value>) -> Result<Pairs, Fault>
+pub(crate) fn labels(alloc: Global, members: &mut Map<String, Value>) -> Result<RawLabels, Fault>
     ensures fault { Refuses result None }
     ensures ok { IfOk result (λ pairs. pairs ≡ labels_at (members_view members.old.entries)) }
 {
     match members.remove("labels") {
         Some(labels) => pairs_in(alloc, labels),
-        None => Ok(Pairs::new(Vec::new(alloc))),
+        None => Ok(RawLabels::new(Vec::new(alloc))),
     }
 }

@@ -50,7 +50,7 @@ pub enum Op {
 
 /// A row of the table: the name of an op, the members that stand beside it, and those that may.
 #[derive(Clone, Copy)]
-pub struct Row {
+pub struct OpForm {
     pub op: &'static str,
     pub required: &'static [&'static str],
     pub optional: &'static [&'static str],
@@ -60,11 +60,11 @@ fn make_row(
     op: &'static str,
     required: &'static [&'static str],
     optional: &'static [&'static str],
-) -> Row
+) -> OpForm
     ensures { (result.op ≡ op.entry) × (result.required ≡ required.entry) × (result.optional
         ≡ optional.entry) }
 {
-    Row {
+    OpForm {
         op,
         required,
         optional,
@@ -123,7 +123,7 @@ impl Op {
     ];
 
     /// The op's row.
-    pub fn row(self) -> Row
+    pub fn row(self) -> OpForm
         ensures { row_view result ≡ members_of self }
     {
         match self {

@@ -17,8 +17,8 @@ use Rattle.request_line.specs.declared.asked.Asked.{Asked}
 use Rattle.request_line.specs.declared.asked.Asked.TheVariants as A
 use Rattle.request_core.specs.Follows.{Fails}
 use Rattle.backend_sweep.specs.Swept.{count_names}
-use Rattle.collecting.specs.Refused.{CollectFails}
-use Rattle.store_front.specs.Kept.{kept_reply, kept_report, kept_fault, Takes, reply_failures, report_failures}
+use Rattle.collection.specs.Refused.{CollectFails}
+use Rattle.store_front.specs.KeptAnswers.{kept_reply, kept_report, kept_fault, Takes, reply_failures, report_failures}
 use Rattle.scripts.specs.EventSteps.{event_step}
 use Rattle.scripts.specs.LineSteps.{asked_step, asks_collection}
 use Rattle.scripts.specs.Served.{IsServed, IsRefused}

@@ -8,7 +8,7 @@ ghost use Rattle.reply_line.specs.Answers.{answer_of};
 ghost use Rattle.reply_line.specs.Replies.{answer_text};
 ghost use Rattle.scripts.specs.LineSteps.{Refusal, answer_step, line_step, reply_bytes};
 
-use crate::serving::serve_asked;
+use crate::serving::do_asked;
 use meta_types::Fault;
 use reply_line::{Answer, reply_text};
 use request_line::read_line;
@@ -20,7 +20,7 @@ use std::thread::Threads;
 use store_front::{Keeps, MemLocked, Session};
 
 // What a line asks for, done.
-fn serve_line<L: Ledger, K: Keeps, R: Threads + Wait + Sync>(
+fn do_line<L: Ledger, K: Keeps, R: Threads + Wait + Sync>(
     locked: &mut MemLocked<L, K>,
     rt: &R,
     alloc: Global,
@@ -40,13 +40,13 @@ fn serve_line<L: Ledger, K: Keeps, R: Threads + Wait + Sync>(
     ensures opened { session.new.number < locked.new.opened }
 {
     let asked = read_line(alloc, line)?;
-    let answer = serve_asked(locked, rt, alloc, session, &asked, workers);
+    let answer = do_asked(locked, rt, alloc, session, &asked, workers);
     drop(asked);
     answer
 }
 
 // The answer to a line that isn't empty.
-fn answer_to<L: Ledger, K: Keeps, R: Threads + Wait + Sync>(
+fn line_outcome<L: Ledger, K: Keeps, R: Threads + Wait + Sync>(
     locked: &mut MemLocked<L, K>,
     rt: &R,
     alloc: Global,
@@ -62,7 +62,7 @@ fn answer_to<L: Ledger, K: Keeps, R: Threads + Wait + Sync>(
         ≡ (answer_of result, locked.new.store.state)) }
     ensures opened { session.new.number < locked.new.opened }
 {
-    match serve_line(locked, rt, alloc, session, line, workers) {
+    match do_line(locked, rt, alloc, session, line, workers) {
         Ok(answer) => answer,
         Err(fault) => Answer::Refused(fault),
     }
@@ -92,7 +92,7 @@ pub fn answer_line<L: Ledger, K: Keeps, R: Threads + Wait + Sync>(
     if line.is_empty() {
         return Ok(None);
     }
-    let answer = answer_to(locked, rt, alloc, session, line, workers);
+    let answer = line_outcome(locked, rt, alloc, session, line, workers);
     let text = reply_text(alloc, &answer);
     drop(answer);
     Ok(Some(text?))

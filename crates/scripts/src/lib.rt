@@ -2,11 +2,11 @@
 #![tactic(auto)]
 
 mod answering;
-mod desk;
 pub mod laws;
 mod line_buffer;
 mod lines;
 mod script;
+mod script_store;
 mod serving;
 mod writing;
 

@@ -11,9 +11,9 @@ ghost use Rattle.scripts.specs.Output.{IsOutput, IsWholeOutput, IsBeginning, IsL
 ghost use Rattle.scripts.specs.Progress.{IsLine, Answers, Advances, Breaks, Replies, BeginsReply, EndsWith, FollowsBlock, RunEnds};
 
 use crate::answering::too_long;
-use crate::desk::Desk;
 use crate::line_buffer::LineBuffer;
 use crate::lines::cut_line;
+use crate::script_store::ScriptStore;
 use crate::writing::{flush, write_line};
 use meta_types::{Fault, is_worker_count};
 use std::alloc::Global;
@@ -27,37 +27,37 @@ use std::thread::Threads;
 const READ_LIMIT: u64 = 1 << 62;
 
 // The reply to a line, also to one that is too long.
-fn reply_to<T: Threads + Wait + Sync, L: Ledger>(
+fn buffered_reply<T: Threads + Wait + Sync, L: Ledger>(
     rt: &T,
     alloc: Global,
-    desk: &mut Desk<L>,
+    store: &mut ScriptStore<L>,
     buffer: &LineBuffer,
 ) -> Result<Option<String>, Fault>
     ensures ok { IfOk result (λ reply. (line : List ℕ) →
-        IsLine buffer.now line → Answers desk.old line (reply_bytes reply) desk.new) }
+        IsLine buffer.now line → Answers store.old line (reply_bytes reply) store.new) }
     ensures fault { Refuses result None }
 {
     if buffer.is_too_long {
         return Ok(Some(too_long(alloc)?));
     }
-    desk.answer(rt, alloc, &buffer.bytes)
+    store.reply(rt, alloc, &buffer.bytes)
 }
 
 // Writes the reply to a line.
-fn answer<T: Threads + Wait + Sync, L: Ledger, W: Write>(
+fn write_reply<T: Threads + Wait + Sync, L: Ledger, W: Write>(
     rt: &T,
     alloc: Global,
-    desk: &mut Desk<L>,
+    store: &mut ScriptStore<L>,
     buffer: &LineBuffer,
     writer: &mut W,
 ) -> Result<(), Fault>
     ensures ok { OnOk result ((line : List ℕ) → IsLine buffer.now line →
-        Replies desk.old line desk.new (W.contents writer.old) (W.contents writer.new)) }
+        Replies store.old line store.new (W.contents writer.old) (W.contents writer.new)) }
     ensures err { OnErr result ((line : List ℕ) → IsLine buffer.now line →
-        BeginsReply desk.old line (W.contents writer.old) (W.contents writer.new)) }
+        BeginsReply store.old line (W.contents writer.old) (W.contents writer.new)) }
     ensures fault { IfErr result IsLateFault }
 {
-    match reply_to(rt, alloc, desk, buffer)? {
+    match buffered_reply(rt, alloc, store, buffer)? {
         None => Ok(()),
         Some(text) => write_line(writer, &text),
     }
@@ -67,20 +67,20 @@ fn answer<T: Threads + Wait + Sync, L: Ledger, W: Write>(
 fn end_line<T: Threads + Wait + Sync, L: Ledger, W: Write>(
     rt: &T,
     alloc: Global,
-    desk: &mut Desk<L>,
+    store: &mut ScriptStore<L>,
     buffer: &mut LineBuffer,
     writer: &mut W,
     piece: &[u8],
 ) -> Result<(), Fault>
     requires { list_any is_line_feed piece.now ≡ false }
-    ensures ok { OnOk result (Advances buffer.old desk.old buffer.new desk.new
+    ensures ok { OnOk result (Advances buffer.old store.old buffer.new store.new
         (piece.now ++ 10 ∷ []) (W.contents writer.old) (W.contents writer.new)) }
-    ensures err { OnErr result (Breaks buffer.old desk.old (piece.now ++ 10 ∷ [])
+    ensures err { OnErr result (Breaks buffer.old store.old (piece.now ++ 10 ∷ [])
         (W.contents writer.old) (W.contents writer.new)) }
     ensures fault { IfErr result IsLateFault }
 {
     buffer.add(piece)?;
-    answer(rt, alloc, desk, buffer, writer)?;
+    write_reply(rt, alloc, store, buffer, writer)?;
     buffer.clear();
     Ok(())
 }
@@ -89,20 +89,20 @@ fn end_line<T: Threads + Wait + Sync, L: Ledger, W: Write>(
 fn answer_lines<T: Threads + Wait + Sync, L: Ledger, W: Write>(
     rt: &T,
     alloc: Global,
-    desk: &mut Desk<L>,
+    store: &mut ScriptStore<L>,
     buffer: &mut LineBuffer,
     writer: &mut W,
     bytes: &[u8],
 ) -> Result<(), Fault>
-    ensures ok { OnOk result (Advances buffer.old desk.old buffer.new desk.new bytes.now
+    ensures ok { OnOk result (Advances buffer.old store.old buffer.new store.new bytes.now
         (W.contents writer.old) (W.contents writer.new)) }
-    ensures err { OnErr result (Breaks buffer.old desk.old bytes.now
+    ensures err { OnErr result (Breaks buffer.old store.old bytes.now
         (W.contents writer.old) (W.contents writer.new)) }
     ensures fault { IfErr result IsLateFault }
 {
     let mut rest = bytes;
     while let Some((piece, later)) = cut_line(rest) {
-        end_line(rt, alloc, desk, buffer, writer, piece)?;
+        end_line(rt, alloc, store, buffer, writer, piece)?;
         rest = later;
     }
     buffer.add(rest)
@@ -112,18 +112,18 @@ fn answer_lines<T: Threads + Wait + Sync, L: Ledger, W: Write>(
 fn feed<T: Threads + Wait + Sync, L: Ledger, W: Write>(
     rt: &T,
     alloc: Global,
-    desk: &mut Desk<L>,
+    store: &mut ScriptStore<L>,
     buffer: &mut LineBuffer,
     writer: &mut W,
     bytes: &[u8],
 ) -> Result<(), Fault>
-    ensures ok { OnOk result (Advances buffer.old desk.old buffer.new desk.new bytes.now
+    ensures ok { OnOk result (Advances buffer.old store.old buffer.new store.new bytes.now
         (W.contents writer.old) (W.contents writer.new)) }
-    ensures err { OnErr result (Breaks buffer.old desk.old bytes.now
+    ensures err { OnErr result (Breaks buffer.old store.old bytes.now
         (W.contents writer.old) (W.contents writer.new)) }
     ensures fault { IfErr result IsLateFault }
 {
-    answer_lines(rt, alloc, desk, buffer, writer, bytes)?;
+    answer_lines(rt, alloc, store, buffer, writer, bytes)?;
     flush(writer)
 }
 
@@ -131,17 +131,17 @@ fn feed<T: Threads + Wait + Sync, L: Ledger, W: Write>(
 fn finish<T: Threads + Wait + Sync, L: Ledger, W: Write>(
     rt: &T,
     alloc: Global,
-    desk: &mut Desk<L>,
+    store: &mut ScriptStore<L>,
     buffer: &LineBuffer,
     writer: &mut W,
 ) -> Result<(), Fault>
-    ensures ok { OnOk result (EndsWith IsOutput buffer.now desk.old
+    ensures ok { OnOk result (EndsWith IsOutput buffer.now store.old
         (W.contents writer.old) (W.contents writer.new)) }
-    ensures err { OnErr result (EndsWith IsBeginning buffer.now desk.old
+    ensures err { OnErr result (EndsWith IsBeginning buffer.now store.old
         (W.contents writer.old) (W.contents writer.new)) }
     ensures fault { IfErr result IsLateFault }
 {
-    answer(rt, alloc, desk, buffer, writer)?;
+    write_reply(rt, alloc, store, buffer, writer)?;
     flush(writer)
 }
 
@@ -168,29 +168,29 @@ enum Run {
 fn take_block<T: Threads + Wait + Sync, L: Ledger, R: Read, W: Write>(
     rt: &T,
     alloc: Global,
-    desk: &mut Desk<L>,
+    store: &mut ScriptStore<L>,
     buffer: &mut LineBuffer,
     reader: &mut R,
     writer: &mut W,
 ) -> Result<Run, Fault>
-    ensures ok { IfOk result (λ run. FollowsBlock run desk.old buffer.old desk.new buffer.new
+    ensures ok { IfOk result (λ run. FollowsBlock run store.old buffer.old store.new buffer.new
         (R.remaining reader.old) (R.remaining reader.new)
         (W.contents writer.old) (W.contents writer.new)) }
     ensures read_failed { IsErrOf result Fault.ReadFailed →
-        RunEnds IsWholeOutput desk.old buffer.old (R.remaining reader.old)
+        RunEnds IsWholeOutput store.old buffer.old (R.remaining reader.old)
         (R.remaining reader.new) (W.contents writer.old) (W.contents writer.new) }
-    ensures err { OnErr result (RunEnds IsBeginning desk.old buffer.old (R.remaining reader.old)
+    ensures err { OnErr result (RunEnds IsBeginning store.old buffer.old (R.remaining reader.old)
         (R.remaining reader.new) (W.contents writer.old) (W.contents writer.new)) }
     ensures faults { IfErr result IsStartedFault }
 {
     let mut bytes = [0u8; 4096];
     match read_block(reader, &mut bytes) {
         Ok(0) => {
-            finish(rt, alloc, desk, buffer, writer)?;
+            finish(rt, alloc, store, buffer, writer)?;
             Ok(Run::HasEnded)
         }
         Ok(count) => {
-            feed(rt, alloc, desk, buffer, writer, &bytes[..count])?;
+            feed(rt, alloc, store, buffer, writer, &bytes[..count])?;
             Ok(Run::GoesOn)
         }
         Err(fault) => Err(fault),
@@ -219,10 +219,10 @@ fn run_named<L: Ledger, T: Threads + Wait + Sync, R: Read, W: Write>(
         (R.remaining reader.new) (W.contents writer.old) (W.contents writer.new)) }
     ensures faults { IfErr result IsStartedFault }
 {
-    let mut desk = Desk::<L>::open(alloc, blank, workers)?;
+    let mut store = ScriptStore::<L>::open(alloc, blank, workers)?;
     let mut buffer = LineBuffer::new(alloc);
     'reads: for _ in 1..READ_LIMIT {
-        match take_block(rt, alloc, &mut desk, &mut buffer, reader, writer) {
+        match take_block(rt, alloc, &mut store, &mut buffer, reader, writer) {
             Ok(Run::GoesOn) => {}
             Ok(Run::HasEnded) => return Ok(()),
             Err(fault) => return Err(fault),

@@ -9,7 +9,7 @@ ghost use Rattle.scripts.specs.Served.{IsServed, IsRefused};
 use backend_sweep::OpenSweepGate;
 use gc_labels::read_instant;
 use gc_report::Report;
-use meta_types::{Fault, Removal, Reply, Request, Words};
+use meta_types::{Fault, RawText, Removal, Reply, Request};
 use reply_line::Answer;
 use request_line::Asked;
 use std::alloc::Global;
@@ -20,7 +20,7 @@ use steal_mark::OpenGate;
 use store_front::{Keeps, MemLocked, Session};
 
 // Answers a request.
-fn request<L: Ledger, K: Keeps>(
+fn do_request<L: Ledger, K: Keeps>(
     locked: &mut MemLocked<L, K>,
     alloc: Global,
     session: &mut Session<L>,
@@ -45,7 +45,7 @@ fn collect<L: Ledger, K: Keeps, R: Threads + Wait + Sync>(
     rt: &R,
     alloc: Global,
     session: &mut Session<L>,
-    at: &Words,
+    at: &RawText,
     dry: bool,
     workers: usize,
 ) -> Result<Report, Fault>
@@ -82,7 +82,7 @@ fn remove<L: Ledger, K: Keeps, R: Threads + Wait + Sync>(
     alloc: Global,
     session: &mut Session<L>,
     removal: &Removal,
-    at: &Words,
+    at: &RawText,
     workers: usize,
 ) -> Result<Report, Fault>
     requires opened { session.old.number < locked.old.opened }
@@ -112,7 +112,7 @@ fn remove<L: Ledger, K: Keeps, R: Threads + Wait + Sync>(
 }
 
 /// Does what a line asks for, with so many workers where it is a collection.
-pub fn serve_asked<L: Ledger, K: Keeps, R: Threads + Wait + Sync>(
+pub fn do_asked<L: Ledger, K: Keeps, R: Threads + Wait + Sync>(
     locked: &mut MemLocked<L, K>,
     rt: &R,
     alloc: Global,
@@ -130,7 +130,7 @@ pub fn serve_asked<L: Ledger, K: Keeps, R: Threads + Wait + Sync>(
 {
     match asked {
         Asked::Request(asked) => {
-            let reply = request(locked, alloc, session, asked)?;
+            let reply = do_request(locked, alloc, session, asked)?;
             Ok(Answer::Replied(reply))
         }
         Asked::Collect { at, dry } => {

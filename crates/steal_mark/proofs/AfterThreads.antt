@@ -8,10 +8,10 @@ use native.Mathlib.Decide.{ℕ_discrete}
 use mathlib.Core.Logic.{dite}
 use Rattle.std.specs.declared.thread.PromisedHandle.{PromisedHandle}
 use Rattle.crossbeam_deque.specs.Handles.{stealer_deque}
-use Rattle.steal_mark.specs.declared.deal.Rest.{Rest}
-use Rattle.steal_mark.specs.declared.marker.Marker.{Marker}
-use Rattle.steal_mark.specs.declared.other.Other.{Other}
-use Rattle.steal_mark.specs.declared.threads.SameAs.{SameAs}
+use Rattle.steal_mark.specs.declared.start.roots.Rest.{Rest}
+use Rattle.steal_mark.specs.declared.turn.marker.Marker.{Marker}
+use Rattle.steal_mark.specs.declared.turn.thief_pass.ThiefPass.{ThiefPass}
+use Rattle.steal_mark.specs.declared.threads.start.SameAs.{SameAs}
 use Rattle.steal_mark.specs.Closing.{Id}
 use Rattle.steal_mark.specs.Working.{IsSound, SameMarker}
 use Rattle.steal_mark.specs.Team.{AreWorked, IsOne, IsTeam}
@@ -21,14 +21,14 @@ abbrev pub began : PromisedHandle Marker SameAs → Marker
 began h = h.promise.0.value
 
 -- the deques of the stealers are as before
-id_of_all : (xs : List Other) → map (λ (o : Other). stealer_deque o.stealer) xs ≡ map (λ s. stealer_deque s) (map (λ (o : Other). o.stealer) xs)
+id_of_all : (xs : List ThiefPass) → map (λ (o : ThiefPass). stealer_deque o.stealer) xs ≡ map (λ s. stealer_deque s) (map (λ (o : ThiefPass). o.stealer) xs)
 id_of_all [] = refl
 id_of_all (x ∷ xs) = ap (λ l. stealer_deque x.stealer ∷ l) (id_of_all xs)
 
 -- a turn changes neither the deque nor the stealers, so the worker is still one of the marking
-same_one : (r : Rest) (ids : List Id) (a b : Marker) → SameMarker a b → IsOne (arc_value r.board) ids a → IsOne (arc_value r.board) ids b
+same_one : (r : Rest) (ids : List Id) (a b : Marker) → SameMarker a b → IsOne (arc_value r.claim_table) ids a → IsOne (arc_value r.claim_table) ids b
 same_one r ids a b s o = record {
-  board = s.board ∙ o.board;
+  claim_table = s.claim_table ∙ o.claim_table;
   deque = s.deque ∙ o.deque ∙ (λ i. get_or ids (sym s.number i) (sym s.deque i));
   order = id_of_all b.others.items ∙ ap (map (λ x. stealer_deque x)) s.stealers ∙ sym (id_of_all a.others.items) ∙ o.order;
 }
@@ -68,7 +68,7 @@ empty_is (x ∷ xs) e = absurd (omega arith)
 
 -- a worker is the same as itself
 same_marker : (m : Marker) → SameMarker m m
-same_marker m = record { number = refl; board = refl; table = refl; deque = refl; stealers = refl }
+same_marker m = record { number = refl; claim_table = refl; table = refl; deque = refl; stealers = refl }
 
 -- one of the workers took a turn, and the others stayed as they were
 worked_one : (ms : List Marker) (place : ℕ) (old new : Marker) → place < length ms → old ≡ get_or ms place old → SameMarker old new → IsSound new → All IsSound ms → AreWorked ms (set ms place new)

@@ -10,13 +10,13 @@ use Rattle.mark_core.specs.declared.graph.Graph.{Graph}
 use Rattle.mark_core.specs.Bits.{times}
 use Rattle.mark_core.specs.Reach.{targets}
 use Rattle.mark_core.proofs.Counts.{times-append}
-use Rattle.steal_mark.specs.declared.hands.Hand.{Hand}
-use Rattle.steal_mark.specs.declared.claims.Claims.{Claims}
+use Rattle.steal_mark.specs.declared.shared.deques.PassView.{PassView}
+use Rattle.steal_mark.specs.declared.shared.claims.Claims.{Claims}
 use Rattle.steal_mark.specs.Working.{Saw}
 use Rattle.steal_mark.specs.Listing.{listed}
 use Rattle.steal_mark.specs.Draining.{Drains, DrainsAll}
 use Rattle.steal_mark.specs.Closing.{AreRows, ids_of, own_in, pushed_in, taken_in, IsOpen, listing, Balanced}
-use Rattle.steal_mark.specs.Parts.{Deque, NodeList, Row}
+use Rattle.steal_mark.specs.Parts.{Deque, NodeList, PassRow}
 
 -- what was seen stays seen
 saw_longer : (g : Graph) (seen more nodes : List ℕ) → Saw g seen nodes → Saw g (seen ++ more) nodes
@@ -26,7 +26,7 @@ saw_longer g seen more nodes s = All-weaker _ _ (λ m h. All-weaker (λ t. 0 < t
 saw_later : (g : Graph) (seen more nodes : List ℕ) → Saw g more nodes → Saw g (seen ++ more) nodes
 saw_later g seen more nodes s = All-weaker _ _ (λ m h. All-weaker (λ t. 0 < times t more) (λ t. 0 < times t (seen ++ more)) (λ t p. let e = times-append t seen more in omega arith) (targets g m) h) nodes s
 
-module _ (g : Graph) (ds : List Deque) (d : Deque) (rows rows' : List Row) (lists : List NodeList) (v w : Claims)
+module _ (g : Graph) (ds : List Deque) (d : Deque) (rows rows' : List PassRow) (lists : List NodeList) (v w : Claims)
     (b : Balanced g (ds ++ d ∷ []) rows lists v) where
   -- the last of the open deques is open
   pub last_open : IsOpen g (length rows) d
@@ -48,7 +48,7 @@ module _ (g : Graph) (ds : List Deque) (d : Deque) (rows rows' : List Row) (list
   pub own_row : length ds < length rows
   own_row = let a = b.owned in let e = length-append ds (d ∷ []) in omega arith
 
-  module _ (mid last : Hand) (list list' : NodeList) (at : list ≡ get_or lists (length ds) list) (many : length rows' ≡ length rows) (passes : AreRows g (ids_of ds) rows')
+  module _ (mid last : PassView) (list list' : NodeList) (at : list ≡ get_or lists (length ds) list) (many : length rows' ≡ length rows) (passes : AreRows g (ids_of ds) rows')
       (pushed : (n : ℕ) → times n mid.pushed ≡ times n (worker_view d).pushed) (taken : (n : ℕ) → times n mid.taken + taken_in n rows' ≡ times n (worker_view d).taken + taken_in n rows)
       (dr : DrainsAll g v w mid last list.items list'.items) where
     -- what draining did
@@ -94,8 +94,8 @@ module _ (g : Graph) (ds : List Deque) (d : Deque) (rows rows' : List Row) (list
         let p = sum_by_push (λ (y : Deque). times n (worker_view y).pushed) ds d in
         let u = sum_by_push (λ (y : Deque). times n (worker_view y).taken) ds d in
         let q = pushed n in let t = taken n in
-        let e1 : times n last.pushed ≡ times n (mid.pushed ++ x.more) = ap (λ (h : Hand). times n h.pushed) x.deque in
-        let e2 : times n last.taken ≡ times n (mid.taken ++ x.drained) = ap (λ (h : Hand). times n h.taken) x.deque in
+        let e1 : times n last.pushed ≡ times n (mid.pushed ++ x.more) = ap (λ (h : PassView). times n h.pushed) x.deque in
+        let e2 : times n last.taken ≡ times n (mid.taken ++ x.drained) = ap (λ (h : PassView). times n h.taken) x.deque in
         let f1 = times-append n mid.pushed x.more in let f2 = times-append n mid.taken x.drained in let f3 = claimed_is n in
         let dry = dr.1 n in
         let l = ap (times n) x.list in let f4 = times-append n list.items x.drained in

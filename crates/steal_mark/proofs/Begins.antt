@@ -10,17 +10,17 @@ use Rattle.mark_core.specs.Bits.{times}
 use Rattle.mark_core.specs.Reach.{IsInRange, Reached}
 use Rattle.mark_core.proofs.Walks.{Reached-root}
 use Rattle.steal_mark.specs.Growing.{MayClaim}
-use Rattle.steal_mark.specs.declared.marker.Marker.{Marker}
-use Rattle.steal_mark.specs.Working.{Keeps, claims_of, own_hand}
+use Rattle.steal_mark.specs.declared.turn.marker.Marker.{Marker}
+use Rattle.steal_mark.specs.Working.{Keeps, claims_of, own_pass_view}
 use Rattle.mark_core.proofs.Counts.{contained, counted}
-use Rattle.steal_mark.specs.declared.claims.Claims.{Claims}
-use Rattle.steal_mark.specs.declared.hands.Hand.{Hand}
+use Rattle.steal_mark.specs.declared.shared.claims.Claims.{Claims}
+use Rattle.steal_mark.specs.declared.shared.deques.PassView.{PassView}
 use Rattle.steal_mark.specs.Claiming.{claims, IsSeatOf, Knows}
-use Rattle.steal_mark.specs.declared.deal.Rest.{Rest}
+use Rattle.steal_mark.specs.declared.start.roots.Rest.{Rest}
 use Rattle.steal_mark.specs.Closing.{Id, pushed_in}
 use Rattle.steal_mark.specs.Starting.{Begins, DealsOnce, Deals, IsDealing, IsFresh, pushes_of, IsStarted, Starts}
 use Rattle.steal_mark.specs.Team.{IsRest}
-use Rattle.steal_mark.specs.Parts.{Deque, Row}
+use Rattle.steal_mark.specs.Parts.{Deque, PassRow}
 
 -- what was pushed, where the lists are the same, and where nothing was
 pub same_pushed : (n : ℕ) (xs ys : List Deque) → pushes_of xs ≡ pushes_of ys → pushed_in n xs ≡ pushed_in n ys
@@ -39,13 +39,13 @@ pub none_pushed : (g : Graph) (n : ℕ) (ds : List Deque) → All (IsFresh g) ds
 none_pushed g n [] all = refl
 none_pushed g n (d ∷ ds) all =
     let a = sum_by-cons (λ (x : Deque). times n (worker_view x).pushed) d ds in
-    let b : times n (worker_view d).pushed ≡ 0 = ap (λ (h : Hand). times n h.pushed) (All-head (IsFresh g) d ds all).held in
+    let b : times n (worker_view d).pushed ≡ 0 = ap (λ (h : PassView). times n h.pushed) (All-head (IsFresh g) d ds all).held in
     let c = none_pushed g n ds (All-tail (IsFresh g) d ds all) in
     omega arith
 
 -- a new deque may be dealt to
 pub dealing : (g : Graph) (ds : List Deque) → All (IsFresh g) ds → All (IsDealing g) ds
-dealing g ds all = All-weaker (IsFresh g) (IsDealing g) (λ d f. record { fifo = f.fifo; graph = ap (λ (h : Hand). h.graph) f.held; parts = ap (λ (h : Hand). h.parts) f.held; taken = ap (λ (h : Hand). h.taken) f.held }) ds all
+dealing g ds all = All-weaker (IsFresh g) (IsDealing g) (λ d f. record { fifo = f.fifo; graph = ap (λ (h : PassView). h.graph) f.held; parts = ap (λ (h : PassView). h.parts) f.held; taken = ap (λ (h : PassView). h.taken) f.held }) ds all
 
 -- what was pushed to the deques that are opened is what was claimed
 pub all_pushed : (g : Graph) (n : ℕ) (roots : List ℕ) (v w : Claims) (fresh dealt opened : List Deque) → All (IsFresh g) fresh → Deals g roots v w fresh dealt → pushes_of opened ≡ pushes_of dealt → v.claimed ≡ [] → pushed_in n opened ≡ times n w.claimed
@@ -59,16 +59,16 @@ same_sums f h (m ∷ ms) all =
     let a = sum_by-cons f m ms in let b = sum_by-cons h m ms in let c : f m ≡ h m = All-head (λ x. f x ≡ h x) m ms all in let d = same_sums f h ms (All-tail (λ x. f x ≡ h x) m ms all) in omega arith
 
 -- a marking has begun
-module _ (g : Graph) (workers : ℕ) (r : Rest) (ids : List Id) (roots : List ℕ) (v w w0 : Claims) (fresh dealt : List Deque) (rows : List Row) (ms : List Marker)
-    (graph : (arc_value r.board).shared.key ≡ g) (seat : IsSeatOf g (arc_value r.board).shared.table_id r.seat) (light : r.seat.me.1 ≡ []) (workers_are : r.workers ≡ workers) (many : length ids ≡ workers) (few : workers < 1024)
-    (roots_are : roots ≡ g.roots.items) (none : v ≡ claims 1024 [] []) (d : Deals g roots v w fresh dealt) (knows : Knows g w) (same : w0 ≡ w) (s : Starts g (arc_value r.board) ids w0 r.seat.me.0 [] rows ms) where
+module _ (g : Graph) (workers : ℕ) (r : Rest) (ids : List Id) (roots : List ℕ) (v w w0 : Claims) (fresh dealt : List Deque) (rows : List PassRow) (ms : List Marker)
+    (graph : (arc_value r.claim_table).shared.key ≡ g) (seat : IsSeatOf g (arc_value r.claim_table).shared.table_id r.seat) (light : r.seat.me.1 ≡ []) (workers_are : r.workers ≡ workers) (many : length ids ≡ workers) (few : workers < 1024)
+    (roots_are : roots ≡ g.roots.items) (none : v ≡ claims 1024 [] []) (d : Deals g roots v w fresh dealt) (knows : Knows g w) (same : w0 ≡ w) (s : Starts g (arc_value r.claim_table) ids w0 r.seat.me.0 [] rows ms) where
   -- no deque is left without a marker
   as_many : length ms ≡ workers
   as_many = let a = s.total in omega arith
 
   -- the marker at each place is new
-  here : (k : ℕ) (m : Marker) → k < length ms → IsStarted (arc_value r.board) ids k (get_or ms k m)
-  here k m h = subst (λ j. IsStarted (arc_value r.board) ids j (get_or ms k m)) (omega arith) (s.started k m h)
+  here : (k : ℕ) (m : Marker) → k < length ms → IsStarted (arc_value r.claim_table) ids k (get_or ms k m)
+  here k m h = subst (λ j. IsStarted (arc_value r.claim_table) ids j (get_or ms k m)) (omega arith) (s.started k m h)
 
   -- the kept seat has seen the roots
   seen_is : r.seat.me.0.seen ≡ g.roots.items
@@ -110,7 +110,7 @@ module _ (g : Graph) (workers : ℕ) (r : Rest) (ids : List Id) (roots : List �
         let seen : 0 < times n w.seen = subst (λ l. 0 < times n l) (sym seen_w) (counted n g.roots.items c) in
         let b : 0 < times n w.claimed = All-contains (λ t. 0 < times t w.claimed) w.seen n knows.seen (contained n w.seen seen) in
         let e = knows.once n in omega arith;
-    pushed = λ n. same_sums (λ m. times n (own_hand m).pushed) (λ m. times n (claims_of m).claimed) ms (λ k m h. (keeps_each k m h).pushed n);
+    pushed = λ n. same_sums (λ m. times n (own_pass_view m).pushed) (λ m. times n (claims_of m).claimed) ms (λ k m h. (keeps_each k m h).pushed n);
     only = λ n h.
         let a = sum_is n in let b = d.among n (omega arith) in let e : times n v.claimed ≡ 0 = ap (λ (x : Claims). times n x.claimed) none in
         let f = ap (times n) roots_are in

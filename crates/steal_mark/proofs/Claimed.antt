@@ -11,7 +11,7 @@ use Rattle.mark_core.specs.declared.graph.Graph.{Graph}
 use Rattle.mark_core.specs.Bits.{bit_of, times}
 use Rattle.mark_core.specs.Reach.{Reached, node_count}
 use Rattle.mark_core.proofs.Counts.{times-append, contained, counted}
-use Rattle.steal_mark.specs.declared.claims.Claims.{Claims}
+use Rattle.steal_mark.specs.declared.shared.claims.Claims.{Claims}
 use Rattle.steal_mark.specs.Claiming.{claims, Fits, IsClaimed}
 use Rattle.steal_mark.proofs.Sums.{sum_set, each_set, each_push}
 

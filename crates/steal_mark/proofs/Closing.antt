@@ -10,7 +10,7 @@ use Rattle.mark_core.specs.Bits.{times}
 use Rattle.mark_core.specs.Reach.{targets, node_count, Reached, IsInRange}
 use Rattle.mark_core.proofs.Counts.{contained, counted, length_distinct}
 use Rattle.mark_core.proofs.Walks.{reached_in, reached_in_range}
-use Rattle.steal_mark.specs.declared.claims.Claims.{Claims}
+use Rattle.steal_mark.specs.declared.shared.claims.Claims.{Claims}
 use Rattle.steal_mark.specs.Working.{Saw}
 use Rattle.steal_mark.specs.Listing.{listed, HoldsEachOnce}
 use Rattle.steal_mark.specs.Claiming.{Knows}

@@ -10,35 +10,35 @@ use Rattle.mark_core.specs.Bits.{times, bit_of}
 use Rattle.mark_core.specs.Reach.{Reached, IsInRange, node_count}
 use Rattle.mark_core.proofs.Counts.{times_push, one_if, one_if_same, one_if_other}
 use Rattle.mark_core.proofs.Walks.{reached_in_range}
-use Rattle.steal_mark.specs.declared.other.Other.{Other}
-use Rattle.steal_mark.specs.declared.hands.Hand.{Hand}
-use Rattle.steal_mark.specs.declared.claims.Claims.{Claims}
+use Rattle.steal_mark.specs.declared.turn.thief_pass.ThiefPass.{ThiefPass}
+use Rattle.steal_mark.specs.declared.shared.deques.PassView.{PassView}
+use Rattle.steal_mark.specs.declared.shared.claims.Claims.{Claims}
 use Rattle.steal_mark.specs.Claiming.{Knows}
-use Rattle.steal_mark.specs.Stealing.{hands}
+use Rattle.steal_mark.specs.Stealing.{pass_views}
 use Rattle.steal_mark.specs.Closing.{IsRow, taken_in, listing, Balanced}
 use Rattle.steal_mark.specs.Listing.{listed, HoldsEachOnce}
 use Rattle.steal_mark.proofs.Closing.{each_once, all_listed, only_reached}
-use Rattle.steal_mark.specs.Parts.{NodeList, Row}
+use Rattle.steal_mark.specs.Parts.{NodeList, PassRow}
 
 -- an empty row took nothing
-empty_row : (n : ℕ) (row : List Other) → length row ≡ 0 → sum_by (λ (h : Hand). times n h.taken) (hands row) ≡ 0
+empty_row : (n : ℕ) (row : List ThiefPass) → length row ≡ 0 → sum_by (λ (h : PassView). times n h.taken) (pass_views row) ≡ 0
 empty_row n [] e = refl
 empty_row n (o ∷ row) e = absurd (omega arith)
 
 -- with no deque open no pass is left
-none_taken : (g : Graph) (n : ℕ) (rows : List Row) → ((k : ℕ) (d : Row) → k < length rows → length (get_or rows k d).items ≡ 0) → taken_in n rows ≡ 0
+none_taken : (g : Graph) (n : ℕ) (rows : List PassRow) → ((k : ℕ) (d : PassRow) → k < length rows → length (get_or rows k d).items ≡ 0) → taken_in n rows ≡ 0
 none_taken g n [] all = refl
 none_taken g n (row ∷ rows) all =
-    let a = sum_by-cons (λ (x : Row). sum_by (λ (h : Hand). times n h.taken) (hands x.items)) row rows in
+    let a = sum_by-cons (λ (x : PassRow). sum_by (λ (h : PassView). times n h.taken) (pass_views x.items)) row rows in
     let b = empty_row n row.items (all 0 row (omega arith)) in
     let c = none_taken g n rows (λ k d h. all (suc k) d (omega arith)) in
     omega arith
 
 -- a row on no deques is empty
-empty_order : (g : Graph) (number : ℕ) (row : Row) → IsRow g [] number row → length row.items ≡ 0
-empty_order g number row r = let a = ap length r.order in let b = length-map row.items (λ (o : Other). Rattle.crossbeam_deque.specs.Handles.stealer_deque o.stealer) in omega arith
+empty_order : (g : Graph) (number : ℕ) (row : PassRow) → IsRow g [] number row → length row.items ≡ 0
+empty_order g number row r = let a = ap length r.order in let b = length-map row.items (λ (o : ThiefPass). Rattle.crossbeam_deque.specs.Handles.stealer_deque o.stealer) in omega arith
 
-module _ (g : Graph) (rows : List Row) (lists : List NodeList) (v : Claims) (b : Balanced g [] rows lists v) (k : Knows g v) where
+module _ (g : Graph) (rows : List PassRow) (lists : List NodeList) (v : Claims) (b : Balanced g [] rows lists v) (k : Knows g v) where
   -- with no deque open, what is listed is what was claimed
   same : (n : ℕ) → listed n (listing lists) ≡ times n v.claimed
   same n = let a = b.counts n in let c = none_taken g n rows (λ k d h. empty_order g k (get_or rows k d) (b.passes k d h)) in omega arith

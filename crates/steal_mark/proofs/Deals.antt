@@ -9,8 +9,8 @@ use Rattle.crossbeam_deque.specs.Handles.{worker_view}
 use Rattle.mark_core.specs.declared.graph.Graph.{Graph}
 use Rattle.mark_core.specs.Bits.{times}
 use Rattle.mark_core.proofs.Counts.{times-append}
-use Rattle.steal_mark.specs.declared.claims.Claims.{Claims}
-use Rattle.steal_mark.specs.declared.hands.Hand.{Hand}
+use Rattle.steal_mark.specs.declared.shared.claims.Claims.{Claims}
+use Rattle.steal_mark.specs.declared.shared.deques.PassView.{PassView}
 use Rattle.steal_mark.specs.Claiming.{looked}
 use Rattle.steal_mark.specs.Closing.{pushed_in}
 use Rattle.steal_mark.specs.Dealing.{Pushed, SameDeque}
@@ -49,15 +49,15 @@ module _ (g : Graph) (xs : List ℕ) (n : ℕ) (v w w' : Claims) (before after :
               let a : times k w'.claimed ≡ times k (w.claimed ++ n ∷ []) = ap (λ (c : Claims). times k c.claimed) is in
               let f = times-append k w.claimed (n ∷ []) in
               let s = sum_by-set (λ (z : Deque). times k (worker_view z).pushed) after next y r inside in
-              let t : times k (worker_view y).pushed ≡ times k ((worker_view x).pushed ++ n ∷ []) = ap (λ (h : Hand). times k h.pushed) put in
+              let t : times k (worker_view y).pushed ≡ times k ((worker_view x).pushed ++ n ∷ []) = ap (λ (h : PassView). times k h.pushed) put in
               let u = times-append k (worker_view x).pushed (n ∷ []) in
               let b = d.pushed k in
               omega arith;
           deques = All-set (IsDealing g) after next y (record {
             fifo = same.1 ∙ was.fifo;
-            graph = ap (λ (h : Hand). h.graph) put ∙ was.graph;
-            parts = ap (λ (h : Hand). h.parts) put ∙ was.parts;
-            taken = ap (λ (h : Hand). h.taken) put ∙ was.taken;
+            graph = ap (λ (h : PassView). h.graph) put ∙ was.graph;
+            parts = ap (λ (h : PassView). h.parts) put ∙ was.parts;
+            taken = ap (λ (h : PassView). h.taken) put ∙ was.taken;
           }) d.deques;
           many = length-set after next y ∙ d.many;
         }

@@ -11,24 +11,24 @@ use Rattle.crossbeam_deque.specs.Tasks.{Pushes, Takes, Finds, FindsFew, Forks, M
 use Rattle.mark_core.specs.declared.graph.Graph.{Graph}
 use Rattle.mark_core.specs.Bits.{times}
 use Rattle.mark_core.proofs.Counts.{times-append}
-use Rattle.steal_mark.specs.declared.hands.Hand.{Hand}
-use Rattle.steal_mark.specs.Dealing.{hand, ReachedIn, Holds, IsDealt, Pushed, Taken, Emptied, cut_left, cut_right, joined, NoMore}
+use Rattle.steal_mark.specs.declared.shared.deques.PassView.{PassView}
+use Rattle.steal_mark.specs.Dealing.{pass_view, ReachedIn, Holds, IsDealt, Pushed, Taken, Emptied, cut_left, cut_right, joined, NoMore}
 use Rattle.steal_mark.proofs.Sums.{sum_set, two_le, all_in_one, each_set, each_push}
 
 -- a new deque holds nothing, and its owner has every part
-pub begins : IsDealt [] (hand 1024 None [] [] ∷ [])
+pub begins : IsDealt [] (pass_view 1024 None [] [] ∷ [])
 begins = record {
   graph = None;
   parts = refl;
   counted = λ n. refl;
   reached = All-nil (ReachedIn None);
-  each = each_push (Holds None) [] (hand 1024 None [] []) (λ j u e. absurd (some-ne-none u (sym e))) (record { knows = λ p. refl; idle = λ z. (refl, refl) });
+  each = each_push (Holds None) [] (pass_view 1024 None [] []) (λ j u e. absurd (some-ne-none u (sym e))) (record { knows = λ p. refl; idle = λ z. (refl, refl) });
 }
 
 -- the owner pushes what is reached: pushed and held grow by the same
-pub pushes : (port : ℕ) (v : Hand) (xs : List ℕ) → 0 < v.parts → All (ReachedIn v.graph) xs → Pushes IsDealt port v xs (Pushed v xs)
+pub pushes : (port : ℕ) (v : PassView) (xs : List ℕ) → 0 < v.parts → All (ReachedIn v.graph) xs → Pushes IsDealt port v xs (Pushed v xs)
 pushes port v xs some_part here items views h at =
-    let w : Hand = hand v.parts v.graph (v.pushed ++ xs) v.taken in
+    let w : PassView = pass_view v.parts v.graph (v.pushed ++ xs) v.taken in
     let mine = h.each port v at in (
       w,
       record {
@@ -54,9 +54,9 @@ right_of : (P : ℕ → Type 0) (xs ys : List ℕ) → All P (xs ++ ys) → All 
 right_of P xs ys h = subst (All P) (drop-append_seam xs ys) (All-drop P (length xs) (xs ++ ys) h)
 
 -- a pass takes the front: taken grows by what is held no more
-pub takes : (port : ℕ) (v : Hand) → 0 < v.parts → Takes IsDealt port v 1 (Taken v)
+pub takes : (port : ℕ) (v : PassView) → 0 < v.parts → Takes IsDealt port v 1 (Taken v)
 takes port v some_part xs items views some_xs few h at =
-    let w : Hand = hand v.parts v.graph v.pushed (v.taken ++ xs) in
+    let w : PassView = pass_view v.parts v.graph v.pushed (v.taken ++ xs) in
     let mine = h.each port v at in (
       w,
       record {
@@ -74,11 +74,11 @@ takes port v some_part xs items views some_xs few h at =
     )
 
 -- who has every part knows what all have pushed and taken
-module _ (items : List ℕ) (views : List Hand) (h : IsDealt items views) (port : ℕ) (v : Hand) (at : get_elem? views port ≡ some v) (all : v.parts ≡ 1024) where
+module _ (items : List ℕ) (views : List PassView) (h : IsDealt items views) (port : ℕ) (v : PassView) (at : get_elem? views port ≡ some v) (all : v.parts ≡ 1024) where
   -- who has every part has pushed and taken all
-  whole : (f : Hand → ℕ) → ((u : Hand) → u.pushed ≡ [] → u.taken ≡ [] → f u ≡ 0) → sum_by f views ≡ f v
+  whole : (f : PassView → ℕ) → ((u : PassView) → u.pushed ≡ [] → u.taken ≡ [] → f u ≡ 0) → sum_by f views ≡ f v
   whole f zero_of =
-      all_in_one (λ (u : Hand). u.parts) f views port v at (all ∙ sym h.parts) (λ j u e z. let i = (h.each j u e).idle z in zero_of u i.0 i.1)
+      all_in_one (λ (u : PassView). u.parts) f views port v at (all ∙ sym h.parts) (λ j u e z. let i = (h.each j u e).idle z in zero_of u i.0 i.1)
 
   -- so its own lists tell what the deque holds
   pub balance : (n : ℕ) → times n v.pushed ≡ times n v.taken + times n items
@@ -89,27 +89,27 @@ module _ (items : List ℕ) (views : List Hand) (h : IsDealt items views) (port 
       omega arith
 
 -- an empty deque holds nothing, so all that was pushed was taken
-pub finds : (port : ℕ) (v : Hand) → Finds IsDealt port v (Emptied v)
+pub finds : (port : ℕ) (v : PassView) → Finds IsDealt port v (Emptied v)
 finds port v views h at all n = let b = balance [] views h port v at all n in omega arith
 
 -- the same where fewer than asked for are there
-pub finds_few : (port : ℕ) (v : Hand) → FindsFew IsDealt 0 port v (Emptied v)
+pub finds_few : (port : ℕ) (v : PassView) → FindsFew IsDealt 0 port v (Emptied v)
 finds_few port v [] views few h at all n = let b = balance [] views h port v at all n in omega arith
 finds_few port v (x ∷ xs) views few h at all n = absurd (omega arith)
 
 -- a new pass takes one part with it, and no list
-pub forks : (port : ℕ) (v : Hand) → 1 < v.parts → Forks IsDealt port v (cut_left v) (cut_right v)
+pub forks : (port : ℕ) (v : PassView) → 1 < v.parts → Forks IsDealt port v (cut_left v) (cut_right v)
 forks port v some_parts items views h at =
-    let l : Hand = cut_left v in
-    let r : Hand = cut_right v in
+    let l : PassView = cut_left v in
+    let r : PassView = cut_right v in
     let mine = h.each port v at in
-    let vs : List Hand = set views port l in
+    let vs : List PassView = set views port l in
     record {
       graph = h.graph;
-      parts = let a = sum_set (λ u. u.parts) views port v l at in let b = sum_by_push (λ (u : Hand). u.parts) vs r in let p = h.parts in omega arith;
+      parts = let a = sum_set (λ u. u.parts) views port v l at in let b = sum_by_push (λ (u : PassView). u.parts) vs r in let p = h.parts in omega arith;
       counted = λ n.
-          let a = sum_set (λ u. times n u.pushed) views port v l at in let b = sum_by_push (λ (u : Hand). times n u.pushed) vs r in
-          let c = sum_set (λ u. times n u.taken) views port v l at in let d = sum_by_push (λ (u : Hand). times n u.taken) vs r in
+          let a = sum_set (λ u. times n u.pushed) views port v l at in let b = sum_by_push (λ (u : PassView). times n u.pushed) vs r in
+          let c = sum_set (λ u. times n u.taken) views port v l at in let d = sum_by_push (λ (u : PassView). times n u.taken) vs r in
           let e = h.counted n in
           omega arith;
       reached = h.reached;
@@ -119,18 +119,18 @@ forks port v some_parts items views h at =
     }
 
 -- a pass with no part
-pub watches : (port : ℕ) (v : Hand) → 0 < v.parts → Forks IsDealt port v (hand (v.parts - 0) v.graph v.pushed v.taken) (hand 0 v.graph [] [])
+pub watches : (port : ℕ) (v : PassView) → 0 < v.parts → Forks IsDealt port v (pass_view (v.parts - 0) v.graph v.pushed v.taken) (pass_view 0 v.graph [] [])
 watches port v some_part items views h at =
-    let l : Hand = hand (v.parts - 0) v.graph v.pushed v.taken in
-    let r : Hand = hand 0 v.graph [] [] in
+    let l : PassView = pass_view (v.parts - 0) v.graph v.pushed v.taken in
+    let r : PassView = pass_view 0 v.graph [] [] in
     let mine = h.each port v at in
-    let vs : List Hand = set views port l in
+    let vs : List PassView = set views port l in
     record {
       graph = h.graph;
-      parts = let a = sum_set (λ u. u.parts) views port v l at in let b = sum_by_push (λ (u : Hand). u.parts) vs r in let p = h.parts in omega arith;
+      parts = let a = sum_set (λ u. u.parts) views port v l at in let b = sum_by_push (λ (u : PassView). u.parts) vs r in let p = h.parts in omega arith;
       counted = λ n.
-          let a = sum_set (λ u. times n u.pushed) views port v l at in let b = sum_by_push (λ (u : Hand). times n u.pushed) vs r in
-          let c = sum_set (λ u. times n u.taken) views port v l at in let d = sum_by_push (λ (u : Hand). times n u.taken) vs r in
+          let a = sum_set (λ u. times n u.pushed) views port v l at in let b = sum_by_push (λ (u : PassView). times n u.pushed) vs r in
+          let c = sum_set (λ u. times n u.taken) views port v l at in let d = sum_by_push (λ (u : PassView). times n u.taken) vs r in
           let e = h.counted n in
           omega arith;
       reached = h.reached;
@@ -140,19 +140,19 @@ watches port v some_part items views h at =
     }
 
 -- the first pass learns the graph
-pub names : (port : ℕ) (v : Hand) (graph : Option Graph) → v.parts ≡ 1024 → v.graph ≡ None → Forks IsDealt port v (hand v.parts graph v.pushed v.taken) (hand 0 None [] [])
+pub names : (port : ℕ) (v : PassView) (graph : Option Graph) → v.parts ≡ 1024 → v.graph ≡ None → Forks IsDealt port v (pass_view v.parts graph v.pushed v.taken) (pass_view 0 None [] [])
 names port v graph all new items views h at =
-    let l : Hand = hand v.parts graph v.pushed v.taken in let r : Hand = hand 0 None [] [] in
+    let l : PassView = pass_view v.parts graph v.pushed v.taken in let r : PassView = pass_view 0 None [] [] in
     let mine = h.each port v at in
-    let vs : List Hand = set views port l in
+    let vs : List PassView = set views port l in
     let none : h.graph ≡ None = sym (mine.knows (omega arith)) ∙ new in
-    let idle : (j : ℕ) (u : Hand) → get_elem? views j ≡ some u → j ≢ port → u.parts ≡ 0 = λ j u e ne. let t = two_le (λ (x : Hand). x.parts) views j port u v ne e at in let p = h.parts in omega arith in
+    let idle : (j : ℕ) (u : PassView) → get_elem? views j ≡ some u → j ≢ port → u.parts ≡ 0 = λ j u e ne. let t = two_le (λ (x : PassView). x.parts) views j port u v ne e at in let p = h.parts in omega arith in
     record {
       graph = graph;
-      parts = let a = sum_set (λ u. u.parts) views port v l at in let b = sum_by_push (λ (u : Hand). u.parts) vs r in let p = h.parts in omega arith;
+      parts = let a = sum_set (λ u. u.parts) views port v l at in let b = sum_by_push (λ (u : PassView). u.parts) vs r in let p = h.parts in omega arith;
       counted = λ n.
-          let a = sum_set (λ u. times n u.pushed) views port v l at in let b = sum_by_push (λ (u : Hand). times n u.pushed) vs r in
-          let c = sum_set (λ u. times n u.taken) views port v l at in let d = sum_by_push (λ (u : Hand). times n u.taken) vs r in
+          let a = sum_set (λ u. times n u.pushed) views port v l at in let b = sum_by_push (λ (u : PassView). times n u.pushed) vs r in
+          let c = sum_set (λ u. times n u.taken) views port v l at in let d = sum_by_push (λ (u : PassView). times n u.taken) vs r in
           let e = h.counted n in omega arith;
       reached = All-weaker (ReachedIn None) (ReachedIn graph) (λ n (no : ⊥). absurd no) items (subst (λ o. All (ReachedIn o) items) none h.reached);
       each = each_push (Holds graph) vs r
@@ -162,18 +162,18 @@ names port v graph all new items views h at =
     }
 
 -- a pass gives its view to the worker
-pub merges : (port : ℕ) (v : Hand) (other : ℕ) (w : Hand) → 0 < v.parts → Merges IsDealt port v other w (joined v w) (hand 0 None [] [])
+pub merges : (port : ℕ) (v : PassView) (other : ℕ) (w : PassView) → 0 < v.parts → Merges IsDealt port v other w (joined v w) (pass_view 0 None [] [])
 merges port v other w some_part items views h at apart at' =
-    let both : Hand = joined v w in let spent : Hand = hand 0 None [] [] in
+    let both : PassView = joined v w in let spent : PassView = pass_view 0 None [] [] in
     let mine = h.each port v at in
-    let vs : List Hand = set views port both in
+    let vs : List PassView = set views port both in
     let was : get_elem? views other ≡ some w = ⊎_elim (λ x. absurd (apart x.0)) (λ x. x.1) (at_set views port other both w at') in
     record {
       graph = h.graph;
-      parts = let a = sum_set (λ u. u.parts) views port v both at in let b = sum_set (λ (u : Hand). u.parts) vs other w spent at' in let p = h.parts in omega arith;
+      parts = let a = sum_set (λ u. u.parts) views port v both at in let b = sum_set (λ (u : PassView). u.parts) vs other w spent at' in let p = h.parts in omega arith;
       counted = λ n.
-          let a = sum_set (λ u. times n u.pushed) views port v both at in let b = sum_set (λ (u : Hand). times n u.pushed) vs other w spent at' in
-          let c = sum_set (λ u. times n u.taken) views port v both at in let d = sum_set (λ (u : Hand). times n u.taken) vs other w spent at' in
+          let a = sum_set (λ u. times n u.pushed) views port v both at in let b = sum_set (λ (u : PassView). times n u.pushed) vs other w spent at' in
+          let c = sum_set (λ u. times n u.taken) views port v both at in let d = sum_set (λ (u : PassView). times n u.taken) vs other w spent at' in
           let e = times-append n v.pushed w.pushed in let f = times-append n v.taken w.taken in
           let k = h.counted n in
           omega arith;
@@ -184,5 +184,5 @@ merges port v other w some_part items views h at apart at' =
     }
 
 -- what was taken was pushed
-pub no_more : (port : ℕ) (v : Hand) → Learns IsDealt port v (NoMore v)
+pub no_more : (port : ℕ) (v : PassView) → Learns IsDealt port v (NoMore v)
 no_more port v items views h at all n = let b = balance items views h port v at all n in omega arith

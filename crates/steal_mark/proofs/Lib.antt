@@ -8,7 +8,7 @@ pub mod AfterThreads
 pub mod Spreads
 pub mod Looked
 pub mod Claimed
-pub mod Known
+pub mod SeatLearns
 pub mod Dealt
 pub mod Stolen
 pub mod Worked

@@ -13,7 +13,7 @@ use Rattle.mark_core.specs.Bits.{bit_of, times}
 use Rattle.mark_core.specs.Reach.{Reached, node_count}
 use Rattle.mark_core.proofs.BitLemmas.{bit_of-lt, with_bit, bit_of-with_same, bit_of-with_other}
 use Rattle.mark_core.proofs.Counts.{times_push, one_if, one_if_same, one_if_other}
-use Rattle.steal_mark.specs.declared.claims.Claims.{Claims}
+use Rattle.steal_mark.specs.declared.shared.claims.Claims.{Claims}
 use Rattle.steal_mark.specs.Claiming.{Fits, IsClaimed, claimed_after, looked, Looks}
 use Rattle.steal_mark.proofs.Sums.{sum_set, each_set}
 

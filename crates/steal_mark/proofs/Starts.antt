@@ -12,15 +12,15 @@ use Rattle.crossbeam_deque.specs.Handles.{worker_deque, worker_view, stealer_deq
 use Rattle.mark_core.specs.declared.graph.Graph.{Graph}
 use Rattle.mark_core.specs.Bits.{times}
 use Rattle.mark_core.specs.Reach.{node_count}
-use Rattle.steal_mark.specs.declared.marker.Marker.{Marker}
-use Rattle.steal_mark.specs.declared.other.Other.{Other}
+use Rattle.steal_mark.specs.declared.turn.marker.Marker.{Marker}
+use Rattle.steal_mark.specs.declared.turn.thief_pass.ThiefPass.{ThiefPass}
 use Rattle.steal_mark.specs.Stealing.{IsOther}
-use Rattle.steal_mark.specs.Working.{IsSeated, Keeps, Saw, graph_of, claims_of, own_hand, scans_of}
-use Rattle.steal_mark.specs.declared.claims.Claims.{Claims}
+use Rattle.steal_mark.specs.Working.{IsSeated, Keeps, Saw, graph_of, claims_of, own_pass_view, scans_of}
+use Rattle.steal_mark.specs.declared.shared.claims.Claims.{Claims}
 use Rattle.steal_mark.specs.Claiming.{claims}
 use Rattle.steal_mark.specs.Closing.{Id, ids_of, pushed_in}
 use Rattle.steal_mark.specs.Starting.{IsSpread, IsNewRow, IsStarted, Starts, pushed_to}
-use Rattle.steal_mark.specs.Parts.{Board, Deque, Row}
+use Rattle.steal_mark.specs.Parts.{ClaimTable, Deque, PassRow}
 use Rattle.steal_mark.proofs.Deals.{times_pushed}
 
 -- which deque a worker owns
@@ -28,9 +28,9 @@ abbrev id_of : Marker → Id
 id_of m = worker_deque m.deque
 
 -- one marker more
-module _ (g : Graph) (b : Board) (ids : List Id) (v w w' : Claims) (ds : List Deque) (rows : List Row) (ms : List Marker) (m : Marker)
+module _ (g : Graph) (b : ClaimTable) (ids : List Id) (v w w' : Claims) (ds : List Deque) (rows : List PassRow) (ms : List Marker) (m : Marker)
     (s : Starts g b ids v w (ds ++ m.deque ∷ []) (rows ++ m.others ∷ []) ms) (key : b.shared.key ≡ g) (wide : b.shared.table_id.words ≡ node_count g / 64 + 1) (whole : v.parts ≡ 1024) (few : length ids < 1024)
-    (number : m.number ≡ length ds) (board : arc_value m.board ≡ b) (table : m.seat.table_id ≡ b.shared.table_id) (me : m.seat.me ≡ (claims 1 (worker_view m.deque).pushed w.seen, [])) (none : scans_of m ≡ []) (willing : m.refused ≡ false)
+    (number : m.number ≡ length ds) (claim_table : arc_value m.claim_table ≡ b) (table : m.seat.table_id ≡ b.shared.table_id) (me : m.seat.me ≡ (claims 1 (worker_view m.deque).pushed w.seen, [])) (none : scans_of m ≡ []) (willing : m.refused ≡ false)
     (is : w' ≡ claims (w.parts - 1) (pushed_to ds) w.seen) where
   -- the lists with the new last element are one longer
   counts : (length (ds ++ m.deque ∷ []) ≡ length ds + 1) × (length (rows ++ m.others ∷ []) ≡ length rows + 1)
@@ -38,7 +38,7 @@ module _ (g : Graph) (b : Board) (ids : List Id) (v w w' : Claims) (ds : List De
 
   -- the marker's graph is that of the marking
   graph_is : graph_of m ≡ g
-  graph_is = ap (λ (x : Board). x.shared.key) board ∙ key
+  graph_is = ap (λ (x : ClaimTable). x.shared.key) claim_table ∙ key
 
   -- its seat has the claims of what was pushed to its deque
   claims_is : claims_of m ≡ claims 1 (worker_view m.deque).pushed w.seen
@@ -58,7 +58,7 @@ module _ (g : Graph) (b : Board) (ids : List Id) (v w w' : Claims) (ds : List De
 
   -- its row has a pass on each deque
   row_long : length m.others.items ≡ length ids
-  row_long = let a = ap length new_row.row.order in let c = length-map m.others.items (λ (x : Other). stealer_deque x.stealer) in omega arith
+  row_long = let a = ap length new_row.row.order in let c = length-map m.others.items (λ (x : ThiefPass). stealer_deque x.stealer) in omega arith
 
   -- the deques stand in order
   ids_are : ids_of ds ++ worker_deque m.deque ∷ map id_of ms ≡ ids
@@ -71,8 +71,8 @@ module _ (g : Graph) (b : Board) (ids : List Id) (v w w' : Claims) (ds : List De
   -- seat, deque and passes are those of the marking
   seated : IsSeated m
   seated = record {
-    board = table ∙ ap (λ (x : Board). x.shared.table_id) (sym board);
-    wide = ap (λ (x : Board). x.shared.table_id.words) board ∙ wide ∙ ap (λ x. node_count x / 64 + 1) (sym graph_is);
+    claim_table = table ∙ ap (λ (x : ClaimTable). x.shared.table_id) (sym claim_table);
+    wide = ap (λ (x : ClaimTable). x.shared.table_id.words) claim_table ∙ wide ∙ ap (λ x. node_count x / 64 + 1) (sym graph_is);
     part = ap (λ (x : Claims). x.parts) claims_is;
     light = ap (λ (x : Me (Unit {0}) Claims). x.1) me;
     fifo = is_spread.is_open.fifo;
@@ -87,7 +87,7 @@ module _ (g : Graph) (b : Board) (ids : List Id) (v w w' : Claims) (ds : List De
   -- it scanned and took nothing, and pushed what it claimed
   keeps : Keeps m
   keeps = record {
-    scanned = λ n. let a : times n (scans_of m) ≡ 0 = ap (times n) none in let c : times n (own_hand m).taken ≡ 0 = ap (times n) is_spread.untaken in let e = new_row.untaken n in omega arith;
+    scanned = λ n. let a : times n (scans_of m) ≡ 0 = ap (times n) none in let c : times n (own_pass_view m).taken ≡ 0 = ap (times n) is_spread.untaken in let e = new_row.untaken n in omega arith;
     saw = subst (Saw (graph_of m) (claims_of m).seen) (sym none) (All-nil _);
     pushed = λ n. ap (λ (x : Claims). times n x.claimed) (sym claims_is);
   }
@@ -97,7 +97,7 @@ module _ (g : Graph) (b : Board) (ids : List Id) (v w w' : Claims) (ds : List De
   started = record {
     sound = record { seated = λ r. seated; keeps = λ r. keeps };
     one = record {
-      board = board;
+      claim_table = claim_table;
       deque =
           let l = length-map ds (λ (x : Deque). worker_deque x) in
           let e : length (ids_of ds) ≡ m.number = omega arith in

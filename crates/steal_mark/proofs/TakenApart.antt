@@ -8,23 +8,23 @@ use Rattle.std.proofs.lemmas.List.Elements.{All-head, All-tail}
 use Rattle.crossbeam_deque.specs.Handles.{worker_view}
 use Rattle.mark_core.specs.Bits.{times}
 use Rattle.mark_core.proofs.Counts.{times-append}
-use Rattle.steal_mark.specs.declared.claims.Claims.{Claims}
-use Rattle.steal_mark.specs.declared.hands.Hand.{Hand}
-use Rattle.steal_mark.specs.declared.marker.Marker.{Marker}
+use Rattle.steal_mark.specs.declared.shared.claims.Claims.{Claims}
+use Rattle.steal_mark.specs.declared.shared.deques.PassView.{PassView}
+use Rattle.steal_mark.specs.declared.turn.marker.Marker.{Marker}
 use Rattle.steal_mark.specs.Claiming.{claims}
-use Rattle.steal_mark.specs.Stealing.{hands}
+use Rattle.steal_mark.specs.Stealing.{pass_views}
 use Rattle.steal_mark.specs.Closing.{listing, pushed_in, own_in, taken_in}
 use Rattle.steal_mark.specs.Listing.{listed}
 use Rattle.steal_mark.specs.Working.{Keeps, claims_of}
 use Rattle.steal_mark.specs.Team.{Joined, Apart}
-use Rattle.steal_mark.specs.Parts.{Deque, NodeList, Row}
+use Rattle.steal_mark.specs.Parts.{Deque, NodeList, PassRow}
 
 -- the deque of a worker
 abbrev pub deque_of : Marker → Deque
 deque_of m = m.deque
 
 -- the passes of a worker
-abbrev pub others_of : Marker → Row
+abbrev pub others_of : Marker → PassRow
 others_of m = m.others
 
 -- the list of a worker
@@ -44,7 +44,7 @@ joined_more ms m v w w' j is = record {
 }
 
 -- one worker more was taken apart
-pub apart_more : (ms : List Marker) (m : Marker) (ds ds' : List Deque) (rows rows' : List Row) (lists lists' : List NodeList) (v w w' : Claims) → Apart ms ds rows lists v w
+pub apart_more : (ms : List Marker) (m : Marker) (ds ds' : List Deque) (rows rows' : List PassRow) (lists lists' : List NodeList) (v w w' : Claims) → Apart ms ds rows lists v w
     → ds' ≡ ds ++ m.deque ∷ [] → rows' ≡ rows ++ m.others ∷ [] → lists' ≡ lists ++ m.scanned ∷ [] → w' ≡ claims (w.parts + (claims_of m).parts) (w.claimed ++ (claims_of m).claimed) (w.seen ++ (claims_of m).seen)
     → Apart (ms ++ m ∷ []) ds' rows' lists' v w'
 apart_more ms m ds ds' rows rows' lists lists' v w w' a d r l is = record {
@@ -76,7 +76,7 @@ listed_all n [] all = refl
 listed_all n (m ∷ ms) all =
     let k = (All-head Keeps m ms all).scanned n in
     let a = sum_by-cons (λ (d : Deque). times n (worker_view d).taken) m.deque (map deque_of ms) in
-    let b = sum_by-cons (λ (row : Row). sum_by (λ (h : Hand). times n h.taken) (hands row.items)) m.others (map others_of ms) in
+    let b = sum_by-cons (λ (row : PassRow). sum_by (λ (h : PassView). times n h.taken) (pass_views row.items)) m.others (map others_of ms) in
     let c = sum_by-cons (times n) m.scanned.items (listing (map list_of ms)) in
     let d = listed_all n ms (All-tail Keeps m ms all) in
     omega arith

@@ -9,15 +9,15 @@ use Rattle.crossbeam_deque.specs.Handles.{worker_deque, stealer_deque}
 use Rattle.mark_core.specs.declared.graph.Graph.{Graph}
 use Rattle.mark_core.specs.Bits.{times}
 use Rattle.mark_core.specs.Reach.{targets}
-use Rattle.steal_mark.specs.declared.claims.Claims.{Claims}
-use Rattle.steal_mark.specs.declared.deal.Rest.{Rest}
-use Rattle.steal_mark.specs.declared.marker.Marker.{Marker}
-use Rattle.steal_mark.specs.declared.other.Other.{Other}
+use Rattle.steal_mark.specs.declared.shared.claims.Claims.{Claims}
+use Rattle.steal_mark.specs.declared.start.roots.Rest.{Rest}
+use Rattle.steal_mark.specs.declared.turn.marker.Marker.{Marker}
+use Rattle.steal_mark.specs.declared.turn.thief_pass.ThiefPass.{ThiefPass}
 use Rattle.steal_mark.specs.Stealing.{IsOther, IsPlaced, parts_of}
 use Rattle.steal_mark.specs.Closing.{Id, IsRow, AreRows, IsOpen, Balanced, ids_of, listing}
 use Rattle.steal_mark.specs.Working.{IsSeated, Keeps, Saw, claims_of, graph_of, scans_of}
 use Rattle.steal_mark.specs.Team.{IsRest, IsOne, IsTeam, IsWilling, Joined, Apart}
-use Rattle.steal_mark.specs.Parts.{Deque, NodeList, Row}
+use Rattle.steal_mark.specs.Parts.{Deque, NodeList, PassRow}
 use Rattle.steal_mark.proofs.TakenApart.{deque_of, others_of, list_of, ones, pushed_all, listed_all}
 
 module _ (g : Graph) (r : Rest) (ms : List Marker) (w : Claims) (rest : IsRest g r) (team : IsTeam r ms) (willing : All IsWilling ms) (many : length ms ≡ r.workers) (j : Joined ms r.seat.me.0 w) where
@@ -30,12 +30,12 @@ module _ (g : Graph) (r : Rest) (ms : List Marker) (w : Claims) (rest : IsRest g
   keeps k d h = (team.sound k d h).keeps (willing k d h)
 
   -- each worker's graph is that of the marking
-  graph : (m : Marker) → IsOne (arc_value r.board) team.ids m → graph_of m ≡ g
-  graph m o = ap (λ b. b.shared.key) o.board ∙ rest.graph
+  graph : (m : Marker) → IsOne (arc_value r.claim_table) team.ids m → graph_of m ≡ g
+  graph m o = ap (λ b. b.shared.key) o.claim_table ∙ rest.graph
 
   -- each worker has a pass on each deque
-  row_long : (m : Marker) → IsOne (arc_value r.board) team.ids m → length m.others.items ≡ length ms
-  row_long m o = let a = ap length o.order in let b = length-map m.others.items (λ (x : Other). stealer_deque x.stealer) in let c = team.workers in omega arith
+  row_long : (m : Marker) → IsOne (arc_value r.claim_table) team.ids m → length m.others.items ≡ length ms
+  row_long m o = let a = ap length o.order in let b = length-map m.others.items (λ (x : ThiefPass). stealer_deque x.stealer) in let c = team.workers in omega arith
 
   -- a list of equal places is the same
   by_place : (xs ys : List Id) → length xs ≡ length ys → ((k : ℕ) (d : Id) → k < length xs → get_or xs k d ≡ get_or ys k d) → xs ≡ ys
@@ -59,7 +59,7 @@ module _ (g : Graph) (r : Rest) (ms : List Marker) (w : Claims) (rest : IsRest g
       let m : Marker = get_or ms k m0 in
       let a : get_or (ids_of (map deque_of ms)) k d ≡ worker_deque (get_or (map deque_of ms) k (deque_of m0)) = get_or-map (λ (x : Deque). worker_deque x) (map deque_of ms) k (deque_of m0) d (omega arith) in
       let b : get_or (map deque_of ms) k (deque_of m0) ≡ m.deque = get_or-map deque_of ms k m0 (deque_of m0) inside in
-      let o : IsOne (arc_value r.board) team.ids m = team.each k m0 inside in
+      let o : IsOne (arc_value r.claim_table) team.ids m = team.each k m0 inside in
       let n : m.number ≡ k = team.order many k m0 inside in
       a ∙ ap (λ (x : Deque). worker_deque x) b ∙ o.deque ∙ ap (λ i. get_or team.ids i (worker_deque m.deque)) n ∙ get_or_default team.ids k (worker_deque m.deque) d (omega arith)
 
@@ -71,7 +71,7 @@ module _ (g : Graph) (r : Rest) (ms : List Marker) (w : Claims) (rest : IsRest g
       by_place (ids_of (map deque_of ms)) team.ids (omega arith) same_id
 
   -- each deque is open
-  deque_open : (m : Marker) → IsSeated m → IsOne (arc_value r.board) team.ids m → IsOpen g (length (map others_of ms)) m.deque
+  deque_open : (m : Marker) → IsSeated m → IsOne (arc_value r.claim_table) team.ids m → IsOpen g (length (map others_of ms)) m.deque
   deque_open m s o =
       let l = length-map ms others_of in let w' = row_long m o in record {
         fifo = s.fifo;
@@ -87,7 +87,7 @@ module _ (g : Graph) (r : Rest) (ms : List Marker) (w : Claims) (rest : IsRest g
       let inside : k < length ms = omega arith in
       let m0 : Marker = first_of ms (omega arith) in
       let m : Marker = get_or ms k m0 in
-      let o : IsOne (arc_value r.board) team.ids m = team.each k m0 inside in
+      let o : IsOne (arc_value r.claim_table) team.ids m = team.each k m0 inside in
       let s : IsSeated m = seated k m0 inside in
       let is : get_or (map others_of ms) k d ≡ m.others = get_or-map others_of ms k m0 d inside in
       let n : m.number ≡ k = team.order many k m0 inside in
@@ -98,7 +98,7 @@ module _ (g : Graph) (r : Rest) (ms : List Marker) (w : Claims) (rest : IsRest g
       })
 
   -- the joined seat saw what each saw
-  seen_all : (m : Marker) → Saw (graph_of m) (claims_of m).seen (scans_of m) → IsOne (arc_value r.board) team.ids m → ((t : ℕ) → times t (claims_of m).seen ≤ times t w.seen) → Saw g w.seen (scans_of m)
+  seen_all : (m : Marker) → Saw (graph_of m) (claims_of m).seen (scans_of m) → IsOne (arc_value r.claim_table) team.ids m → ((t : ℕ) → times t (claims_of m).seen ≤ times t w.seen) → Saw g w.seen (scans_of m)
   seen_all m s o less = subst (λ x. Saw x w.seen (scans_of m)) (graph m o)
       (All-weaker _ _ (λ n h. All-weaker (λ t. 0 < times t (claims_of m).seen) (λ t. 0 < times t w.seen) (λ t p. let e = less t in omega arith) (targets (graph_of m) n) h) (scans_of m) s)
 
@@ -130,7 +130,7 @@ module _ (g : Graph) (r : Rest) (ms : List Marker) (w : Claims) (rest : IsRest g
       }
 
 -- the same, of what was taken apart
-pub balanced_apart : (g : Graph) (r : Rest) (ms : List Marker) (ds : List Deque) (rows : List Row) (lists : List NodeList) (w : Claims) → IsRest g r → IsTeam r ms → All IsWilling ms → length ms ≡ r.workers
+pub balanced_apart : (g : Graph) (r : Rest) (ms : List Marker) (ds : List Deque) (rows : List PassRow) (lists : List NodeList) (w : Claims) → IsRest g r → IsTeam r ms → All IsWilling ms → length ms ≡ r.workers
     → Apart ms ds rows lists r.seat.me.0 w → Balanced g ds rows lists w
 balanced_apart g r ms ds rows lists w rest team willing many a =
     subst (λ x. Balanced g x rows lists w) (sym a.deques_are) (subst (λ x. Balanced g (map deque_of ms) x lists w) (sym a.rows_are)

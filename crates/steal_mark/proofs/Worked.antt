@@ -16,29 +16,29 @@ use Rattle.std.proofs.Common.{true≢false, get_or}
 use Rattle.steal_mark.specs.Growing.{MayClaim}
 use Rattle.mark_core.proofs.Counts.{times-append, times_push, one_if, counted}
 use Rattle.atomic_table.specs.declared.shared.Seat.{Seat}
-use Rattle.steal_mark.specs.declared.hands.Hand.{Hand}
-use Rattle.steal_mark.specs.declared.claims.Claims.{Claims}
-use Rattle.steal_mark.specs.declared.marker.Marker.{Marker}
+use Rattle.steal_mark.specs.declared.shared.deques.PassView.{PassView}
+use Rattle.steal_mark.specs.declared.shared.claims.Claims.{Claims}
+use Rattle.steal_mark.specs.declared.turn.marker.Marker.{Marker}
 use Rattle.steal_mark.specs.Growing.{Grows}
 use Rattle.steal_mark.specs.Stealing.{IsOther, IsPlaced, parts_of, took, TookOne}
-use Rattle.steal_mark.specs.Working.{graph_of, claims_of, own_hand, passes_of, scans_of, taken_by, Saw, IsSeated, Keeps, IsSound, Scans}
+use Rattle.steal_mark.specs.Working.{graph_of, claims_of, own_pass_view, passes_of, scans_of, taken_by, Saw, IsSeated, Keeps, IsSound, Scans}
 use Rattle.steal_mark.proofs.Sums.{sum_set}
 
-module _ (old new : Marker) (number : new.number ≡ old.number) (places : parts_of new.others.items ≡ parts_of old.others.items) (board : arc_value new.board ≡ arc_value old.board) (table : new.seat.table_id ≡ old.seat.table_id) (light : new.seat.me.1 ≡ old.seat.me.1)
+module _ (old new : Marker) (number : new.number ≡ old.number) (places : parts_of new.others.items ≡ parts_of old.others.items) (claim_table : arc_value new.claim_table ≡ arc_value old.claim_table) (table : new.seat.table_id ≡ old.seat.table_id) (light : new.seat.me.1 ≡ old.seat.me.1)
     (fifo : worker_flavor new.deque ≡ worker_flavor old.deque) (stealers : map (λ o. o.stealer) new.others.items ≡ map (λ o. o.stealer) old.others.items) where
   -- the words are the same, and so is the graph
   same_graph : graph_of new ≡ graph_of old
-  same_graph = ap (λ b. b.shared.key) board
+  same_graph = ap (λ b. b.shared.key) claim_table
 
   -- the passes are as many as before
   as_many : length new.others.items ≡ length old.others.items
   as_many = let a = length-map new.others.items (λ o. o.stealer) in let b = length-map old.others.items (λ o. o.stealer) in let e = ap length stealers in omega arith
 
   -- it stays seated
-  pub seated_after : (claims_of new).parts ≡ (claims_of old).parts → (own_hand new).graph ≡ (own_hand old).graph → (own_hand new).parts ≡ (own_hand old).parts → All (IsOther (graph_of old)) new.others.items → IsSeated old → IsSeated new
+  pub seated_after : (claims_of new).parts ≡ (claims_of old).parts → (own_pass_view new).graph ≡ (own_pass_view old).graph → (own_pass_view new).parts ≡ (own_pass_view old).parts → All (IsOther (graph_of old)) new.others.items → IsSeated old → IsSeated new
   seated_after part graph parts others s = record {
-    board = table ∙ s.board ∙ ap (λ b. b.shared.table_id) (sym board);
-    wide = ap (λ b. b.shared.table_id.words) board ∙ s.wide ∙ ap (λ g. node_count g / 64 + 1) (sym same_graph);
+    claim_table = table ∙ s.claim_table ∙ ap (λ b. b.shared.table_id) (sym claim_table);
+    wide = ap (λ b. b.shared.table_id.words) claim_table ∙ s.wide ∙ ap (λ g. node_count g / 64 + 1) (sym same_graph);
     part = part ∙ s.part;
     light = light ∙ s.light;
     fifo = fifo ∙ s.fifo;
@@ -55,45 +55,45 @@ saw_like : (g g' : Graph) (seen seen' nodes nodes' : List ℕ) → g' ≡ g → 
 saw_like g g' seen seen' nodes nodes' a b c h = subst (λ x. Saw x seen' nodes') (sym a) (subst (λ x. Saw g x nodes') (sym b) (subst (λ x. Saw g seen x) (sym c) h))
 
 -- with the same seat, hands and scans
-pub sound_like : (old new : Marker) → new.number ≡ old.number → parts_of new.others.items ≡ parts_of old.others.items → arc_value new.board ≡ arc_value old.board → new.seat ≡ old.seat → worker_flavor new.deque ≡ worker_flavor old.deque → map (λ o. o.stealer) new.others.items ≡ map (λ o. o.stealer) old.others.items
-    → own_hand new ≡ own_hand old → passes_of new ≡ passes_of old → scans_of new ≡ scans_of old → All (IsOther (graph_of old)) new.others.items → new.refused ≡ old.refused → IsSound old → IsSound new
-sound_like old new number places board seat fifo stealers own passes scans others refused s =
+pub sound_like : (old new : Marker) → new.number ≡ old.number → parts_of new.others.items ≡ parts_of old.others.items → arc_value new.claim_table ≡ arc_value old.claim_table → new.seat ≡ old.seat → worker_flavor new.deque ≡ worker_flavor old.deque → map (λ o. o.stealer) new.others.items ≡ map (λ o. o.stealer) old.others.items
+    → own_pass_view new ≡ own_pass_view old → passes_of new ≡ passes_of old → scans_of new ≡ scans_of old → All (IsOther (graph_of old)) new.others.items → new.refused ≡ old.refused → IsSound old → IsSound new
+sound_like old new number places claim_table seat fifo stealers own passes scans others refused s =
     let claims : claims_of new ≡ claims_of old = ap (λ x. x.me.0) seat in
     record {
-      seated = λ r. seated_after old new number places board (ap (λ x. x.table_id) seat) (ap (λ x. x.me.1) seat) fifo stealers (ap (λ (x : Claims). x.parts) claims) (ap (λ (x : Hand). x.graph) own) (ap (λ (x : Hand). x.parts) own) others (s.seated (sym refused ∙ r));
+      seated = λ r. seated_after old new number places claim_table (ap (λ x. x.table_id) seat) (ap (λ x. x.me.1) seat) fifo stealers (ap (λ (x : Claims). x.parts) claims) (ap (λ (x : PassView). x.graph) own) (ap (λ (x : PassView). x.parts) own) others (s.seated (sym refused ∙ r));
       keeps = λ r. let k = s.keeps (sym refused ∙ r) in record {
-        scanned = λ n. ap (times n) scans ∙ k.scanned n ∙ sym (λ i. times n (own i).taken + sum_by (λ (h : Hand). times n h.taken) (passes i));
-        saw = saw_like (graph_of old) (graph_of new) (claims_of old).seen (claims_of new).seen (scans_of old) (scans_of new) (ap (λ b. b.shared.key) board) (ap (λ (x : Claims). x.seen) claims) scans k.saw;
-        pushed = λ n. ap (λ (x : Hand). times n x.pushed) own ∙ k.pushed n ∙ sym (ap (λ (x : Claims). times n x.claimed) claims);
+        scanned = λ n. ap (times n) scans ∙ k.scanned n ∙ sym (λ i. times n (own i).taken + sum_by (λ (h : PassView). times n h.taken) (passes i));
+        saw = saw_like (graph_of old) (graph_of new) (claims_of old).seen (claims_of new).seen (scans_of old) (scans_of new) (ap (λ b. b.shared.key) claim_table) (ap (λ (x : Claims). x.seen) claims) scans k.saw;
+        pushed = λ n. ap (λ (x : PassView). times n x.pushed) own ∙ k.pushed n ∙ sym (ap (λ (x : Claims). times n x.claimed) claims);
       };
     }
 
 -- what a scan adds
 module _ (n : ℕ) (old new : Marker) (graph : graph_of new ≡ graph_of old) (k : Keeps old) (s : Scans n old new) where
   -- a scan takes nothing
-  own_taken : (own_hand new).taken ≡ s.mid.taken
-  own_taken = ap (λ (x : Hand). x.taken) s.grows.deque
+  own_taken : (own_pass_view new).taken ≡ s.mid.taken
+  own_taken = ap (λ (x : PassView). x.taken) s.grows.deque
 
   -- a take pushes nothing
-  pub mid_pushed : s.mid.pushed ≡ (own_hand old).pushed
-  mid_pushed = ⊎_elim (λ x. ap (λ (h : Hand). h.pushed) x.0) (λ x. ap (λ (h : Hand). h.pushed) x.0) s.taken
+  pub mid_pushed : s.mid.pushed ≡ (own_pass_view old).pushed
+  mid_pushed = ⊎_elim (λ x. ap (λ (h : PassView). h.pushed) x.0) (λ x. ap (λ (h : PassView). h.pushed) x.0) s.taken
 
   -- one node more was taken, from one deque
   more_taken : (x : ℕ) → taken_by x new ≡ taken_by x old + one_if n x
   more_taken x =
-      let own : times x (own_hand new).taken ≡ times x s.mid.taken = ap (times x) own_taken in
+      let own : times x (own_pass_view new).taken ≡ times x s.mid.taken = ap (times x) own_taken in
       ⊎_elim
-      (λ (a : (s.mid ≡ took n (own_hand old)) × (passes_of new ≡ passes_of old)).
-      let p : times x s.mid.taken ≡ times x ((own_hand old).taken ++ n ∷ []) = ap (λ (h : Hand). times x h.taken) a.0 in
-      let q = times_push x (own_hand old).taken n in
-      let r : sum_by (λ (h : Hand). times x h.taken) (passes_of new) ≡ sum_by (λ (h : Hand). times x h.taken) (passes_of old) = ap (λ l. sum_by (λ (h : Hand). times x h.taken) l) a.1 in
+      (λ (a : (s.mid ≡ took n (own_pass_view old)) × (passes_of new ≡ passes_of old)).
+      let p : times x s.mid.taken ≡ times x ((own_pass_view old).taken ++ n ∷ []) = ap (λ (h : PassView). times x h.taken) a.0 in
+      let q = times_push x (own_pass_view old).taken n in
+      let r : sum_by (λ (h : PassView). times x h.taken) (passes_of new) ≡ sum_by (λ (h : PassView). times x h.taken) (passes_of old) = ap (λ l. sum_by (λ (h : PassView). times x h.taken) l) a.1 in
       omega arith)
-      (λ (a : (s.mid ≡ own_hand old) × TookOne n (passes_of old) (passes_of new)).
-      let p : times x s.mid.taken ≡ times x (own_hand old).taken = ap (λ (h : Hand). times x h.taken) a.0 in
-      let v : Hand = a.1.1 in
-      let q = sum_set (λ (h : Hand). times x h.taken) (passes_of old) a.1.0 v (took n v) a.1.2 in
+      (λ (a : (s.mid ≡ own_pass_view old) × TookOne n (passes_of old) (passes_of new)).
+      let p : times x s.mid.taken ≡ times x (own_pass_view old).taken = ap (λ (h : PassView). times x h.taken) a.0 in
+      let v : PassView = a.1.1 in
+      let q = sum_set (λ (h : PassView). times x h.taken) (passes_of old) a.1.0 v (took n v) a.1.2 in
       let t = times_push x v.taken n in
-      let r : sum_by (λ (h : Hand). times x h.taken) (passes_of new) ≡ sum_by (λ (h : Hand). times x h.taken) (set (passes_of old) a.1.0 (took n v)) = ap (λ l. sum_by (λ (h : Hand). times x h.taken) l) a.1.3 in
+      let r : sum_by (λ (h : PassView). times x h.taken) (passes_of new) ≡ sum_by (λ (h : PassView). times x h.taken) (set (passes_of old) a.1.0 (took n v)) = ap (λ l. sum_by (λ (h : PassView). times x h.taken) l) a.1.3 in
       omega arith)
       s.taken
 
@@ -115,10 +115,10 @@ module _ (n : ℕ) (old new : Marker) (graph : graph_of new ≡ graph_of old) (k
     scanned = λ x. let a = more_taken x in let b = k.scanned x in let c = times_push x (scans_of old) n in let d = ap (times x) s.noted in omega arith;
     saw = saw_like (graph_of old) (graph_of new) ((claims_of old).seen ++ targets (graph_of old) n) (claims_of new).seen (scans_of old ++ n ∷ []) (scans_of new) graph seen_is s.noted saw_all;
     pushed = λ x.
-        let a : times x (own_hand new).pushed ≡ times x (s.mid.pushed ++ s.grows.more) = ap (λ (h : Hand). times x h.pushed) s.grows.deque in
+        let a : times x (own_pass_view new).pushed ≡ times x (s.mid.pushed ++ s.grows.more) = ap (λ (h : PassView). times x h.pushed) s.grows.deque in
         let b : times x (claims_of new).claimed ≡ times x ((claims_of old).claimed ++ s.grows.more) = ap (λ (v : Claims). times x v.claimed) s.grows.seat in
         let c = times-append x s.mid.pushed s.grows.more in let d = times-append x (claims_of old).claimed s.grows.more in
-        let e : times x s.mid.pushed ≡ times x (own_hand old).pushed = ap (times x) mid_pushed in
+        let e : times x s.mid.pushed ≡ times x (own_pass_view old).pushed = ap (times x) mid_pushed in
         let f = k.pushed x in
         omega arith;
   }
@@ -135,20 +135,20 @@ ok_fact (Ok x) P e h = h
 ok_fact (Err x) P e h = absurd (true≢false e)
 
 -- with the same words the graph is the same
-pub graph_kept : (old new : Marker) → arc_value new.board ≡ arc_value old.board → graph_of new ≡ graph_of old
+pub graph_kept : (old new : Marker) → arc_value new.claim_table ≡ arc_value old.claim_table → graph_of new ≡ graph_of old
 graph_kept old new e = ap (λ b. b.shared.key) e
 
 -- what the seat is, in what a scan grows from
-pub grows_from : (ts : List ℕ) (s s' : Seat (Unit {0}) Claims) (w : Claims) (a b : Hand) → s' ≡ s → Grows ts s'.me.0 w a b → Grows ts s.me.0 w a b
+pub grows_from : (ts : List ℕ) (s s' : Seat (Unit {0}) Claims) (w : Claims) (a b : PassView) → s' ≡ s → Grows ts s'.me.0 w a b → Grows ts s.me.0 w a b
 grows_from ts s s' w a b e h = subst (λ (x : Seat (Unit {0}) Claims). Grows ts x.me.0 w a b) e h
 
 -- after a scan
-pub sound_scanned : (n : ℕ) (old new : Marker) → new.number ≡ old.number → parts_of new.others.items ≡ parts_of old.others.items → arc_value new.board ≡ arc_value old.board → new.seat.table_id ≡ old.seat.table_id → new.seat.me.1 ≡ old.seat.me.1 → worker_flavor new.deque ≡ worker_flavor old.deque
+pub sound_scanned : (n : ℕ) (old new : Marker) → new.number ≡ old.number → parts_of new.others.items ≡ parts_of old.others.items → arc_value new.claim_table ≡ arc_value old.claim_table → new.seat.table_id ≡ old.seat.table_id → new.seat.me.1 ≡ old.seat.me.1 → worker_flavor new.deque ≡ worker_flavor old.deque
     → map (λ o. o.stealer) new.others.items ≡ map (λ o. o.stealer) old.others.items → All (IsOther (graph_of old)) new.others.items → new.refused ≡ old.refused → Scans n old new → IsSound old → IsSound new
-sound_scanned n old new number places board table light fifo stealers others refused s h =
-    let mid_parts : s.mid.parts ≡ (own_hand old).parts = ⊎_elim (λ x. ap (λ (h : Hand). h.parts) x.0) (λ x. ap (λ (h : Hand). h.parts) x.0) s.taken in
-    let mid_graph : s.mid.graph ≡ (own_hand old).graph = ⊎_elim (λ x. ap (λ (h : Hand). h.graph) x.0) (λ x. ap (λ (h : Hand). h.graph) x.0) s.taken in
+sound_scanned n old new number places claim_table table light fifo stealers others refused s h =
+    let mid_parts : s.mid.parts ≡ (own_pass_view old).parts = ⊎_elim (λ x. ap (λ (h : PassView). h.parts) x.0) (λ x. ap (λ (h : PassView). h.parts) x.0) s.taken in
+    let mid_graph : s.mid.graph ≡ (own_pass_view old).graph = ⊎_elim (λ x. ap (λ (h : PassView). h.graph) x.0) (λ x. ap (λ (h : PassView). h.graph) x.0) s.taken in
     record {
-      seated = λ r. seated_after old new number places board table light fifo stealers (ap (λ (x : Claims). x.parts) s.grows.seat) (ap (λ (x : Hand). x.graph) s.grows.deque ∙ mid_graph) (ap (λ (x : Hand). x.parts) s.grows.deque ∙ mid_parts) others (h.seated (sym refused ∙ r));
-      keeps = λ r. keeps_after n old new (graph_kept old new board) (h.keeps (sym refused ∙ r)) s;
+      seated = λ r. seated_after old new number places claim_table table light fifo stealers (ap (λ (x : Claims). x.parts) s.grows.seat) (ap (λ (x : PassView). x.graph) s.grows.deque ∙ mid_graph) (ap (λ (x : PassView). x.parts) s.grows.deque ∙ mid_parts) others (h.seated (sym refused ∙ r));
+      keeps = λ r. keeps_after n old new (graph_kept old new claim_table) (h.keeps (sym refused ∙ r)) s;
     }

@@ -9,7 +9,7 @@ use Rattle.atomic_table.specs.declared.shared.Seat.{Seat}
 use Rattle.mark_core.specs.declared.graph.Graph.{Graph}
 use Rattle.mark_core.specs.Bits.{bit_of, times}
 use Rattle.mark_core.specs.Reach.{Reached, node_count}
-use Rattle.steal_mark.specs.declared.claims.Claims.{Claims}
+use Rattle.steal_mark.specs.declared.shared.claims.Claims.{Claims}
 
 -- the view of a seat, of its parts and its two lists
 abbrev pub claims : ℕ → List ℕ → List ℕ → Claims

@@ -3,7 +3,7 @@ use Rattle.std.specs.Prelude.{◌≡◌}
 use Rattle.std.proofs.Common.{Global}
 use Rattle.atomic_table.specs.declared.owned.Table.{Table}
 use Rattle.atomic_table.specs.declared.shared.Seat.{Seat}
-use Rattle.steal_mark.specs.declared.hints.HintRule.{HintRule}
+use Rattle.steal_mark.specs.declared.shared.hints.HintRule.{HintRule}
 
 -- a seat at the busy word and the stop word
 abbrev pub IsHintSeat : Table (Unit {0}) (Unit {0}) (Unit {0}) HintRule Global → Seat (Unit {0}) (Unit {0}) → Type 0

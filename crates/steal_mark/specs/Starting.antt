@@ -3,16 +3,16 @@ use Rattle.std.specs.Prelude.{◌≡◌, ℕ, ◌+◌, ◌-◌, ◌<◌, Bool, t
 use Rattle.crossbeam_deque.specs.Handles.{view, IsPassOf, worker_deque, worker_flavor, worker_view, stealer_deque, stealer_flavor}
 use Rattle.mark_core.specs.declared.graph.Graph.{Graph}
 use Rattle.mark_core.specs.Bits.{times}
-use Rattle.steal_mark.specs.declared.claims.Claims.{Claims}
-use Rattle.steal_mark.specs.declared.marker.Marker.{Marker}
-use Rattle.steal_mark.specs.declared.other.Other.{Other}
-use Rattle.steal_mark.specs.declared.deal.Rest.{Rest}
-use Rattle.steal_mark.specs.Dealing.{hand}
-use Rattle.steal_mark.specs.Stealing.{hands}
+use Rattle.steal_mark.specs.declared.shared.claims.Claims.{Claims}
+use Rattle.steal_mark.specs.declared.turn.marker.Marker.{Marker}
+use Rattle.steal_mark.specs.declared.turn.thief_pass.ThiefPass.{ThiefPass}
+use Rattle.steal_mark.specs.declared.start.roots.Rest.{Rest}
+use Rattle.steal_mark.specs.Dealing.{pass_view}
+use Rattle.steal_mark.specs.Stealing.{pass_views}
 use Rattle.steal_mark.specs.Closing.{Id, IsOpen, IsRow, ids_of, pushed_in}
-use Rattle.steal_mark.specs.Working.{IsSound, claims_of, own_hand, scans_of}
+use Rattle.steal_mark.specs.Working.{IsSound, claims_of, own_pass_view, scans_of}
 use Rattle.steal_mark.specs.Team.{IsRest, IsOne, IsTeam, IsWilling}
-use Rattle.steal_mark.specs.Parts.{Board, Deque, Row}
+use Rattle.steal_mark.specs.Parts.{ClaimTable, Deque, PassRow}
 
 -- a deque of this graph, of which its worker has every part and has taken nothing
 pub record IsDealing (g : Graph) (d : Deque) : Type 0 where
@@ -36,21 +36,21 @@ part_of true = 0
 part_of false = 1
 
 -- a new pass on the deque, which has this part
-pub record IsCut (part : ℕ) (old new : Deque) (o : Other) : Type 0 where
+pub record IsCut (part : ℕ) (old new : Deque) (o : ThiefPass) : Type 0 where
   pub deque : stealer_deque o.stealer ≡ worker_deque old
   pub fifo : stealer_flavor o.stealer ≡ 0
   pub pass : IsPassOf (worker_deque old) o.pass
-  pub held : view o.pass ≡ hand part (worker_view old).graph [] []
-  pub left : worker_view new ≡ hand ((worker_view old).parts - part) (worker_view old).graph (worker_view old).pushed (worker_view old).taken
+  pub held : view o.pass ≡ pass_view part (worker_view old).graph [] []
+  pub left : worker_view new ≡ pass_view ((worker_view old).parts - part) (worker_view old).graph (worker_view old).pushed (worker_view old).taken
 
 -- the passes of a worker that has taken nothing
-pub record IsNewRow (g : Graph) (ids : List Id) (number : ℕ) (r : Row) : Type 0 where
+pub record IsNewRow (g : Graph) (ids : List Id) (number : ℕ) (r : PassRow) : Type 0 where
   pub row : IsRow g ids number r
-  pub untaken : (n : ℕ) → sum_by (λ h. times n h.taken) (hands r.items) ≡ 0
+  pub untaken : (n : ℕ) → sum_by (λ h. times n h.taken) (pass_views r.items) ≡ 0
 
 -- the passes of all workers, of which none has taken anything
-abbrev pub AreNewRows : Graph → List Id → List Row → Type 0
-AreNewRows g ids rows = (k : ℕ) (d : Row) → k < length rows → IsNewRow g ids k (slice_index_or rows k d)
+abbrev pub AreNewRows : Graph → List Id → List PassRow → Type 0
+AreNewRows g ids rows = (k : ℕ) (d : PassRow) → k < length rows → IsNewRow g ids k (slice_index_or rows k d)
 
 -- a deque of which nothing was taken, on which so many workers have a pass
 pub record IsSpread (g : Graph) (many : ℕ) (d : Deque) : Type 0 where
@@ -66,7 +66,7 @@ abbrev pub pushed_to : List Deque → List ℕ
 pushed_to deques = flat_map (λ (d : Deque). (worker_view d).pushed) deques
 
 -- a worker at this number that has taken no turn
-pub record IsStarted (b : Board) (ids : List Id) (number : ℕ) (m : Marker) : Type 0 where
+pub record IsStarted (b : ClaimTable) (ids : List Id) (number : ℕ) (m : Marker) : Type 0 where
   pub sound : IsSound m
   pub one : IsOne b ids m
   pub number_is : m.number ≡ number
@@ -76,7 +76,7 @@ pub record IsStarted (b : Board) (ids : List Id) (number : ℕ) (m : Marker) : T
 -- each root was claimed and pushed once, and nothing else
 pub record DealsOnce (g : Graph) (ms : List Marker) : Type 0 where
   pub claimed : (n : ℕ) → Contains g.roots.items n → sum_by (λ m. times n (claims_of m).claimed) ms ≡ 1
-  pub pushed : (n : ℕ) → sum_by (λ m. times n (own_hand m).pushed) ms ≡ sum_by (λ m. times n (claims_of m).claimed) ms
+  pub pushed : (n : ℕ) → sum_by (λ m. times n (own_pass_view m).pushed) ms ≡ sum_by (λ m. times n (claims_of m).claimed) ms
   pub only : (n : ℕ) → 0 < sum_by (λ m. times n (claims_of m).claimed) ms → Contains g.roots.items n
 
 -- a marking of the graph by so many workers, none of which has taken a turn
@@ -92,10 +92,10 @@ pub record Begins (g : Graph) (workers : ℕ) (r : Rest) (ms : List Marker) : Ty
 -- a new deque of this graph
 pub record IsFresh (g : Graph) (d : Deque) : Type 0 where
   pub fifo : worker_flavor d ≡ 0
-  pub held : worker_view d ≡ hand 1024 (Some g) [] []
+  pub held : worker_view d ≡ pass_view 1024 (Some g) [] []
 
 -- markers were made of the last deques, and these deques and rows are left
-pub record Starts (g : Graph) (b : Board) (ids : List Id) (v w : Claims) (deques : List Deque) (rows : List Row) (ms : List Marker) : Type 0 where
+pub record Starts (g : Graph) (b : ClaimTable) (ids : List Id) (v w : Claims) (deques : List Deque) (rows : List PassRow) (ms : List Marker) : Type 0 where
   pub opened : All (IsSpread g (length ids)) deques
   pub left : AreNewRows g ids rows
   pub many : length rows ≡ length deques

@@ -4,37 +4,37 @@ use mathlib.Core.Option.{some}
 use lib.ListN.{get_elem?}
 use Rattle.crossbeam_deque.specs.Handles.{view, IsPassOf, stealer_deque, stealer_flavor}
 use Rattle.mark_core.specs.declared.graph.Graph.{Graph}
-use Rattle.steal_mark.specs.declared.hands.Hand.{Hand}
-use Rattle.steal_mark.specs.declared.other.Other.{Other}
-use Rattle.steal_mark.specs.Dealing.{hand}
+use Rattle.steal_mark.specs.declared.shared.deques.PassView.{PassView}
+use Rattle.steal_mark.specs.declared.turn.thief_pass.ThiefPass.{ThiefPass}
+use Rattle.steal_mark.specs.Dealing.{pass_view}
 
 -- a pass on a deque of this graph's marking
-pub record IsOther (g : Graph) (o : Other) : Type 0 where
+pub record IsOther (g : Graph) (o : ThiefPass) : Type 0 where
   pub pass : IsPassOf (stealer_deque o.stealer) o.pass
   pub fifo : stealer_flavor o.stealer ≡ 0
   pub graph : (view o.pass).graph ≡ Some g
   pub unpushed : (view o.pass).pushed ≡ []
 
 -- what a pass has pushed and taken
-abbrev pub hand_of : Other → Hand
-hand_of o = view o.pass
+abbrev pub pass_view_of : ThiefPass → PassView
+pass_view_of o = view o.pass
 
 -- what each pass has pushed and taken
-abbrev pub hands : List Other → List Hand
-hands others = map hand_of others
+abbrev pub pass_views : List ThiefPass → List PassView
+pass_views others = map pass_view_of others
 
 -- how many parts each pass has
-abbrev pub parts_of : List Other → List ℕ
-parts_of others = map (λ (o : Other). (hand_of o).parts) others
+abbrev pub parts_of : List ThiefPass → List ℕ
+parts_of others = map (λ (o : ThiefPass). (pass_view_of o).parts) others
 
 -- a worker has one part of each deque, but none of its own beside the owner's
 abbrev pub IsPlaced : ℕ → List ℕ → Type 0
 IsPlaced number parts = (k : ℕ) → k < length parts → (k ≡ number → slice_index parts k ≡ 0) × (k ≢ number → slice_index parts k ≡ 1)
 
 -- the view after n was taken
-abbrev pub took : ℕ → Hand → Hand
-took n v = hand v.parts v.graph v.pushed (v.taken ++ n ∷ [])
+abbrev pub took : ℕ → PassView → PassView
+took n v = pass_view v.parts v.graph v.pushed (v.taken ++ n ∷ [])
 
 -- one of the passes has taken n
-abbrev pub TookOne : ℕ → List Hand → List Hand → Type 0
-TookOne n vs ws = (k : ℕ) × (v : Hand) × (get_elem? vs k ≡ some v) × (ws ≡ slice_set vs k (took n v))
+abbrev pub TookOne : ℕ → List PassView → List PassView → Type 0
+TookOne n vs ws = (k : ℕ) × (v : PassView) × (get_elem? vs k ≡ some v) × (ws ≡ slice_set vs k (took n v))

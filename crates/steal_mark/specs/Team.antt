@@ -6,19 +6,19 @@ use Rattle.atomic_table.specs.Seated.{TableId}
 use Rattle.mark_core.specs.declared.graph.Graph.{Graph}
 use Rattle.mark_core.specs.Bits.{bit_of, times}
 use Rattle.mark_core.specs.Reach.{IsInRange, Reached}
-use Rattle.steal_mark.specs.declared.claims.Claims.{Claims}
-use Rattle.steal_mark.specs.declared.deal.Rest.{Rest}
-use Rattle.steal_mark.specs.declared.marker.Marker.{Marker}
+use Rattle.steal_mark.specs.declared.shared.claims.Claims.{Claims}
+use Rattle.steal_mark.specs.declared.start.roots.Rest.{Rest}
+use Rattle.steal_mark.specs.declared.turn.marker.Marker.{Marker}
 use Rattle.steal_mark.specs.Claiming.{IsSeatOf}
 use Rattle.steal_mark.specs.Closing.{Id, listing}
 use Rattle.steal_mark.specs.Listing.{HoldsEachOnce}
 use Rattle.steal_mark.specs.Working.{IsSound, SameMarker, claims_of, graph_of}
-use Rattle.steal_mark.specs.Parts.{Board, Deque, NodeList, Row}
+use Rattle.steal_mark.specs.Parts.{ClaimTable, Deque, NodeList, PassRow}
 
 -- the kept seat has claimed nothing, has seen each root claimed, and has the parts that the workers' seats have not
 pub record IsRest (g : Graph) (r : Rest) : Type 0 where
-  pub graph : (arc_value r.board).shared.key ≡ g
-  pub seat : IsSeatOf g (arc_value r.board).shared.table_id r.seat
+  pub graph : (arc_value r.claim_table).shared.key ≡ g
+  pub seat : IsSeatOf g (arc_value r.claim_table).shared.table_id r.seat
   pub light : r.seat.me.1 ≡ []
   pub parts : r.seat.me.0.parts + r.workers ≡ 1024
   pub few : r.workers < 1024
@@ -26,8 +26,8 @@ pub record IsRest (g : Graph) (r : Rest) : Type 0 where
   pub roots : All (λ t. 0 < times t r.seat.me.0.seen) g.roots.items
 
 -- a worker of this marking, which has these deques
-pub record IsOne (b : Board) (ids : List Id) (m : Marker) : Type 0 where
-  pub board : arc_value m.board ≡ b
+pub record IsOne (b : ClaimTable) (ids : List Id) (m : Marker) : Type 0 where
+  pub claim_table : arc_value m.claim_table ≡ b
   pub deque : worker_deque m.deque ≡ slice_index_or ids m.number (worker_deque m.deque)
   pub order : map (λ o. stealer_deque o.stealer) m.others.items ≡ ids
 
@@ -40,7 +40,7 @@ pub record IsTeam (r : Rest) (ms : List Marker) : Type 0 where
   pub ids : List Id
   pub workers : length ids ≡ r.workers
   pub sound : All IsSound ms
-  pub each : All (IsOne (arc_value r.board) ids) ms
+  pub each : All (IsOne (arc_value r.claim_table) ids) ms
   pub order : length ms ≡ r.workers → Numbered ms
 
 -- it was not refused memory
@@ -60,7 +60,7 @@ pub record Joined (ms : List Marker) (v w : Claims) : Type 0 where
   pub seen : (n : ℕ) → times n w.seen ≡ times n v.seen + sum_by (λ m. times n (claims_of m).seen) ms
 
 -- the workers' deques, passes, lists and seats, apart
-pub record Apart (ms : List Marker) (deques : List Deque) (rows : List Row) (lists : List NodeList) (v w : Claims) : Type 0 where
+pub record Apart (ms : List Marker) (deques : List Deque) (rows : List PassRow) (lists : List NodeList) (v w : Claims) : Type 0 where
   pub deques_are : deques ≡ map (λ m. m.deque) ms
   pub rows_are : rows ≡ map (λ m. m.others) ms
   pub lists_are : lists ≡ map (λ m. m.scanned) ms

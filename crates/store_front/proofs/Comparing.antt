@@ -9,7 +9,7 @@ use Rattle.store_front.specs.Told.{Seat}
 use Rattle.store_front.specs.Parts.{part, told_of, IsPart, AreOpened}
 use Rattle.store_front.specs.Finish.{AreEach, OneDiffers}
 use Rattle.store_front.specs.Cursors.{IsUpTo, AreUpTo, AreEnded, IsShort}
-use Rattle.store_front.proofs.Each.{with, some_with, nat_lt_true}
+use Rattle.store_front.proofs.SessionCounts.{with, some_with, nat_lt_true}
 use Rattle.store_front.proofs.SessionParts.{skips, goes_on, differs, ends}
 
 -- ---- numbers that stand once

@@ -13,7 +13,7 @@ use Rattle.meta_types.specs.declared.reply.Reply.{Reply}
 use Rattle.meta_types.specs.declared.fault.Fault.{Fault}
 use Rattle.meta_types.specs.declared.fault.Fault.TheVariants.{InvalidArgument, NotFound, AlreadyExists, FailedPrecondition, BadLine, TooLong, OutOfMemory, NoWorker, BackendFailed, ReadFailed, WriteFailed, Mismatch}
 use Rattle.request_core.specs.Follows.{Store, Answers, Follows, Fails}
-use Rattle.store_front.specs.Kept.{kept_reply, Takes, log_after, reply_failures}
+use Rattle.store_front.specs.KeptAnswers.{kept_reply, Takes, log_after, reply_failures}
 use Rattle.store_front.specs.Parts.{AreOpened}
 use Rattle.std.proofs.lemmas.List.Elements.{All-append}
 

@@ -1,5 +1,5 @@
 pub mod SessionParts
-pub mod Each
+pub mod SessionCounts
 pub mod Growth
 pub mod Emptied
 pub mod ToldAll

@@ -8,7 +8,7 @@ use Rattle.meta_types.specs.Histories.{Entry}
 use Rattle.store_front.specs.Told.{Seat}
 use Rattle.store_front.specs.Parts.{part, told_of, IsPart, AreOpened}
 use Rattle.store_front.specs.Finish.{AreEach, told_to}
-use Rattle.store_front.proofs.Each.{with, nat_lt_true}
+use Rattle.store_front.proofs.SessionCounts.{with, nat_lt_true}
 
 abbrev one_if : Bool → ℕ
 one_if b = cond b 1 0

@@ -1,9 +1,9 @@
 -- Events and answers, as the definitions have them. Ours, unless a source stands beside.
 use Rattle.meta_types.specs.Steps.{Answer as Said, answered, reported, refused, Event as Happening, requested, collect, remove_collect}
-use Rattle.store_front.specs.declared.events.Event.{Event}
-use Rattle.store_front.specs.declared.events.Event.TheVariants as E
-use Rattle.store_front.specs.declared.events.Answer.{Answer}
-use Rattle.store_front.specs.declared.events.Answer.TheVariants as A
+use Rattle.store_front.specs.declared.event.event.Event.{Event}
+use Rattle.store_front.specs.declared.event.event.Event.TheVariants as E
+use Rattle.store_front.specs.declared.event.event.Answer.{Answer}
+use Rattle.store_front.specs.declared.event.event.Answer.TheVariants as A
 
 -- an event
 abbrev pub event_of : Event → Happening

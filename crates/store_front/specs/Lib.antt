@@ -2,7 +2,7 @@ pub mod Asked
 pub mod Told
 pub mod Entries
 pub mod Front
-pub mod Kept
+pub mod KeptAnswers
 pub mod Parts
 pub mod Finish
 pub mod Cursors

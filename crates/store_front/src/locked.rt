@@ -5,8 +5,8 @@ ghost use Rattle.meta_types.specs.Rows.{empty_store};
 ghost use Rattle.meta_types.specs.Sound.{IsSound};
 ghost use Rattle.meta_types.specs.declared.fault.Fault.TheVariants.{FailedPrecondition};
 
-use crate::base::Base;
-use crate::entries::Entry;
+use crate::event::entry::Entry;
+use crate::history::base::Base;
 use crate::keeps::{Keeps, Kept, Unkept};
 use crate::session::Session;
 use back_model::{

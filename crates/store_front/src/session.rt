@@ -1,7 +1,7 @@
 //! Sessions.
 ghost use Rattle.std.specs.Prelude.{◌≡◌};
 
-use crate::entries::Told;
+use crate::event::entry::Told;
 use std::marker::Model;
 use std::sync::ledger::{Ledger, Share};
 

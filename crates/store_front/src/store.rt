@@ -10,12 +10,12 @@ ghost use Rattle.meta_types.specs.Histories.{Entry};
 ghost use Rattle.meta_types.specs.Steps.{requested, collect, collect_fault, remove_collect, remove_collect_fault};
 ghost use Rattle.meta_types.specs.declared.fault.Fault.TheVariants.{InvalidArgument, FailedPrecondition};
 ghost use Rattle.request_core.specs.Follows.{Fails};
-ghost use Rattle.collecting.specs.Refused.{CollectFails};
-ghost use Rattle.store_front.specs.Kept.{kept_if, kept_reply, kept_report, Takes, list_after};
+ghost use Rattle.collection.specs.Refused.{CollectFails};
+ghost use Rattle.store_front.specs.KeptAnswers.{kept_if, kept_reply, kept_report, Takes, list_after};
 ghost use Rattle.store_front.specs.Finish.{IsHistory, AreOfThese, CutFails, FinishFails, fresh};
 ghost use Rattle.store_front.specs.Parts.{IsPart, part};
 
-use crate::base::History;
+use crate::history::base::History;
 use crate::keeps::{Keeps, Kept, Unkept};
 use crate::locked::Locked;
 use crate::session::Session;

@@ -7,8 +7,8 @@ use Rattle.std.proofs.lemmas.List.Elements.{filter_agree}
 use Rattle.meta_types.specs.Text.{Text}
 use Rattle.meta_types.specs.Rows.{Tables, BackSnap}
 use Rattle.meta_types.specs.Keys.{in_order}
-use Rattle.meta_types.specs.Backends.{no_objects, object_name, owns_snapshot, blob_stays, ingest_object_stays, snapshot_object_stays, is_below_one, goes_before}
-use Rattle.gc_graph.proofs.Places.{held_names}
+use Rattle.meta_types.specs.Backends.{no_objects, object_name, owns_snapshot, blob_stays, ingest_object_stays, snapshot_object_stays, is_ancestor_of_one, goes_before}
+use Rattle.gc_graph.proofs.RootPlaces.{held_names}
 use Rattle.table_sweep.specs.declared.owners.Object.{Object}
 use Rattle.table_sweep.specs.declared.owners.Object.TheVariants.{Blob, Begun, Snap}
 use Rattle.table_sweep.specs.Depths.{Listed, snap_of, key_of, is_first, key_name}
@@ -32,7 +32,7 @@ module _ (tables : Tables) (owners : List Object) (is : owners ≡ all_owners ta
   begun_goes_is number = ap not (ap (list_any (is_object (Begun number))) is ∙ owns_ingests tables.content tables.ingests tables.snapshots number ∙ sym (or_nothing _ false refl))
 
   snap_stays_is : (shards : List BackSnap) (snap : BackSnap) → snapshot_object_stays tables shards no_objects snap ≡ owns_snapshot tables snap
-  snap_stays_is shards snap = or_nothing (owns_snapshot tables snap || false) (is_below_one shards [] snap) (none_any shards) ∙ or_nothing (owns_snapshot tables snap) false refl
+  snap_stays_is shards snap = or_nothing (owns_snapshot tables snap || false) (is_ancestor_of_one shards [] snap) (none_any shards) ∙ or_nothing (owns_snapshot tables snap) false refl
 
   snap_goes_is : (shards : List Listed) (s : Listed) → snap_goes owners s ≡ not (snapshot_object_stays tables (map snap_of shards) no_objects (snap_of s))
   snap_goes_is shards s = ap not (ap (list_any (is_object (Snap s.0 s.1))) is ∙ owns_snapshots tables.content tables.ingests tables.snapshots s.0 s.1 ∙ sym (snap_stays_is (map snap_of shards) (snap_of s)))

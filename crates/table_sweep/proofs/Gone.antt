@@ -1,9 +1,9 @@
 -- Names of the rows that a mask leaves out.
 use Rattle.std.proofs.Common.{◌≡◌, ℕ, ◌+◌, ◌<◌, Bool, true, false, List, [], ◌∷◌, ◌++◌, map, length, get_or, take, refl, sym, ap, ◌∙◌, arith, if◌then◌else◌}
 use Rattle.std.proofs.lemmas.List.{length-take-le, map-append, get_or_default}
-use Rattle.gc_graph.proofs.Numbers.{take_next}
+use Rattle.gc_graph.proofs.BookNumbers.{take_next}
 use Rattle.table_sweep.specs.Masks.{gone}
-use Rattle.table_sweep.proofs.Kept.{gone_next}
+use Rattle.table_sweep.proofs.MasksFilter.{gone_next}
 
 map_if : {Row Name : Type 0} (name : Row → Name) (b : Bool) (row : Row) → map name (if b then [] else row ∷ []) ≡ (if b then [] else name row ∷ [])
 map_if name true row = refl

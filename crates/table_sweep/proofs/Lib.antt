@@ -1,5 +1,5 @@
 pub mod Numbered
-pub mod Kept
+pub mod MasksFilter
 pub mod Swept
 pub mod Gone
 pub mod Counted
@@ -7,7 +7,7 @@ pub mod Owning
 pub mod Named
 pub mod Steps
 pub mod Deep
-pub mod InOrder
+pub mod SortedObjects
 pub mod NumberOrder
 pub mod KeyOrder
 pub mod Goes

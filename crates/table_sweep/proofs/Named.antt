@@ -8,10 +8,10 @@ use Rattle.std.proofs.lemmas.Bool.Decides.{Decides-eqb}
 use Rattle.std.proofs.lemmas.Slice.Eq.{bytes_eq-Decides}
 use Rattle.std.proofs.lemmas.List.{length-take-le}
 use Rattle.meta_types.specs.Text.{Text}
-use Rattle.gc_graph.proofs.Numbers.{take_next}
+use Rattle.gc_graph.proofs.BookNumbers.{take_next}
 use Rattle.table_sweep.specs.Depths.{Listed}
 use Rattle.table_sweep.specs.declared.places.SnapName.{SnapName}
-use Rattle.table_sweep.specs.Places.{is_name, place_in, put_place, has_name, Finds, name_of, above_in, above_place}
+use Rattle.table_sweep.specs.SnapshotPlaces.{is_name, place_in, put_place, has_name, Finds, name_of, above_in, above_place}
 use Rattle.table_sweep.specs.contracts.places.SnapNamePartialEq.TheImpl as name_eq
 use Rattle.table_sweep.proofs.Owning.{bytes_turned, number_turned}
 

@@ -10,7 +10,7 @@ use Rattle.meta_types.specs.Ops.Snapshots.{is_committed}
 use Rattle.meta_types.specs.Sound.{HasParent, AreNumbered}
 use Rattle.meta_types.specs.declared.rows.IngestRow.{IngestRow}
 use Rattle.meta_types.specs.declared.rows.SnapRow.{SnapRow}
-use Rattle.meta_types.proofs.Found.{all_left}
+use Rattle.meta_types.proofs.ListSearches.{all_left}
 use Rattle.meta_types.proofs.TablesAfter.{same_parent}
 use Rattle.mark_core.specs.declared.graph.Graph.{Graph}
 use Rattle.mark_core.specs.Reach.{Reached}

@@ -12,7 +12,7 @@ use Rattle.meta_types.specs.declared.rows.ContentRow.{ContentRow}
 use Rattle.meta_types.specs.declared.rows.IngestRow.{IngestRow}
 use Rattle.meta_types.specs.declared.rows.SnapRow.{SnapRow}
 use Rattle.object_tables.specs.Calls.{kept}
-use Rattle.gc_graph.proofs.Numbers.{take_next}
+use Rattle.gc_graph.proofs.BookNumbers.{take_next}
 use Rattle.table_sweep.specs.Owned.{is_object, put_object, blob, begun, snap}
 use Rattle.table_sweep.specs.declared.owners.Object.{Object}
 use Rattle.table_sweep.specs.declared.owners.Object.TheVariants.{Blob, Begun, Snap}

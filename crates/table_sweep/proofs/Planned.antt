@@ -14,7 +14,7 @@ use Rattle.table_sweep.specs.declared.masks.Masks.{Masks}
 use Rattle.table_sweep.specs.Masks.{gone}
 use Rattle.table_sweep.specs.Stays.{AreMasks, FitRows, gone_names, kept_counts}
 use Rattle.table_sweep.specs.Backed.{left_by}
-use Rattle.table_sweep.proofs.Kept.{kept_is, gone_is}
+use Rattle.table_sweep.proofs.MasksFilter.{kept_is, gone_is}
 use Rattle.table_sweep.proofs.Counted.{count_of}
 
 gone_by : {Row Name : Type 0} (name : Row → Name) (stays : Row → Bool) (rows : List Row) (mask : List Bool) → mask ≡ map stays rows → map name (gone mask rows) ≡ map name (filter (λ row. not (stays row)) rows)

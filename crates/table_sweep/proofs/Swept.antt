@@ -8,7 +8,7 @@ use Rattle.object_tables.specs.Calls.{kept}
 use Rattle.lease_book.specs.Calls.{kept as kept_leases}
 use Rattle.table_sweep.specs.Stays.{AreMasks, Collection, StayNumbered}
 use Rattle.table_sweep.specs.declared.masks.Masks.{Masks}
-use Rattle.table_sweep.proofs.Kept.{kept_is, kept_leases_is}
+use Rattle.table_sweep.proofs.MasksFilter.{kept_is, kept_leases_is}
 use Rattle.table_sweep.proofs.Fitting.{numbered_as}
 
 abbrev with_images : Tables → List Bool → Tables

@@ -17,12 +17,12 @@ snap_of s = record { snapshotter = s.0; number = s.1; parent = s.2 }
 
 -- the snapshot's parent among these (containerd snapshots service, parents)
 abbrev pub above_of : List Listed → Listed → Option Listed
-above_of shards snap = option_and_then (λ number. find (λ s. bytes_eq s.0 snap.0 && s.1 == number) shards) snap.2
+above_of snapshots snap = option_and_then (λ number. find (λ s. bytes_eq s.0 snap.0 && s.1 == number) snapshots) snap.2
 
 -- how many ancestors it has, at most so many
 abbrev pub depth_in : ℕ → List Listed → Listed → ℕ
-depth_in zero shards snap = zero
-depth_in (suc most) shards snap = option_map_or (λ above. suc (depth_in most shards above)) (above_of shards snap) zero
+depth_in zero snapshots snap = zero
+depth_in (suc most) snapshots snap = option_map_or (λ above. suc (depth_in most snapshots above)) (above_of snapshots snap) zero
 
 -- a snapshot with its depth, which order it among those that go
 abbrev pub key_at : Listed → ℕ → Key
@@ -30,7 +30,7 @@ key_at snap depth = record { snapshotter = snap.0; depth = depth; number = snap.
 
 -- what orders a snapshot that goes
 abbrev pub key_of : List Listed → Listed → Key
-key_of shards snap = key_at snap (depth_in (length shards) shards snap)
+key_of snapshots snap = key_at snap (depth_in (length snapshots) snapshots snap)
 
 -- by snapshotter, then the deepest first, then by number (children before parents: containerd snapshots service)
 abbrev pub is_first : Key → Key → Bool

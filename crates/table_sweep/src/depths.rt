@@ -3,7 +3,7 @@ ghost use Rattle.std.specs.Prelude.{◌≡◌, map, length, slice_get, None, IfO
 ghost use Rattle.meta_types.specs.Faults.{Refuses};
 ghost use Rattle.meta_types.specs.Keys.{in_order};
 ghost use Rattle.table_sweep.specs.Depths.{depth_in, is_first, key_cmp, key_name};
-ghost use Rattle.table_sweep.specs.Places.{above_from, deep, depths_to};
+ghost use Rattle.table_sweep.specs.SnapshotPlaces.{above_from, deep, depths_to};
 
 use crate::places::aboves_of;
 use meta_types::{Fault, ShortName};
@@ -71,12 +71,12 @@ fn depths_in(alloc: Global, aboves: &[Option<usize>]) -> Result<Vec<usize>, Faul
 
 // How many ancestors each snapshot has; parents are followed at most as often as there are
 // snapshots.
-pub(crate) fn depths_of(alloc: Global, shards: &[BackSnap]) -> Result<Vec<usize>, Fault>
+pub(crate) fn depths_of(alloc: Global, snapshots: &[BackSnap]) -> Result<Vec<usize>, Fault>
     ensures fault { Refuses result None }
     ensures ok { IfOk result (λ depths. depths.items
-        ≡ map (depth_in (length shards.now) shards.now) shards.now) }
+        ≡ map (depth_in (length snapshots.now) snapshots.now) snapshots.now) }
 {
-    let aboves = aboves_of(alloc, shards)?;
+    let aboves = aboves_of(alloc, snapshots)?;
     let depths = depths_in(alloc, &aboves)?;
     Ok(depths)
 }

@@ -97,28 +97,28 @@ fn push_key(
 fn keys_in(
     alloc: Global,
     owners: &Owners,
-    shards: &[BackSnap],
+    snapshots: &[BackSnap],
     depths: &[usize],
 ) -> Result<Vec<Key>, Fault>
-    requires { depths.now ≡ map (depth_in (length shards.now) shards.now) shards.now }
+    requires { depths.now ≡ map (depth_in (length snapshots.now) snapshots.now) snapshots.now }
     ensures fault { Refuses result None }
     ensures ok { IfOk result (λ v. v.items ≡ flat_map
-        (λ s. if snap_goes owners.now s then key_of shards.now s ∷ [] else []) shards.now) }
+        (λ s. if snap_goes owners.now s then key_of snapshots.now s ∷ [] else []) snapshots.now) }
 {
     let mut keys = Vec::new(alloc);
-    for (i, snap) in shards.iter().enumerate() {
+    for (i, snap) in snapshots.iter().enumerate() {
         push_key(owners, snap, depths[i], &mut keys)?;
     }
     Ok(keys)
 }
 
-fn keys_gone(alloc: Global, owners: &Owners, shards: &[BackSnap]) -> Result<Vec<Key>, Fault>
+fn keys_gone(alloc: Global, owners: &Owners, snapshots: &[BackSnap]) -> Result<Vec<Key>, Fault>
     ensures fault { Refuses result None }
     ensures ok { IfOk result (λ v. v.items ≡ flat_map
-        (λ s. if snap_goes owners.now s then key_of shards.now s ∷ [] else []) shards.now) }
+        (λ s. if snap_goes owners.now s then key_of snapshots.now s ∷ [] else []) snapshots.now) }
 {
-    let depths = depths_of(alloc, shards)?;
-    let keys = keys_in(alloc, owners, shards, &depths)?;
+    let depths = depths_of(alloc, snapshots)?;
+    let keys = keys_in(alloc, owners, snapshots, &depths)?;
     Ok(keys)
 }
 

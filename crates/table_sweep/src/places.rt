@@ -1,7 +1,7 @@
 //! Where backend snapshots and their parents stand in the backend's list.
 ghost use Rattle.std.specs.Prelude.{◌≡◌, [], map, OnOk, None, IfOk};
 ghost use Rattle.meta_types.specs.Faults.{Refuses};
-ghost use Rattle.table_sweep.specs.Places.{put_place, place_in, Finds, above_in, above_place};
+ghost use Rattle.table_sweep.specs.SnapshotPlaces.{put_place, place_in, Finds, above_in, above_place};
 
 use crate::depths::BackSnap;
 use indexmap::IndexMap;
@@ -58,12 +58,12 @@ impl Places {
 }
 
 // The place of the first snapshot of each name.
-fn places_of(alloc: Global, shards: &[BackSnap]) -> Result<Places, Fault>
+fn places_of(alloc: Global, snapshots: &[BackSnap]) -> Result<Places, Fault>
     ensures fault { Refuses result None }
-    ensures ok { IfOk result (λ places. Finds places shards.now) }
+    ensures ok { IfOk result (λ places. Finds places snapshots.now) }
 {
-    let mut places = Places::with_room(alloc, shards.len())?;
-    for (i, snap) in shards.iter().enumerate() {
+    let mut places = Places::with_room(alloc, snapshots.len())?;
+    for (i, snap) in snapshots.iter().enumerate() {
         let name = SnapName {
             snapshotter: snap.0.copy()?,
             number: snap.1,
@@ -92,24 +92,24 @@ fn above(places: &Places, snap: &BackSnap) -> Result<Option<usize>, Fault>
 fn aboves_in(
     alloc: Global,
     places: &Places,
-    shards: &[BackSnap],
+    snapshots: &[BackSnap],
 ) -> Result<Vec<Option<usize>>, Fault>
     ensures fault { Refuses result None }
-    ensures ok { IfOk result (λ aboves. aboves.items ≡ map (above_in places.now) shards.now) }
+    ensures ok { IfOk result (λ aboves. aboves.items ≡ map (above_in places.now) snapshots.now) }
 {
-    let mut aboves = Vec::with_capacity(alloc, shards.len())?;
-    for snap in shards {
+    let mut aboves = Vec::with_capacity(alloc, snapshots.len())?;
+    for snap in snapshots {
         aboves.push(above(places, snap)?)?;
     }
     Ok(aboves)
 }
 
 // For each snapshot the place of its parent, where it has one that is listed.
-pub(crate) fn aboves_of(alloc: Global, shards: &[BackSnap]) -> Result<Vec<Option<usize>>, Fault>
+pub(crate) fn aboves_of(alloc: Global, snapshots: &[BackSnap]) -> Result<Vec<Option<usize>>, Fault>
     ensures fault { Refuses result None }
-    ensures ok { IfOk result (λ aboves. aboves.items ≡ map (above_place shards.now) shards.now) }
+    ensures ok { IfOk result (λ aboves. aboves.items ≡ map (above_place snapshots.now) snapshots.now) }
 {
-    let places = places_of(alloc, shards)?;
-    let aboves = aboves_in(alloc, &places, shards)?;
+    let places = places_of(alloc, snapshots)?;
+    let aboves = aboves_in(alloc, &places, snapshots)?;
     Ok(aboves)
 }

@@ -6,7 +6,7 @@ use Rattle.meta_types.specs.Labels.{labels_of, are_labels, put_label}
 use Rattle.meta_types.specs.Rows.{State, container_key}
 use Rattle.meta_types.specs.Changes.{with_containers, is_allowed_if, all_of}
 use Rattle.meta_types.specs.Ops.{Outcome, done, labelled, row_reply, names_in, lacks}
-use Rattle.meta_types.specs.declared.reply.Row.TheVariants as W
+use Rattle.meta_types.specs.declared.reply.ReplyRow.TheVariants as W
 use Rattle.meta_types.specs.declared.reply.Reply.TheVariants as R
 
 -- adds a container; snapshotter and key stand together or not at all, and the snapshot needn't be stored (Create)

@@ -7,7 +7,7 @@ use Rattle.meta_types.specs.Rows.{State, content_key}
 use Rattle.meta_types.specs.Changes.{with_content, with_blob, holding, is_allowed_if, all_of}
 use Rattle.meta_types.specs.Ops.{Outcome, done, labelled, row_reply, names_in, lacks}
 use Rattle.meta_types.specs.declared.resource.Resource.TheVariants.{Content}
-use Rattle.meta_types.specs.declared.reply.Row.TheVariants as W
+use Rattle.meta_types.specs.declared.reply.ReplyRow.TheVariants as W
 use Rattle.meta_types.specs.declared.reply.Reply.TheVariants as R
 
 -- adds content to a namespace, makes its blob where the backend doesn't hold it, and gives it to the lease (containerd content-flow.md)

@@ -11,7 +11,7 @@ use Rattle.meta_types.specs.Changes.{with_content, with_ingests, with_blob, with
 use Rattle.meta_types.specs.Ops.{Outcome, Findings, in_store, done, row_reply, names_in, lacks}
 use Rattle.meta_types.specs.declared.instant.Instant.{Instant}
 use Rattle.meta_types.specs.declared.resource.Resource.TheVariants.{Content, Ingest}
-use Rattle.meta_types.specs.declared.reply.Row.TheVariants as W
+use Rattle.meta_types.specs.declared.reply.ReplyRow.TheVariants as W
 use Rattle.meta_types.specs.declared.reply.Reply.TheVariants as R
 
 -- an ingest that was begun at this time ends 24 hours later (containerd content-flow.md: ingests are cleaned up after a day)

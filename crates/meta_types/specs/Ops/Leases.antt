@@ -6,9 +6,9 @@ use Rattle.meta_types.specs.Keys.{row_at, has_row, add_row, remove_row, change_r
 use Rattle.meta_types.specs.Labels.{labels_of, are_labels, put_label}
 use Rattle.meta_types.specs.Resources.{resource_of}
 use Rattle.meta_types.specs.Rows.{State, lease_key}
-use Rattle.meta_types.specs.Changes.{with_leases, holds_in, hold_in, drop_in, all_of}
+use Rattle.meta_types.specs.Changes.{with_leases, lease_holds, hold_in_lease, release_in_lease, all_of}
 use Rattle.meta_types.specs.Ops.{Outcome, done, labelled, row_reply, names_in, lacks}
-use Rattle.meta_types.specs.declared.reply.Row.TheVariants as W
+use Rattle.meta_types.specs.declared.reply.ReplyRow.TheVariants as W
 use Rattle.meta_types.specs.declared.reply.Reply.TheVariants as R
 
 -- adds a lease that holds nothing yet (Create)
@@ -69,17 +69,17 @@ holds_resource state ns id kind text =
     record (done state) {
       invalid = not (all_of (is_short_name ns ∷ is_name id ∷ is_some (resource_of kind text) ∷ []));
       missing = not (has_row lease_key (ns ∷ id ∷ []) rows);
-      after = with_leases state (option_map_or (λ resource. hold_in (ns ∷ id ∷ []) resource rows) (resource_of kind text) rows);
+      after = with_leases state (option_map_or (λ resource. hold_in_lease (ns ∷ id ∷ []) resource rows) (resource_of kind text) rows);
     }
 
 -- takes a resource from a lease that holds it (DeleteResource)
-abbrev pub drops_resource : State → Text → Text → Text → Text → Outcome
-drops_resource state ns id kind text =
+abbrev pub releases_resource : State → Text → Text → Text → Text → Outcome
+releases_resource state ns id kind text =
     let rows = state.records.leases in
     record (done state) {
       invalid = not (all_of (is_short_name ns ∷ is_name id ∷ is_some (resource_of kind text) ∷ []));
-      missing = not (option_map_or (λ resource. holds_in (ns ∷ id ∷ []) resource rows) (resource_of kind text) false);
-      after = with_leases state (option_map_or (λ resource. drop_in (ns ∷ id ∷ []) resource rows) (resource_of kind text) rows);
+      missing = not (option_map_or (λ resource. lease_holds (ns ∷ id ∷ []) resource rows) (resource_of kind text) false);
+      after = with_leases state (option_map_or (λ resource. release_in_lease (ns ∷ id ∷ []) resource rows) (resource_of kind text) rows);
     }
 
 -- what a lease holds, by types and ids (ListResources)

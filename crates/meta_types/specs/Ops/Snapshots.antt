@@ -13,7 +13,7 @@ use Rattle.meta_types.specs.declared.rows.SnapRow.{SnapRow}
 use Rattle.meta_types.specs.declared.rows.SnapKind.{SnapKind}
 use Rattle.meta_types.specs.declared.rows.SnapKind.TheVariants.{Active, View, Committed}
 use Rattle.meta_types.specs.declared.resource.Resource.TheVariants.{Snapshot}
-use Rattle.meta_types.specs.declared.reply.Row.TheVariants as W
+use Rattle.meta_types.specs.declared.reply.ReplyRow.TheVariants as W
 use Rattle.meta_types.specs.declared.reply.Reply.TheVariants as R
 
 -- others may stand over the snapshot (KindCommitted)

@@ -3,7 +3,7 @@ use Rattle.std.proofs.lemmas.List.{take_all}
 use Rattle.meta_types.specs.Rows.{BackSnap}
 use Rattle.back_model.specs.Snaps.{parent_of}
 use Rattle.back_model.specs.Shown.{listed_snap, back_snap}
-use Rattle.back_model.proofs.Known.{numbered}
+use Rattle.back_model.proofs.HeldParents.{numbered}
 use Rattle.back_model.proofs.lists.push_snaps.Goals as goal
 
 -- the numbers with their parents are the shard's snapshots

@@ -1,6 +1,6 @@
 use Rattle.std.proofs.Common.{rules, ◌≡◌, ◌∙◌, sym, ap, arith, append_assoc, ◌++◌, ◌∷◌, [], bytes_eq}
 use Rattle.std.proofs.lemmas.Slice.Eq.{bytes_eq-Decides}
-use Rattle.backend_sweep.proofs.Each.{begun, room, more_removed, more_failed}
+use Rattle.backend_sweep.proofs.SweptLists.{begun, room, more_removed, more_failed}
 use Rattle.backend_sweep.proofs.singles.sweep_blobs.Goals as goal
 
 pub loop-digest-init : goal.loop-digest-init

@@ -1,7 +1,7 @@
 use Rattle.std.proofs.Common.{rules, ◌≡◌, ◌∙◌, sym, ap, arith, append_assoc, ◌++◌, ◌∷◌, []}
 use Rattle.std.proofs.lemmas.Bool.Decides.{Decides-eqb}
 use Rattle.backend_sweep.specs.Shards.{is_number}
-use Rattle.backend_sweep.proofs.Each.{begun, room, more_removed, more_failed}
+use Rattle.backend_sweep.proofs.SweptLists.{begun, room, more_removed, more_failed}
 use Rattle.backend_sweep.proofs.singles.sweep_ingests.Goals as goal
 
 pub loop-number-init : goal.loop-number-init

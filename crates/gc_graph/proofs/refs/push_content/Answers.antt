@@ -2,7 +2,7 @@ use Rattle.std.proofs.Common.{List, ℕ}
 use Rattle.meta_types.specs.Text.{is_digest}
 use Rattle.meta_types.specs.declared.resource.Resource.TheVariants.{Content}
 use Rattle.gc_graph.specs.Targets.{node}
-use Rattle.gc_graph.proofs.Numbers.{nothing_more, refused_unless}
+use Rattle.gc_graph.proofs.BookNumbers.{nothing_more, refused_unless}
 use Rattle.gc_graph.proofs.refs.push_content.Goals as goal
 
 pub returns-in-Err-InvalidArgument-clause-ok : goal.returns-in-Err-InvalidArgument-clause-ok

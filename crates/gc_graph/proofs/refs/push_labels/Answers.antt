@@ -3,7 +3,7 @@ use Rattle.std.proofs.lemmas.List.{map-append}
 use Rattle.meta_types.specs.Text.{Text, texts_of}
 use Rattle.gc_graph.specs.Targets.{content_target, snapshot_target, label_targets}
 use Rattle.gc_graph.specs.Built.{numbers_in}
-use Rattle.gc_graph.proofs.Numbers.{label_step, take_next}
+use Rattle.gc_graph.proofs.BookNumbers.{label_step, take_next}
 use Rattle.gc_graph.proofs.refs.push_labels.Goals as goal
 
 pub loop-entry-preserved : goal.loop-entry-preserved

@@ -3,7 +3,7 @@ use Rattle.std.proofs.lemmas.Bool.{and_left, and_right}
 use Rattle.meta_types.specs.Text.{is_short_name, is_name}
 use Rattle.meta_types.specs.declared.resource.Resource.TheVariants.{Snapshot}
 use Rattle.gc_graph.specs.Targets.{node}
-use Rattle.gc_graph.proofs.Numbers.{nothing_more, refused_unless}
+use Rattle.gc_graph.proofs.BookNumbers.{nothing_more, refused_unless}
 use Rattle.gc_graph.proofs.refs.push_snapshot.Goals as goal
 
 pub returns-in-Err-InvalidArgument-read-clause-ok : goal.returns-in-Err-InvalidArgument-read-clause-ok

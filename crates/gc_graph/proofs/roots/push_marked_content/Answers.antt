@@ -1,7 +1,7 @@
 use Rattle.std.proofs.Common.{arith, Bor}
 use Rattle.meta_types.specs.CollectorLabels.{is_marked_root}
 use Rattle.meta_types.specs.declared.rows.ContentRow.{ContentRow}
-use Rattle.gc_graph.proofs.Places.{places_step}
+use Rattle.gc_graph.proofs.RootPlaces.{places_step}
 use Rattle.gc_graph.proofs.roots.push_marked_content.Goals as goal
 
 pub loop-row-preserved : goal.loop-row-preserved

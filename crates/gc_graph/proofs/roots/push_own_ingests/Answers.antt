@@ -1,7 +1,7 @@
 use Rattle.std.proofs.Common.{arith, Bor}
 use Rattle.meta_types.specs.Paths.{ingest_holds_itself}
 use Rattle.meta_types.specs.declared.rows.IngestRow.{IngestRow}
-use Rattle.gc_graph.proofs.Places.{places_step}
+use Rattle.gc_graph.proofs.RootPlaces.{places_step}
 use Rattle.gc_graph.proofs.roots.push_own_ingests.Goals as goal
 
 pub loop-row-preserved : goal.loop-row-preserved

@@ -1,4 +1,4 @@
-use Rattle.gc_graph.proofs.Places.{resource_step}
+use Rattle.gc_graph.proofs.RootPlaces.{resource_step}
 use Rattle.gc_graph.proofs.roots.push_resources.Goals as goal
 
 pub loop-resource-preserved : goal.loop-resource-preserved

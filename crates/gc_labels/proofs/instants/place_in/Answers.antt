@@ -1,7 +1,7 @@
 use Rattle.std.proofs.Common.{◌≡◌, ◌∙◌, sym, ap, rules, to_z, of_z, w32, Some, ℤ, ◌*◌, ◌+◌}
 use Rattle.std.proofs.lemmas.List.{take_rest}
 use Rattle.meta_types.specs.Time.{has_fraction, fraction_in, fraction_of}
-use Rattle.gc_labels.proofs.Places.{unformed, short_unformed, unfractioned, placed}
+use Rattle.gc_labels.proofs.InstantParts.{unformed, short_unformed, unfractioned, placed}
 use Rattle.gc_labels.proofs.instants.place_in.Goals as goal
 use Rattle.gc_labels.proofs.instants.place_in.Goals.{then-text-lt19-via-then-text-lt19, then-text-lt19-via-else-text-lt19+then-not-has_form}
 

@@ -4,7 +4,7 @@ use mir.Syntax.{w128}
 use Rattle.std.specs.Prelude.{ℤ}
 use Rattle.meta_types.specs.Time.{zone_in, offset_of}
 use Rattle.gc_labels.specs.Dates.{place_in}
-use Rattle.gc_labels.proofs.Places.{no_place, no_offset, instant_at}
+use Rattle.gc_labels.proofs.InstantParts.{no_place, no_offset, instant_at}
 use Rattle.gc_labels.proofs.instants.read_instant.Goals as goal
 
 -- the text has no place

@@ -5,7 +5,7 @@ use Rattle.mark_core.specs.declared.event.MarkEvent.{MarkEvent}
 use Rattle.mark_core.specs.declared.event.MarkEvent.TheVariants.{Look}
 use Rattle.mark_core.specs.Machine.{Machine, machine_start, Step, IsForbidden, IsFirstBad}
 use Rattle.mark_core.specs.Reach.{node_count}
-use Rattle.mark_core.specs.Boards.{machine_of, Answers}
+use Rattle.mark_core.specs.MachineStates.{machine_of, Answers}
 use Rattle.mark_core.proofs.BitLemmas.{HasRoom-same}
 use Rattle.mark_core.proofs.Keeping.{Keeps}
 use Rattle.mark_core.proofs.Starting.{start_keeps}
@@ -25,9 +25,9 @@ returns-then-not-branch-clause-fault c =
     let events : List MarkEvent = c.args.events.now in
     let k : ℕ = c.loop-event.event-index in
     let event : MarkEvent = get_or events k (Look 0 0) in
-    let mid : Machine = machine_of c.loop-event.board in
+    let mid : Machine = machine_of c.loop-event.machine_state in
     let bad : IsForbidden g mid event =
-    subst (λ b. Answers g event c.loop-event.board b c.step.new.self) c.if-not-branch.true
+    subst (λ b. Answers g event c.loop-event.machine_state b c.step.new.self) c.if-not-branch.true
     c.in_ok-step.ensures.answer in (
       search rules,
       subst (IsFirstBad g m events) (sym c.loop-event.invariant.place)
@@ -43,25 +43,25 @@ loop-event-preserved c =
     let events : List MarkEvent = c.args.events.now in
     let k : ℕ = c.loop-event.event-index in
     let event : MarkEvent = get_or events k (Look 0 0) in
-    let mid : Machine = machine_of c.loop-event.board in
+    let mid : Machine = machine_of c.loop-event.machine_state in
     let new : Machine = machine_of c.step.new.self in
     let done : Step g mid event new =
-    subst (λ b. Answers g event c.loop-event.board b c.step.new.self) c.if-not-branch.false
+    subst (λ b. Answers g event c.loop-event.machine_state b c.step.new.self) c.if-not-branch.false
     c.in_ok-step.ensures.answer in
     record {
       place = ap (λ i. i + 1) c.loop-event.invariant.place;
-      room = HasRoom-same (node_count g) c.loop-event.board.found.marks c.step.new.self.found.marks
+      room = HasRoom-same (node_count g) c.loop-event.machine_state.found.marks c.step.new.self.found.marks
           c.in_ok-step.ensures.room c.loop-event.invariant.room;
       run = run_more g m events k (Look 0 0) c.loop-event-test.true mid
           c.loop-event.invariant.run new done;
     }
 
 -- the state is sound, as each state of a run
-keeps : (c : goal.After-loop-event) → Keeps c.args.graph.now (machine_of c.loop-event.board)
+keeps : (c : goal.After-loop-event) → Keeps c.args.graph.now (machine_of c.loop-event.machine_state)
 keeps c =
     let g : Graph = c.args.graph.now in
     let m : Machine = machine_start g c.args.workers in
-    run_keeps g m (take c.loop-event.event-index c.args.events.now) (machine_of c.loop-event.board)
+    run_keeps g m (take c.loop-event.event-index c.args.events.now) (machine_of c.loop-event.machine_state)
     (start_keeps g c.args.workers (some_workers c)) c.loop-event.invariant.run
 
 -- each state of a run is sound
@@ -70,4 +70,4 @@ returns-clause-sound c = (keeps c).sound
 
 -- with nothing left to be scanned, what was claimed is what is reached
 pub returns-clause-marked : goal.returns-clause-marked
-returns-clause-marked c = idle_marked c.args.graph.now (machine_of c.loop-event.board) (keeps c)
+returns-clause-marked c = idle_marked c.args.graph.now (machine_of c.loop-event.machine_state) (keeps c)

@@ -1,4 +1,4 @@
-use Rattle.request_line.proofs.Pairs.{pairs_turn}
+use Rattle.request_line.proofs.RawLabels.{pairs_turn}
 use Rattle.request_line.proofs.members.pairs_of.Goals as goal
 
 -- each turn puts one member behind those before

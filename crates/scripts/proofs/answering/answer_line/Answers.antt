@@ -11,14 +11,14 @@ returns-then-is_empty-clause-ok g c = (None, line_step-empty c.args.locked.now.s
 -- the text of the answer was refused
 pub returns-in_err-text-clause-err : goal.returns-in_err-text-clause-err
 returns-in_err-text-clause-err g c =
-    let answer = c.answer_to-answer.ensures.answer in
+    let answer = c.line_outcome-answer.ensures.answer in
     holds_on_err c.from_residual.result (answer.0, sym (ap (λ step. step.1) (line_step-answer c.args.locked.now.store.state answer.0 c.args.line.now _ _ (sym c.if-is_empty.ensures) answer.1)))
 
 -- the text of the answer
 pub returns-clause-ok : goal.returns-clause-ok
 returns-clause-ok g c =
-    let answer = c.answer_to-answer.ensures.answer in (
+    let answer = c.line_outcome-answer.ensures.answer in (
       answer.0,
       line_step-answer c.args.locked.now.store.state answer.0 c.args.line.now _ _ (sym c.if-is_empty.ensures) answer.1
-          ∙ (λ i. (with_line_feed (sym c.in_ok-text.ensures.ok i), c.answer_to-answer.new.locked.store.state)),
+          ∙ (λ i. (with_line_feed (sym c.in_ok-text.ensures.ok i), c.line_outcome-answer.new.locked.store.state)),
     )

@@ -4,11 +4,11 @@ use Rattle.scripts.proofs.Writers.{holds_on_err, Keeps-same}
 use Rattle.scripts.proofs.script.run_named.Goals as goal
 
 -- the store couldn't be opened, and nothing was read
-pub returns-in_err-desk-clause-err : goal.returns-in_err-desk-clause-err
-returns-in_err-desk-clause-err g c = holds_on_err c.from_residual.result (Exchanges-none _ _)
+pub returns-in_err-store-clause-err : goal.returns-in_err-store-clause-err
+returns-in_err-store-clause-err g c = holds_on_err c.from_residual.result (Exchanges-none _ _)
 
 pub reads-init : goal.reads-init
-reads-init g c = Runs-none _ _ _ _ (rw c.in_ok-desk.ensures.ok (Progress-empty _ c.new-buffer.ensures.empty))
+reads-init g c = Runs-none _ _ _ _ (rw c.in_ok-store.ensures.ok (Progress-empty _ c.new-buffer.ensures.empty))
 
 pub returns-clause-read_failed : goal.returns-clause-read_failed
 returns-clause-read_failed g c = λ e. Runs-whole c.reads.invariant (Keeps-same _)

@@ -1,5 +1,5 @@
 use Rattle.std.proofs.Common.{◌≡◌, ℕ, ◌+◌, length}
-use Rattle.table_sweep.specs.Places.{deep}
+use Rattle.table_sweep.specs.SnapshotPlaces.{deep}
 use Rattle.table_sweep.proofs.depths.depth_at.Given as goal
 
 -- the ancestors so far are counted, and those of the last of them are left

@@ -1,5 +1,5 @@
 use Rattle.std.proofs.Common.{◌≡◌}
-use Rattle.table_sweep.specs.Places.{depths_to}
+use Rattle.table_sweep.specs.SnapshotPlaces.{depths_to}
 use Rattle.table_sweep.proofs.depths.depths_in.Given as goal
 
 -- the depths of the places so far are there

@@ -1,5 +1,5 @@
 use Rattle.std.proofs.Common.{◌∙◌, ap, length}
-use Rattle.table_sweep.specs.Places.{depths_to}
+use Rattle.table_sweep.specs.SnapshotPlaces.{depths_to}
 use Rattle.table_sweep.proofs.Steps.{depths_are}
 use Rattle.table_sweep.proofs.depths.depths_of.Goals as goal
 

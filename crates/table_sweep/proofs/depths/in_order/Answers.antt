@@ -5,7 +5,7 @@ use Rattle.std.proofs.lemmas.Fn.{always_returns_same}
 use Rattle.meta_types.specs.Keys.{in_order}
 use Rattle.table_sweep.specs.declared.depths.Key.{Key}
 use Rattle.table_sweep.specs.Depths.{key_cmp}
-use Rattle.table_sweep.proofs.InOrder.{weak_order, sorted_in_order}
+use Rattle.table_sweep.proofs.SortedObjects.{weak_order, sorted_in_order}
 use Rattle.table_sweep.proofs.KeyOrder.{key_total, key_exact, first_is}
 use Rattle.table_sweep.proofs.depths.in_order.Goals as goal
 

@@ -1,5 +1,5 @@
 use Rattle.std.proofs.Common.{◌≡◌, map, take}
-use Rattle.table_sweep.specs.Places.{above_in}
+use Rattle.table_sweep.specs.SnapshotPlaces.{above_in}
 use Rattle.table_sweep.proofs.places.aboves_in.Given as goal
 
 -- the parents so far have their places

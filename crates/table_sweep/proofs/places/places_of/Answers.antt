@@ -1,5 +1,5 @@
 use Rattle.std.proofs.Common.{◌∙◌, ap, position, take_all}
-use Rattle.table_sweep.specs.Places.{has_name}
+use Rattle.table_sweep.specs.SnapshotPlaces.{has_name}
 use Rattle.table_sweep.proofs.Named.{finds_step}
 use Rattle.table_sweep.proofs.places.places_of.Goals as goal
 

@@ -1,5 +1,5 @@
 use Rattle.std.proofs.Common.{take}
-use Rattle.table_sweep.specs.Places.{Finds}
+use Rattle.table_sweep.specs.SnapshotPlaces.{Finds}
 use Rattle.table_sweep.proofs.places.places_of.Given as goal
 
 -- the names so far have their places

@@ -1,5 +1,5 @@
 use Rattle.std.proofs.Common.{◌∙◌, refl, subst}
-use Rattle.arrival_table.specs.Arrived.{one_text, sorted}
+use Rattle.row_tables.specs.Arrived.{one_text, sorted}
 use Rattle.back_model.specs.Objects.{AreOrderedBlobs}
 use Rattle.back_model.proofs.Digests.{held_is, ordered}
 use Rattle.back_model.proofs.mem_blobs.MemBlobsBlobBackend.holds.Goals as goal

@@ -1,6 +1,6 @@
 use Rattle.std.proofs.Common.{◌∙◌, sym, refl, ap}
 use Rattle.std.specs.Prelude.{is_some}
-use Rattle.arrival_table.specs.Arrived.{one_text, sorted}
+use Rattle.row_tables.specs.Arrived.{one_text, sorted}
 use Rattle.back_model.proofs.Digests.{held_is, left_is}
 use Rattle.back_model.proofs.mem_blobs.MemBlobsBlobBackend.remove.Goals as goal
 

@@ -2,7 +2,7 @@ use Rattle.std.proofs.Common.{rules, ◌≡◌, ◌∙◌, ap, sym, get_or}
 use Rattle.std.specs.Prelude.{Some}
 use Rattle.back_model.specs.Shown.{shown, shard_at}
 use Rattle.meta_types.specs.Text.{Text}
-use Rattle.back_model.proofs.Places.{found_at, none_at_all}
+use Rattle.back_model.proofs.ShardPlaces.{found_at, none_at_all}
 use Rattle.back_model.proofs.shards.Shards.get.Goals as goal
 
 -- the shard at the place is the snapshotter's

@@ -1,7 +1,7 @@
 use Rattle.std.proofs.Common.{rules, ◌≡◌, ◌∙◌, ap, sym, refl, map, subst, get_or}
 use Rattle.std.specs.Prelude.{Some}
 use Rattle.back_model.specs.Shown.{shown, AreApart, shard_at, shard_after, put_shard}
-use Rattle.back_model.proofs.Places.{set_at, found_at, none_at_all, apart_put}
+use Rattle.back_model.proofs.ShardPlaces.{set_at, found_at, none_at_all, apart_put}
 use Rattle.back_model.proofs.Making.{shard_is}
 use Rattle.back_model.proofs.shards.Shards.make_there.Goals as goal
 

@@ -1,4 +1,4 @@
-use Rattle.back_model.proofs.Places.{none_apart}
+use Rattle.back_model.proofs.ShardPlaces.{none_apart}
 use Rattle.back_model.proofs.shards.Shards.new.Goals as goal
 
 -- there is no shard

@@ -1,7 +1,7 @@
 use Rattle.std.proofs.Common.{rules, ◌≡◌, ◌∙◌, ap, sym, refl, map, subst}
 use Rattle.std.specs.List.{insert}
 use Rattle.back_model.specs.Shown.{shown, AreApart, put_shard}
-use Rattle.back_model.proofs.Places.{set_at, put_at, apart_put}
+use Rattle.back_model.proofs.ShardPlaces.{set_at, put_at, apart_put}
 use Rattle.back_model.proofs.shards.Shards.set.Goals as goal
 
 -- shards stay apart where one is replaced

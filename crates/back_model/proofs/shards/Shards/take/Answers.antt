@@ -1,5 +1,5 @@
 use Rattle.std.proofs.Common.{rules, ◌≡◌, []}
-use Rattle.back_model.proofs.Places.{none_apart}
+use Rattle.back_model.proofs.ShardPlaces.{none_apart}
 use Rattle.back_model.proofs.shards.Shards.take.Goals as goal
 
 -- no shard is left

@@ -1,8 +1,8 @@
 use Rattle.std.proofs.Common.{[], ◌∷◌, ap, ◌∙◌}
 use Rattle.meta_types.specs.Keys.{change_row}
 use Rattle.meta_types.specs.Rows.{lease_key}
-use Rattle.arrival_table.proofs.ChangedThere.{became, stayed}
-use Rattle.lease_book.specs.Edits.{with_held}
+use Rattle.row_tables.proofs.ChangedThere.{became, stayed}
+use Rattle.lease_book.specs.Edits.{with_resource}
 use Rattle.lease_book.proofs.leases.Leases.add_resource.Goals.{in-Some-Ok, in-Some-Err, in-None}
 use Rattle.lease_book.proofs.leases.Leases.add_resource.Goals as goal
 
@@ -10,7 +10,7 @@ use Rattle.lease_book.proofs.leases.Leases.add_resource.Goals as goal
 pub returns-clause-ok : goal.returns-clause-ok
 returns-clause-ok c =
     let key = c.args.ns.now ∷ c.args.id.now ∷ [] in
-    let hold = with_held c.args.resource in
+    let hold = with_resource c.args.resource in
     elim c.match-change.branch [
       | in-Some-Ok w ↦ (
           let done = w.in-Some-Ok.ensures.changed in

@@ -3,8 +3,8 @@ use Rattle.meta_types.specs.Keys.{change_row}
 use Rattle.meta_types.specs.Rows.{lease_key}
 use Rattle.meta_types.specs.Resources.{resource_key}
 use Rattle.meta_types.proofs.Puts.{remove_absent}
-use Rattle.arrival_table.proofs.ChangedThere.{became, stayed, nothing_to_change}
-use Rattle.lease_book.specs.Edits.{without_held}
+use Rattle.row_tables.proofs.ChangedThere.{became, stayed, nothing_to_change}
+use Rattle.lease_book.specs.Edits.{without_resource}
 use Rattle.lease_book.proofs.leases.Leases.drop_resource.Goals.{in-Some-true, in-Some-false, in-None}
 use Rattle.lease_book.proofs.leases.Leases.drop_resource.Goals as goal
 
@@ -12,7 +12,7 @@ use Rattle.lease_book.proofs.leases.Leases.drop_resource.Goals as goal
 pub returns-clause-left : goal.returns-clause-left
 returns-clause-left c =
     let key = c.args.ns.now ∷ c.args.id.now ∷ [] in
-    let drop = without_held c.args.resource.now in
+    let drop = without_resource c.args.resource.now in
     elim c.match-change.branch [
       | in-Some-true w ↦ (
           let done = w.in-Some-true.ensures.changed in

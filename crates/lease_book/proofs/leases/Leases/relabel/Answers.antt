@@ -1,7 +1,7 @@
 use Rattle.std.proofs.Common.{[], ◌∷◌, ap, ◌∙◌}
 use Rattle.meta_types.specs.Keys.{change_row}
 use Rattle.meta_types.specs.Rows.{lease_key}
-use Rattle.arrival_table.proofs.ChangedThere.{became, stayed}
+use Rattle.row_tables.proofs.ChangedThere.{became, stayed}
 use Rattle.lease_book.specs.Edits.{with_label}
 use Rattle.lease_book.proofs.leases.Leases.relabel.Goals.{in-Some-Ok, in-Some-Err, in-None, in-None-2}
 use Rattle.lease_book.proofs.leases.Leases.relabel.Goals as goal

@@ -7,7 +7,7 @@ use Rattle.mark_core.proofs.state.MarkState.claimed.Goals as goal
 -- the bits say the same as the list
 pub returns : goal.returns
 returns c =
-    let found = c.self.inside.board.found in
+    let found = c.self.inside.machine_state.found in
     let cl : List ℕ = c.args.self.now.claimed in
     let n : ℕ = c.args.node in
     let e : bit_of found.marks n ≡ times n cl =

@@ -2,8 +2,8 @@ use Rattle.std.proofs.Common.{rules, Some, None, ◌≡◌, ◌∷◌, [], sym, 
 use Rattle.std.specs.Prelude.{is_some}
 use Rattle.meta_types.specs.Rows.{snap_key}
 use Rattle.object_tables.specs.Children.{left_by, family_names}
-use Rattle.object_tables.proofs.Kept.{nothing_to_remove}
-use Rattle.object_tables.proofs.NamesAfter.{row_parted, none_parted}
+use Rattle.object_tables.proofs.OrderStays.{nothing_to_remove}
+use Rattle.object_tables.proofs.NamesAfter.{row_left, none_parted}
 use Rattle.object_tables.proofs.children.Snapshots.remove.Goals as goal
 
 -- what isn't there doesn't go
@@ -20,7 +20,7 @@ returns-in_default-clause-same c = c.take.ensures.left
 pub invariant_of-self-in-Some-parent : goal.invariant_of-self-in-Some-parent
 invariant_of-self-in-Some-parent c =
     let has : c.in-Some.row.parent ≡ Some c.in-Some-parent.parent = search rules in
-    row_parted c.self.inside.rows (family_names c.self.inside.families) c.self.invariant (c.args.key.now.ns ∷ c.args.key.now.snapshotter ∷ c.args.key.now.name ∷ []) c.in-Some.row
+    row_left c.self.inside.rows (family_names c.self.inside.families) c.self.invariant (c.args.key.now.ns ∷ c.args.key.now.snapshotter ∷ c.args.key.now.name ∷ []) c.in-Some.row
     (family_names c.leave.new.self) c.take.new.self (sym c.in-Some.ensures.row)
     (c.leave.ensures.names ∙ ap (λ o. left_by c.in-Some.row.key o (family_names c.self.inside.families)) (sym has)) c.take.ensures.left
 
@@ -28,6 +28,6 @@ invariant_of-self-in-Some-parent c =
 pub invariant_of-self-in_default-parent : goal.invariant_of-self-in_default-parent
 invariant_of-self-in_default-parent c =
     let has : c.in-Some.row.parent ≡ None = search rules in
-    row_parted c.self.inside.rows (family_names c.self.inside.families) c.self.invariant (c.args.key.now.ns ∷ c.args.key.now.snapshotter ∷ c.args.key.now.name ∷ []) c.in-Some.row
+    row_left c.self.inside.rows (family_names c.self.inside.families) c.self.invariant (c.args.key.now.ns ∷ c.args.key.now.snapshotter ∷ c.args.key.now.name ∷ []) c.in-Some.row
     (family_names c.self.inside.families) c.take.new.self (sym c.in-Some.ensures.row)
     (ap (λ o. left_by c.in-Some.row.key o (family_names c.self.inside.families)) (sym has)) c.take.ensures.left

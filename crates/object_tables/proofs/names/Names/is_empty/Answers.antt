@@ -1,7 +1,7 @@
 use Rattle.std.proofs.Common.{◌∙◌, sym, ap, length}
 use Rattle.std.specs.Prelude.{◌==◌}
-use Rattle.arrival_table.specs.Arrived.{one_text}
-use Rattle.arrival_table.proofs.Arrivals.{length_sorted}
+use Rattle.row_tables.specs.Arrived.{one_text}
+use Rattle.row_tables.proofs.Arrivals.{length_sorted}
 use Rattle.object_tables.proofs.names.Names.is_empty.Goals as goal
 
 -- as many names as came

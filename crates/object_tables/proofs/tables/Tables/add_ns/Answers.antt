@@ -1,7 +1,7 @@
 use Rattle.std.proofs.Common.{◌≡◌, false, sym, subst, ap, ◌∙◌}
 use Rattle.meta_types.specs.Rows.{Tables}
 use Rattle.meta_types.specs.Changes.{has_namespace}
-use Rattle.object_tables.proofs.Kept.{names_row}
+use Rattle.object_tables.proofs.OrderStays.{names_row}
 use Rattle.object_tables.proofs.OtherTables.{namespace_grown}
 use Rattle.object_tables.proofs.tables.Tables.add_ns.Goals as goal
 

@@ -1,6 +1,6 @@
 use Rattle.std.proofs.Common.{sym, subst}
 use Rattle.meta_types.specs.Sound.{AreTables}
-use Rattle.object_tables.proofs.Kept.{names_row}
+use Rattle.object_tables.proofs.OrderStays.{names_row}
 use Rattle.object_tables.proofs.OtherTables.{tables_in_order}
 use Rattle.object_tables.proofs.tables.Tables.has_ns.Goals as goal
 

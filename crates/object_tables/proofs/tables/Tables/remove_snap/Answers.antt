@@ -1,7 +1,7 @@
 use Rattle.std.proofs.Common.{ap, List, rules, [], ◌∷◌}
 use Rattle.meta_types.specs.Rows.{Tables, snap_key}
 use Rattle.meta_types.specs.declared.rows.SnapRow.{SnapRow}
-use Rattle.object_tables.proofs.Kept.{nothing_without}
+use Rattle.object_tables.proofs.OrderStays.{nothing_without}
 use Rattle.object_tables.proofs.OtherTables.{other_snapshots}
 use Rattle.object_tables.proofs.NumberedAfter.{unstacked}
 use Rattle.object_tables.proofs.RowsAfter.{removed}

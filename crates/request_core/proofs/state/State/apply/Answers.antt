@@ -4,8 +4,8 @@ use Rattle.request_core.proofs.state.State.apply.Goals as goal
 
 -- it answers Done, or the state is as before
 pub returns-clause-quiet : goal.returns-clause-quiet
-returns-clause-quiet g c = answers_quiet _ _ _ _ c.answer_plainly.ensures
+returns-clause-quiet g c = answers_quiet _ _ _ _ c.apply_exactly.ensures
 
 -- where the state was sound, it is
 pub returns-clause-sound : goal.returns-clause-sound
-returns-clause-sound g c = answers_sound _ _ _ _ c.answer_plainly.ensures c.requires (step_sound _ _ c.requires)
+returns-clause-sound g c = answers_sound _ _ _ _ c.apply_exactly.ensures c.requires (step_sound _ _ c.requires)

@@ -1,7 +1,7 @@
 use Rattle.std.proofs.Common.{◌∙◌, ap}
 use Rattle.back_model.specs.Objects.{has_number}
 use Rattle.request_core.specs.Follows.{Store}
-use Rattle.request_core.proofs.Numbers.{number_free}
+use Rattle.request_core.proofs.FreeNumbers.{number_free}
 use Rattle.request_core.proofs.state.State.free_number.Goals as goal
 
 -- each number of the backend is below the next

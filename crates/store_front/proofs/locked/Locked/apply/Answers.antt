@@ -2,7 +2,7 @@ use Rattle.std.proofs.Common.{rules, ◌<◌, ◌+◌, ◌∙◌, sym, ap, subst
 use Rattle.meta_types.specs.Histories.{IsLegal, Entry}
 use Rattle.meta_types.specs.Steps.{requested}
 use Rattle.store_front.specs.Front.{Front}
-use Rattle.store_front.specs.Kept.{kept_reply, log_after, Takes, reply_failures}
+use Rattle.store_front.specs.KeptAnswers.{kept_reply, log_after, Takes, reply_failures}
 use Rattle.store_front.specs.Parts.{AreOpened}
 use Rattle.store_front.proofs.Growth.{takes, fails, counts, step_of, fails_of, failures_of, legal_after, opened_after, not_kept}
 use Rattle.store_front.proofs.locked.Locked.apply.Goals as goal

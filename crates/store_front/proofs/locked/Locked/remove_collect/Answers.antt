@@ -4,7 +4,7 @@ use Rattle.meta_types.specs.Reports.{Report}
 use Rattle.meta_types.specs.Histories.{IsLegal, Entry}
 use Rattle.meta_types.specs.Steps.{remove_collect}
 use Rattle.meta_types.specs.declared.fault.Fault.{Fault}
-use Rattle.store_front.specs.Kept.{kept_report, log_after, Takes}
+use Rattle.store_front.specs.KeptAnswers.{kept_report, log_after, Takes}
 use Rattle.store_front.specs.Parts.{AreOpened}
 use Rattle.store_front.proofs.Growth.{legal_after, opened_after, not_kept}
 use Rattle.store_front.proofs.locked.Locked.remove_collect.Goals as goal

@@ -1,6 +1,6 @@
 use Rattle.std.proofs.Common.{◌≡◌, ◌∙◌, sym, ap, None, is_some, true}
 use Rattle.indexmap.proofs.CallerLemmas.{insert_entry-new}
-use Rattle.table_sweep.specs.Places.{put_place, place_in}
+use Rattle.table_sweep.specs.SnapshotPlaces.{put_place, place_in}
 use Rattle.table_sweep.proofs.Named.{put_new, put_known, none_is, some_is}
 use Rattle.table_sweep.proofs.places.Places.add.Goals as goal
 use Rattle.table_sweep.proofs.places.Places.add.Goals.{then-is_none+in_ok-insert, else-is_none}

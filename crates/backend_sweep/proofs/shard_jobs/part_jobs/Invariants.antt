@@ -1,0 +1,13 @@
+use Rattle.std.proofs.Common.{◌≡◌, ◌≤◌, ◌++◌, map, length, vec_capacity}
+use Rattle.backend_sweep.proofs.shard_jobs.part_jobs.Given as goal
+
+abbrev pub invariant-loop-job : goal.invariant-loop-job
+invariant-loop-job g l =
+    (goal.iterator-loop-job g).can_next l.job-iterator ×
+    (goal.iterator-loop-job g).is_finite l.job-iterator × record {
+      parts : l.yielded ++ l.job-iterator.rest.items ≡ l.fn.jobs.items;
+      shards : l.shards.items ≡ map (λ job. job.entry) l.yielded;
+      lanes : l.lanes.items ≡ map (λ job. job.lane) l.yielded;
+      shards_room : length l.fn.jobs.items ≤ vec_capacity l.shards;
+      lanes_room : length l.fn.jobs.items ≤ vec_capacity l.lanes;
+    }

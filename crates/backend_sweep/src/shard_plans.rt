@@ -1,0 +1,222 @@
+//! Shards beside what is to be swept of each.
+ghost use Rattle.std.specs.Prelude.{◌≡◌, ◌<◌, ◌≤◌, ℕ, List, [], length, map, filter, find, option_map, bytes_eq, None, IfOk, slice_index_or};
+ghost use Rattle.std.specs.Vec.{vec_capacity};
+ghost use Rattle.meta_types.specs.Faults.{Refuses};
+ghost use Rattle.back_model.specs.Shown.{shown};
+ghost use Rattle.backend_sweep.specs.Shards.{numbers_of};
+ghost use Rattle.backend_sweep.specs.Sweep.{Childfirst, IsRoomFor, Sweeps};
+ghost use Rattle.backend_sweep.specs.Lanes.{lane_for, IsReady, SweepsLane, is_removed, is_failed};
+ghost use Rattle.backend_sweep.specs.Swept.{HasRoom};
+
+use crate::gate::{OpenSweepGate, SweepGate};
+use crate::room::Room;
+use crate::shard::sweep_shard;
+use crate::shard_swept::ShardSwept;
+use back_model::SnapBackend;
+use meta_types::{Fault, ShortName};
+use std::alloc::Global;
+use std::marker::Model;
+use std::mem;
+
+/// What is to be swept of one snapshotter's shard, and what was.
+#[derive(Drop)]
+pub(crate) struct ShardPlan {
+    snapshotter: ShortName,
+    list: Vec<u64>,
+    swept: ShardSwept,
+}
+
+impl Model for ShardPlan {
+    ghost use Rattle.backend_sweep.specs.Lanes.{Laned};
+
+    ghost Value = { Laned };
+
+    ghost view = { λ s. record {
+      snapshotter = s.snapshotter;
+      list = s.list.items;
+      swept = s.swept;
+    } };
+}
+
+// The numbers of one snapshotter's names.
+fn numbers_of(
+    alloc: Global,
+    names: &[(ShortName, u64)],
+    snapshotter: &ShortName,
+) -> Result<Vec<u64>, Fault>
+    ensures fault { Refuses result None }
+    ensures ok { IfOk result (λ numbers. numbers.items ≡ numbers_of snapshotter.now names.now) }
+{
+    let mut numbers = Vec::with_capacity(alloc, names.len())?;
+    for name in names {
+        if name.0 == *snapshotter {
+            numbers.push(name.1)?;
+        }
+    }
+    Ok(numbers)
+}
+
+// The lane of one snapshotter.
+fn lane_for(
+    alloc: Global,
+    names: &[(ShortName, u64)],
+    snapshotter: &ShortName,
+) -> Result<ShardPlan, Fault>
+    ensures fault { Refuses result None }
+    ensures ok { IfOk result (λ lane. lane ≡ lane_for names.now snapshotter.now) }
+{
+    let list = numbers_of(alloc, names, snapshotter)?;
+    let swept = ShardSwept::room(alloc, list.len())?;
+    Ok(ShardPlan {
+        snapshotter: snapshotter.copy()?,
+        list,
+        swept,
+    })
+}
+
+/// A lane a shard, with the numbers of its snapshotter.
+pub(crate) fn lanes_of<S: SnapBackend>(
+    alloc: Global,
+    shards: &[(ShortName, S)],
+    names: &[(ShortName, u64)],
+) -> Result<Vec<ShardPlan>, Fault>
+    ensures fault { Refuses result None }
+    ensures ok { IfOk result (λ lanes. lanes.items
+        ≡ map (λ entry. lane_for names.now entry.0) shards.now) }
+{
+    let mut lanes = Vec::with_capacity(alloc, shards.len())?;
+    for entry in shards {
+        lanes.push(lane_for(alloc, names, &entry.0)?)?;
+    }
+    Ok(lanes)
+}
+
+/// Sweeps a shard by its lane. It takes no memory.
+pub(crate) fn sweep_lane<S: SnapBackend, H: SweepGate>(
+    alloc: Global,
+    shard: &mut S,
+    lane: &mut ShardPlan,
+    gate: &H,
+)
+    requires list { Childfirst lane.old.list (S.contents shard.old) }
+    requires into { IsRoomFor lane.old.list lane.old.swept }
+    ensures lane { lane.new ≡ record lane.old { swept = lane.new.swept } }
+    ensures sweeps { Sweeps lane.old.list (S.contents shard.old) (S.contents shard.new)
+        (S.fails shard.old) (S.fails shard.new) lane.new.swept }
+{
+    let ShardPlan {
+        snapshotter,
+        list,
+        swept,
+    } = lane;
+    let into = mem::replace(swept, ShardSwept::none(alloc));
+    *swept = sweep_shard(snapshotter.text(), shard, list, into, gate);
+}
+
+fn sweep_lanes<S: SnapBackend, H: SweepGate>(
+    alloc: Global,
+    shards: &mut [(ShortName, S)],
+    lanes: &mut [ShardPlan],
+    gate: &H,
+)
+    requires length { length lanes.old ≡ length shards.old }
+    requires ready { (i : ℕ) (d : _) (e : _) → i < length shards.old
+        → IsReady (shown S.contents S.fails (slice_index_or shards.old i d))
+        (slice_index_or lanes.old i e) }
+    ensures length { (length shards.new ≡ length shards.old)
+        × (length lanes.new ≡ length lanes.old) }
+    ensures each { (i : ℕ) (d : _) (e : _) → i < length shards.old
+        → SweepsLane (shown S.contents S.fails (slice_index_or shards.old i d))
+        (slice_index_or lanes.old i e) (slice_index_or lanes.new i e)
+        (shown S.contents S.fails (slice_index_or shards.new i d)) }
+{
+    for i in 0..shards.len() {
+        let entry = &mut shards[i];
+        let lane = &mut lanes[i];
+        sweep_lane(alloc, &mut entry.1, lane, gate);
+    }
+}
+
+/// Sweeps each shard by its lane, one after the other. It takes no memory.
+pub(crate) fn sweep_in_turn<S: SnapBackend>(
+    alloc: Global,
+    mut shards: Vec<(ShortName, S)>,
+    mut lanes: Vec<ShardPlan>,
+) -> (Vec<(ShortName, S)>, Vec<ShardPlan>)
+    requires lanes { length lanes.items ≡ length shards.items }
+    requires ready { (i : ℕ) (d : _) (e : _) → i < length shards.items
+        → IsReady (shown S.contents S.fails (slice_index_or shards.items i d))
+        (slice_index_or lanes.items i e) }
+    ensures length { (length result.0.items ≡ length shards.items)
+        × (length result.1.items ≡ length lanes.items) }
+    ensures each { (i : ℕ) (d : _) (e : _) → i < length shards.items
+        → SweepsLane (shown S.contents S.fails (slice_index_or shards.items i d))
+        (slice_index_or lanes.items i e) (slice_index_or result.1.items i e)
+        (shown S.contents S.fails (slice_index_or result.0.items i d)) }
+{
+    sweep_lanes(alloc, &mut shards, &mut lanes, &OpenSweepGate);
+    (shards, lanes)
+}
+
+// The lane of a snapshotter, if it has one.
+fn lane_at<'a>(lanes: &'a [ShardPlan], snapshotter: &ShortName) -> Option<&'a ShardPlan>
+    ensures { option_map (λ lane. lane.now) result
+        ≡ find (λ lane. bytes_eq lane.snapshotter snapshotter.now) lanes.now }
+{
+    for lane in lanes {
+        if lane.snapshotter == *snapshotter {
+            return Some(lane);
+        }
+    }
+    None
+}
+
+// Each name goes where its lane has it. It takes no memory.
+fn distribute(
+    names: Vec<(ShortName, u64)>,
+    lanes: &[ShardPlan],
+    removed: &mut Vec<(ShortName, u64)>,
+    failed: &mut Vec<(ShortName, u64)>,
+)
+    requires removed { (removed.old.items ≡ []) × (length names.items ≤ vec_capacity removed.old) }
+    requires failed { (failed.old.items ≡ []) × (length names.items ≤ vec_capacity failed.old) }
+    ensures removed { removed.new.items ≡ filter (is_removed lanes.now) names.items }
+    ensures failed { failed.new.items ≡ filter (is_failed lanes.now) names.items }
+{
+    for name in names {
+        let Some(lane) = lane_at(lanes, &name.0) else {
+            continue;
+        };
+        if lane.swept.has_failed(name.1) {
+            failed.push_reserved(name);
+        } else if !lane.swept.has_kept(name.1) {
+            removed.push_reserved(name);
+        }
+    }
+}
+
+/// Tells what became of each snapshot, by its lane. It takes no memory.
+pub(crate) fn snapshots_swept(
+    alloc: Global,
+    lanes: &[ShardPlan],
+    room: Room<(ShortName, u64)>,
+) -> Room<(ShortName, u64)>
+    requires empty { (room.removed.items ≡ []) × (room.failed.items ≡ []) }
+    requires room { HasRoom room }
+    ensures names { result.names.items ≡ [] }
+    ensures removed { result.removed.items ≡ filter (is_removed lanes.now) room.names.items }
+    ensures failed { result.failed.items ≡ filter (is_failed lanes.now) room.names.items }
+    ensures room { HasRoom result }
+{
+    let Room {
+        names,
+        mut removed,
+        mut failed,
+    } = room;
+    distribute(names, lanes, &mut removed, &mut failed);
+    Room {
+        names: Vec::new(alloc),
+        removed,
+        failed,
+    }
+}

@@ -1,0 +1,121 @@
+-- What refuses a removal with a collection, and what it begins with.
+use Rattle.std.proofs.Common.{◌≡◌, inl, inr, Bool, true, false, not, refl, sym, ap, ◌∙◌, subst, ℕ}
+use Rattle.std.specs.Prelude.{Option, Some, None, Result, Ok, Err, ◌||◌}
+use Rattle.std.specs.Result.{IsErrAnd}
+use Rattle.meta_types.specs.Reports.{Report}
+use Rattle.meta_types.specs.declared.fault.Fault.{Fault}
+use Rattle.meta_types.specs.declared.fault.Fault.TheVariants.{InvalidArgument, NotFound, FailedPrecondition}
+use Rattle.steal_mark.specs.Refusing.{RefusesThreads}
+use Rattle.collection.specs.Refused.{CollectFails, RefusesCollect}
+use Rattle.meta_types.specs.Faults.{least_of}
+use Rattle.meta_types.specs.Limits.{is_worker_count, is_too_large}
+use Rattle.meta_types.specs.Rows.{Records, BackLists, State}
+use Rattle.meta_types.specs.Requests.{removal_outcome}
+use Rattle.meta_types.specs.Sound.{IsSound}
+use Rattle.meta_types.specs.Steps.{remove_collect_fault, collect_fault}
+use Rattle.meta_types.specs.declared.request.Removal.{Removal}
+use Rattle.meta_types.specs.declared.request.Removal.TheVariants as R
+use Rattle.request_core.proofs.StepSound.{after_image_remove}
+use Rattle.request_core.proofs.ContentSound.{after_lease_remove}
+use Rattle.collection.specs.Removing.{is_readable, named_in, is_missing, without}
+use Rattle.collection.specs.declared.removal.Named.{Named}
+use Rattle.collection.specs.declared.removal.Named.TheVariants as N
+
+-- with texts that are allowed, the tests are those of the code
+pub fault_is : (state : State) (removal : Removal) (workers : ℕ) → is_readable removal ≡ true
+    → least_of (not (is_worker_count workers)) (is_missing state.records (named_in removal)) false (is_too_large state.records)
+    ≡ remove_collect_fault state removal workers
+fault_is state (R.Image ns name) workers read =
+    ap (λ (b : Bool). least_of (not b || not (is_worker_count workers)) (is_missing state.records (named_in (R.Image ns name))) false (is_too_large state.records)) (sym read)
+fault_is state (R.Lease ns id) workers read =
+    ap (λ (b : Bool). least_of (not b || not (is_worker_count workers)) (is_missing state.records (named_in (R.Lease ns id))) false (is_too_large state.records)) (sym read)
+
+-- texts that aren't allowed are refused so
+pub unreadable : (state : State) (removal : Removal) (workers : ℕ) → is_readable removal ≡ false
+    → remove_collect_fault state removal workers ≡ Some InvalidArgument
+unreadable state (R.Image ns name) workers read =
+    ap (λ (b : Bool). least_of (not b || not (is_worker_count workers)) (is_missing state.records (named_in (R.Image ns name))) false (is_too_large state.records)) read
+unreadable state (R.Lease ns id) workers read =
+    ap (λ (b : Bool). least_of (not b || not (is_worker_count workers)) (is_missing state.records (named_in (R.Lease ns id))) false (is_too_large state.records)) read
+
+-- the store without the row is the one that the removal leaves
+pub after_is : (records : Records) (backends : BackLists) (removal : Removal)
+    → record { records = without records (named_in removal); backends = backends } ≡ (removal_outcome (record { records = records; backends = backends }) removal).after
+after_is records backends (R.Image ns name) = refl
+after_is records backends (R.Lease ns id) = refl
+
+-- it is sound
+pub sound_without : (state : State) (removal : Removal) → IsSound state
+    → IsSound (removal_outcome state removal).after
+sound_without state (R.Image ns name) s = after_image_remove state ns name s
+sound_without state (R.Lease ns id) s = after_lease_remove state ns id s
+
+-- rows that go with a removal aren't counted
+pub as_large : (records : Records) (named : Named)
+    → is_too_large (without records named) ≡ is_too_large records
+as_large records (N.Image ns name) = refl
+as_large records (N.Lease ns id) = refl
+
+-- ---- refusals
+
+of_least : (a b d : Bool) (fault : Fault) → least_of a b false d ≡ Some fault
+    → CollectFails fault (least_of a b false d)
+of_least true b d fault e = let p : InvalidArgument ≡ fault = cc in subst (λ (f : Fault). CollectFails f (Some InvalidArgument)) p refl
+of_least false true d fault e = let p : NotFound ≡ fault = cc in subst (λ (f : Fault). CollectFails f (Some NotFound)) p refl
+of_least false false true fault e = let p : FailedPrecondition ≡ fault = cc in subst (λ (f : Fault). CollectFails f (Some FailedPrecondition)) p refl
+of_least false false false fault e = absurd cc
+
+passed_on : (result : Result Report Fault) (fault : Fault) (least : Option Fault)
+    → IsErrAnd result (λ other. other ≡ fault) → CollectFails fault least
+    → RefusesCollect result least
+passed_on (Ok report) fault least same h = absurd same
+passed_on (Err other) fault least same h = subst (λ (f : Fault). CollectFails f least) (sym same) h
+
+none_of : (a b d : Bool) → least_of a b false d ≡ None → (a ≡ false) × (b ≡ false) × (d ≡ false)
+none_of true b d e = absurd cc
+none_of false true d e = absurd cc
+none_of false false true e = absurd cc
+none_of false false false e = (refl, refl, refl)
+
+from_threads : (workers large : Bool) (fault : Fault) → not workers ≡ false → large ≡ false → RefusesThreads {X = Report} (Err fault) (least_of (not workers) false false large) → CollectFails fault None
+from_threads false large fault w l h = absurd cc
+from_threads true true fault w l h = absurd cc
+from_threads true false fault w l (inl h) = subst (λ (f : Fault). CollectFails f None) (sym h) tt
+from_threads true false fault w l (inr h) = subst (λ (f : Fault). CollectFails f None) (sym h) refl
+
+module _ (state : State) (removal : Removal) (workers : ℕ) (named : Named) (read : (is_readable removal ≡ true) × (named ≡ named_in removal)) where
+  abbrev tested : Option Fault
+  tested = least_of (not (is_worker_count workers)) (is_missing state.records named) false (is_too_large state.records)
+
+  tested_is : tested ≡ remove_collect_fault state removal workers
+  tested_is =
+      ap (λ (n : Named). least_of (not (is_worker_count workers)) (is_missing state.records n) false (is_too_large state.records)) read.1
+      ∙ fault_is state removal workers read.0
+
+  -- what the check refuses is refused so
+  pub checked : (result : Result Report Fault) (fault : Fault)
+      → IsErrAnd result (λ other. other ≡ fault) → tested ≡ Some fault
+      → RefusesCollect result (remove_collect_fault state removal workers)
+  checked result fault same h = passed_on result fault (remove_collect_fault state removal workers) same
+      (subst (CollectFails fault) tested_is (of_least (not (is_worker_count workers)) (is_missing state.records named) (is_too_large state.records) fault h))
+
+  -- what the check lets through has no fault
+  pub none_applies : tested ≡ None → remove_collect_fault state removal workers ≡ None
+  none_applies h = sym tested_is ∙ h
+
+  -- the collection of what is left is refused for memory or threads alone
+  pub later : (left : Records) → left ≡ without state.records named → tested ≡ None
+      → (result : Result Report Fault) (fault : Fault) → IsErrAnd result (λ other. other ≡ fault)
+      → RefusesThreads {X = Report} (Err fault) (collect_fault left workers) → RefusesCollect result (remove_collect_fault state removal workers)
+  later left is h result fault same refused =
+      let none = none_of (not (is_worker_count workers)) (is_missing state.records named) (is_too_large state.records) h in
+      let large : is_too_large left ≡ false = ap is_too_large is ∙ as_large state.records named ∙ none.2 in
+      passed_on result fault (remove_collect_fault state removal workers) same
+      (subst (CollectFails fault) (sym (none_applies h)) (from_threads (is_worker_count workers) (is_too_large left) fault none.0 large refused))
+
+-- what is left is the store that the removal leaves
+pub left_is : (old left : Records) (backends : BackLists) (removal : Removal) (named : Named)
+    → named ≡ named_in removal → left ≡ without old named
+    → record { records = left; backends = backends } ≡ (removal_outcome (record { records = old; backends = backends }) removal).after
+left_is old left backends removal named n is =
+    (λ i. record { records = (is ∙ ap (without old) n) i; backends = backends }) ∙ after_is old backends removal

@@ -1,0 +1,17 @@
+//! A whole collection: the check, the plan by workers' marks, the sweeps, the report.
+#![tactic(auto)]
+
+mod checks;
+mod collect_store;
+mod dry;
+mod planning;
+mod removal;
+mod reports;
+mod spare;
+
+pub use checks::check;
+pub use collect_store::collect;
+pub use dry::{dry_report, dry_run};
+pub use planning::plan_store;
+pub use removal::remove_collect;
+pub use reports::Reports;

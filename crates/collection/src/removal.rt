@@ -1,0 +1,151 @@
+//! A removal with a collection, as one.
+ghost use Rattle.std.specs.Prelude.{◌≡◌, ◌+◌, ◌∷◌, [], not, false, true, IfOk, OnErr};
+ghost use Rattle.meta_types.specs.Faults.{OnlyRefuses, least_of};
+ghost use Rattle.meta_types.specs.Limits.{is_worker_count, is_too_large};
+ghost use Rattle.meta_types.specs.Reports.{Collects};
+ghost use Rattle.meta_types.specs.Requests.{removal_outcome};
+ghost use Rattle.meta_types.specs.Sound.{IsSound};
+ghost use Rattle.meta_types.specs.Steps.{remove_collect_fault};
+ghost use Rattle.back_model.specs.Shown.{all_failures};
+ghost use Rattle.backend_sweep.specs.Swept.{count_names};
+ghost use Rattle.collection.specs.Refused.{RefusesCollect};
+ghost use Rattle.collection.specs.Removing.{ReadsTexts, is_readable, named_in, is_missing, without};
+ghost use Rattle.meta_types.specs.Changes.{all_of};
+ghost use Rattle.meta_types.specs.Text.{is_short_name, is_name};
+ghost use Rattle.collection.specs.Stores.{records_in, store_in};
+
+use crate::checks::is_too_large;
+use crate::collect_store::collect;
+use crate::reports::Reports;
+use back_model::{Backends, BlobBackend, IngestBackend, SnapBackend};
+use backend_sweep::SweepGate;
+use meta_types::{Fault, Instant, Name, RawText, Removal, ShortName, is_worker_count};
+use request_core::Records;
+use std::alloc::Global;
+use std::sync::Wait;
+use std::thread::Threads;
+use steal_mark::Gate;
+
+/// What is to be removed, its texts read.
+#[derive(Drop)]
+pub(crate) enum Named {
+    Image(ShortName, Name),
+    Lease(ShortName, Name),
+}
+
+// Reads a namespace, and the name of an image or of a lease.
+fn read_names(alloc: Global, ns: &RawText, name: &RawText) -> Result<(ShortName, Name), Fault>
+    ensures { ReadsTexts result (all_of (is_short_name ns.now ∷ is_name name.now ∷ []))
+        (ns.now, name.now) }
+{
+    let ns = ShortName::read(alloc, ns.text())?;
+    let name = Name::read(alloc, name.text())?;
+    Ok((ns, name))
+}
+
+fn read_removal(alloc: Global, removal: &Removal) -> Result<Named, Fault>
+    ensures { ReadsTexts result (is_readable removal.now) (named_in removal.now) }
+{
+    match removal {
+        Removal::Image { ns, name } => {
+            let (ns, name) = read_names(alloc, ns, name)?;
+            Ok(Named::Image(ns, name))
+        }
+        Removal::Lease { ns, id } => {
+            let (ns, id) = read_names(alloc, ns, id)?;
+            Ok(Named::Lease(ns, id))
+        }
+    }
+}
+
+// Whether what is to be removed isn't there. It takes no memory.
+fn is_missing(records: &Records, named: &Named) -> bool
+    ensures { result ≡ is_missing (records_in records.now) named.now }
+{
+    match named {
+        Named::Image(ns, name) => !records.tables.has_image(ns, name),
+        Named::Lease(ns, id) => !records.leases.has(ns, id),
+    }
+}
+
+// The least fault of a removal with a collection, its texts being allowed. It takes no memory.
+fn check_removal(records: &Records, named: &Named, workers: usize) -> Result<(), Fault>
+    ensures { OnlyRefuses result (least_of (not (is_worker_count workers))
+        (is_missing (records_in records.now) named.now) false
+        (is_too_large (records_in records.now))) }
+{
+    if !is_worker_count(workers) {
+        return Err(Fault::InvalidArgument);
+    }
+    if is_missing(records, named) {
+        return Err(Fault::NotFound);
+    }
+    if is_too_large(records) {
+        return Err(Fault::FailedPrecondition);
+    }
+    Ok(())
+}
+
+// Takes the row away. It takes no memory.
+fn remove(records: &mut Records, named: &Named)
+    ensures { records_in records.new ≡ without (records_in records.old) named.now }
+{
+    match named {
+        Named::Image(ns, name) => {
+            let _ = records.tables.remove_image(ns, name);
+        }
+        Named::Lease(ns, id) => {
+            let _ = records.leases.remove(ns, id);
+        }
+    }
+}
+
+/// Removes an image or a lease, and collects. Graph and plan are made of copied records without
+/// the row, which take the place of the others when nothing can be refused any more.
+pub fn remove_collect<
+    R: Threads + Wait + Sync,
+    S: SnapBackend,
+    B: BlobBackend,
+    I: IngestBackend,
+    G: Gate,
+    H: SweepGate,
+>(
+    rt: &R,
+    alloc: Global,
+    records: &mut Records,
+    backends: &mut Backends<S, B, I>,
+    removal: &Removal,
+    at: Instant,
+    workers: usize,
+    gate: &G,
+    sweep_gate: &H,
+) -> Result<Reports, Fault>
+    requires { IsSound (store_in records.old backends.old.shards (B.contents backends.old.blobs)
+        (I.contents backends.old.ingests)) }
+    ensures fault { RefusesCollect result (remove_collect_fault (store_in records.old
+        backends.old.shards (B.contents backends.old.blobs) (I.contents backends.old.ingests))
+        removal.now workers) }
+    ensures ok { IfOk result (λ report. Collects (removal_outcome (store_in records.old
+        backends.old.shards (B.contents backends.old.blobs) (I.contents backends.old.ingests))
+        removal.now).after at.0 report.failed report
+        (store_in records.new backends.new.shards (B.contents backends.new.blobs)
+        (I.contents backends.new.ingests))) }
+    ensures count { IfOk result (λ report. all_failures backends.new.shards
+        + B.fails backends.new.blobs + I.fails backends.new.ingests
+        ≡ all_failures backends.old.shards + B.fails backends.old.blobs
+        + I.fails backends.old.ingests + count_names report.failed) }
+    ensures records_err { OnErr result (records.new ≡ records.old) }
+    ensures backends_err { OnErr result (backends.new ≡ backends.old) }
+    ensures sound { IsSound (store_in records.new backends.new.shards (B.contents backends.new.blobs)
+        (I.contents backends.new.ingests)) }
+{
+    let named = read_removal(alloc, removal)?;
+    check_removal(records, &named, workers)?;
+    let mut left = records.copy(alloc)?;
+    remove(&mut left, &named);
+    let reports = collect(
+        rt, alloc, &mut left, backends, at, workers, gate, sweep_gate,
+    )?;
+    *records = left;
+    Ok(reports)
+}

@@ -1,0 +1,77 @@
+-- What the book has no number for, and what stays true of it.
+use Rattle.std.proofs.Common.{◌≡◌, ℕ, ◌+◌, ◌<◌, ◌≤◌, Bool, true, false, List, [], ◌∷◌, ◌++◌, length, get_or, refl, sym, ap, ◌∙◌, arith, subst, inl, inr, Option, Some, None, length-append, append-nil, append_assoc, take}
+use Rattle.std.proofs.Math.Numerals.{add-one}
+use Rattle.std.proofs.Math.Seq.{take-suc}
+use Rattle.std.proofs.lemmas.Grind.{flat_map-append}
+use Rattle.std.proofs.lemmas.List.Elements.{filter_map-append}
+use Rattle.meta_types.specs.Text.{Text}
+use Rattle.meta_types.specs.Labels.{LabelList}
+use Rattle.gc_graph.specs.Targets.{content_target, snapshot_target, label_targets}
+use Rattle.std.specs.Prelude.{Err}
+use Rattle.std.specs.List.{list_any, cons_option}
+use Rattle.std.proofs.lemmas.Bool.{cases_Bool, both_ways}
+use Rattle.std.proofs.lemmas.List.Quantifiers.{position-Some}
+use Rattle.meta_types.specs.Faults.{Refuses, unless}
+use Rattle.meta_types.specs.declared.fault.Fault.{Fault}
+use Rattle.meta_types.specs.declared.fault.Fault.TheVariants.{InvalidArgument}
+use Rattle.gc_graph.specs.declared.node.Node.{Node}
+use Rattle.gc_graph.specs.Nodes.{is_node, is_allowed, AreAllowed}
+use Rattle.gc_graph.specs.Built.{number_of, numbers_in, put_node}
+use Rattle.gc_graph.proofs.Same.{node_known}
+use Rattle.gc_graph.proofs.NodesApart.{All-append}
+
+pub no_number : (book : List Node) (n : Node) → AreAllowed book → is_allowed n.resource ≡ false → number_of book n ≡ None
+no_number book n allowed h = go (number_of book n) refl
+  where
+    go : (o : Option ℕ) → number_of book n ≡ o → number_of book n ≡ None
+    go None e = e
+    go (Some i) e =
+        let found = position-Some (is_node n) book i n e in
+        absurd (both_ways (is_allowed n.resource) h (ap (λ (m : Node). is_allowed m.resource) (node_known n (get_or book i n) found.1) ∙ allowed i n found.0))
+
+pub nothing_more : (book : List Node) (n : Node) (numbers : List ℕ) → AreAllowed book → is_allowed n.resource ≡ false → numbers ≡ numbers ++ numbers_in book (n ∷ [])
+nothing_more book n numbers allowed h = sym (ap (λ o. numbers ++ cons_option o []) (no_number book n allowed h) ∙ append-nil numbers)
+
+pub refused_unless : (X : Type 0) (b : Bool) (fault : Fault) → fault ≡ InvalidArgument → Refuses {X = X} (Err fault) (unless b InvalidArgument) → b ≡ false
+refused_unless X true fault is h = absurd cc
+refused_unless X false fault is h = refl
+
+one_allowed : (n : Node) → is_allowed n.resource ≡ true → AreAllowed (n ∷ [])
+one_allowed n h i d lt = let at : i ≡ 0 = omega arith in subst (λ k. is_allowed (get_or (n ∷ []) k d).resource ≡ true) (sym at) h
+
+pub put_allowed : (book : List Node) (n : Node) → AreAllowed book → is_allowed n.resource ≡ true → AreAllowed (put_node book n)
+put_allowed book n allowed h = elim (cases_Bool (list_any (is_node n) book)) [
+  | inl t ↦ rw t allowed
+  | inr f ↦ rw f (All-append (λ m. is_allowed m.resource ≡ true) book (n ∷ []) allowed (one_allowed n h))
+]
+
+pub put_length : (book : List Node) (n : Node) → length (put_node book n) ≤ length book + 1
+put_length book n = elim (cases_Bool (list_any (is_node n) book)) [
+  | inl t ↦ rw t (omega arith)
+  | inr f ↦ rw f (omega (arith, length-append book (n ∷ [])))
+]
+
+-- ---- loops
+
+pub take_next : {X : Type 0} (xs : List X) (i : ℕ) (x : X) → i < length xs → x ≡ get_or xs i x → take (i + 1) xs ≡ take i xs ++ x ∷ []
+take_next xs i x lt is = rw add-one (take-suc xs i x lt) ∙ ap (λ y. take i xs ++ y ∷ []) (sym is)
+
+pub numbers_in-append : (book xs ys : List Node) → numbers_in book (xs ++ ys) ≡ numbers_in book xs ++ numbers_in book ys
+numbers_in-append book xs ys = filter_map-append (number_of book) xs ys
+
+assoc3 : (a b c d : List ℕ) → ((a ++ b) ++ c) ++ d ≡ a ++ (b ++ (c ++ d))
+assoc3 a b c d = append_assoc (a ++ b) c d ∙ append_assoc a b (c ++ d)
+
+module _ (book : List Node) (ns : Text) where
+  pub label_step : (start now mid new : List ℕ) (entries : LabelList) (label : Text × Text)
+      → now ≡ start ++ numbers_in book (label_targets ns entries)
+      → mid ≡ now ++ numbers_in book (content_target ns label)
+      → new ≡ mid ++ numbers_in book (snapshot_target ns label)
+      → new ≡ start ++ numbers_in book (label_targets ns (entries ++ label ∷ []))
+  label_step start now mid new entries label a b c =
+      let all : label_targets ns (entries ++ label ∷ []) ≡ label_targets ns entries ++ (content_target ns label ++ snapshot_target ns label)
+      = flat_map-append (λ l. content_target ns l ++ snapshot_target ns l) entries (label ∷ []) ∙ ap (λ t. label_targets ns entries ++ t) (append-nil (content_target ns label ++ snapshot_target ns label)) in
+      let front = numbers_in book (label_targets ns entries) in
+      c ∙ ap (λ m. m ++ numbers_in book (snapshot_target ns label)) (b ∙ ap (λ n. n ++ numbers_in book (content_target ns label)) a)
+      ∙ assoc3 start front (numbers_in book (content_target ns label)) (numbers_in book (snapshot_target ns label))
+      ∙ sym (ap (λ ts. start ++ numbers_in book ts) all ∙ ap (λ t. start ++ t) (numbers_in-append book (label_targets ns entries) (content_target ns label ++ snapshot_target ns label) ∙ ap (λ t. front ++ t) (numbers_in-append book (content_target ns label) (snapshot_target ns label))))

@@ -1,0 +1,127 @@
+//! Texts of a request, as they came.
+ghost use Rattle.std.specs.Prelude.{◌≡◌, ◌&&◌, None, IfOk, string_bytes, bytes_eq};
+ghost use Rattle.std.specs.Cmp.Lexicographic.{pointwise};
+ghost use Rattle.std.specs.Cmp.{partial_equiv_from_equiv};
+ghost use Rattle.std.proofs.lemmas.Cmp.{nat_list_eq_equiv, on_equiv, and_equiv, lists_equiv};
+ghost use Rattle.meta_types.specs.Text.{texts_of};
+ghost use Rattle.meta_types.specs.Faults.{Refuses};
+
+use crate::fault::Fault;
+use std::alloc::{AllocError, Global};
+use std::marker::Model;
+
+/// A text that was not yet read as a name, a digest or a time.
+#[derive(Drop)]
+pub struct RawText {
+    text: String,
+}
+
+impl Model for RawText {
+    ghost use Rattle.std.specs.Prelude.{List, ℕ, string_bytes};
+
+    ghost Value = { List ℕ };
+
+    ghost view = { λ w. string_bytes w.text };
+}
+
+impl PartialEq for RawText {
+    ghost eq = { λ a b. bytes_eq a b };
+
+    ghost laws = { partial_equiv_from_equiv nat_list_eq_equiv };
+
+    fn eq(&self, other: &RawText) -> bool {
+        self.text() == other.text()
+    }
+}
+
+impl Clone for RawText {
+    ghost is_clone = { λ a b. b ≡ a };
+
+    fn clone(&self) -> Result<RawText, AllocError> {
+        let text = self.text.clone()?;
+        Ok(RawText { text })
+    }
+}
+
+impl RawText {
+    /// The text as it came.
+    pub fn new(text: String) -> RawText
+        ensures { result ≡ string_bytes text }
+    {
+        RawText { text }
+    }
+
+    /// The text as it came.
+    pub fn text(&self) -> &str
+        ensures { result.now ≡ self.now }
+    {
+        self.text.as_str()
+    }
+
+    /// Another of the same text.
+    pub fn copy(&self) -> Result<RawText, Fault>
+        ensures fault { Refuses result None }
+        ensures ok { IfOk result (λ words. words ≡ self.now) }
+    {
+        Ok(self.clone()?)
+    }
+}
+
+/// Labels that were not yet read: keys and values, as they came.
+#[derive(Drop)]
+pub struct RawLabels {
+    entries: Vec<(String, String)>,
+}
+
+impl Model for RawLabels {
+    ghost use Rattle.std.specs.Prelude.{List, ℕ};
+
+    ghost Value = { List (List ℕ × List ℕ) };
+
+    ghost use Rattle.meta_types.specs.Text.{texts_of};
+
+    ghost view = { λ l. texts_of l.entries.items };
+}
+
+impl PartialEq for RawLabels {
+    ghost eq = { λ a b. pointwise (λ x y. bytes_eq x.0 y.0 && bytes_eq x.1 y.1) a b };
+
+    ghost laws = { partial_equiv_from_equiv (lists_equiv (and_equiv (on_equiv (λ x. x.0) nat_list_eq_equiv) (on_equiv (λ x. x.1) nat_list_eq_equiv))) };
+
+    fn eq(&self, other: &RawLabels) -> bool {
+        self.entries == other.entries
+    }
+}
+
+impl Clone for RawLabels {
+    ghost is_clone = { λ a b. b ≡ a };
+
+    fn clone(&self) -> Result<RawLabels, AllocError> {
+        let entries = self.entries.clone()?;
+        Ok(RawLabels { entries })
+    }
+}
+
+impl RawLabels {
+    /// The pairs as they came.
+    pub fn new(entries: Vec<(String, String)>) -> RawLabels
+        ensures { result ≡ texts_of entries.items }
+    {
+        RawLabels { entries }
+    }
+
+    /// Others of the same texts.
+    pub fn copy(&self, _alloc: Global) -> Result<RawLabels, Fault>
+        ensures fault { Refuses result None }
+        ensures ok { IfOk result (λ pairs. pairs ≡ self.now) }
+    {
+        Ok(self.clone()?)
+    }
+
+    /// The keys and values as they came.
+    pub fn entries(&self) -> &[(String, String)]
+        ensures { texts_of result.now ≡ self.now }
+    {
+        &self.entries
+    }
+}

@@ -1,9 +1,0 @@
-use Rattle.std.proofs.Common.{ap}
-use Rattle.request_core.proofs.Undone as undone
-use Rattle.request_core.proofs.Refusals.{err_of}
-use Rattle.request_core.proofs.commit_growth.grow_commit.Goals as goal
-
--- what became new to the lease is let go
-pub returns-clause-err : goal.returns-clause-err
-returns-clause-err c =
-    (ap (err_of (Unit {0})) (rw c.requires.fine at c.in-Err.ensures.fault), c.in-Err.ensures.err, rw (c.let_go.ensures, c.in_ok-new.ensures.new, c.in_ok-new.ensures.ok) (undone.let_go c.args.key.now.ns c.args.lease.now c.in_ok-resource.resource c.args.leases.now))

@@ -1,0 +1,58 @@
+//! A commit of a snapshot that happens whole or not at all.
+ghost use Rattle.std.specs.Prelude.{◌≡◌, true, None, OnOk, OnErr, IfOk, Err};
+ghost use Rattle.meta_types.specs.Ops.Snapshots.{committed};
+ghost use Rattle.meta_types.specs.Changes.{hold_under};
+ghost use Rattle.meta_types.specs.declared.fault.Fault.TheVariants as F;
+ghost use Rattle.meta_types.specs.declared.resource.Resource.TheVariants as H;
+ghost use Rattle.object_tables.specs.Calls.{committing_fault};
+ghost use Rattle.request_core.specs.Parts.{is_lease_there};
+
+use crate::add::content::{hold, release};
+use lease_book::Leases;
+use meta_types::{Fault, Labels, Name, Resource, ShortName, SnapKey};
+use object_tables::Tables;
+use std::alloc::Global;
+
+/// The resource of a snapshot.
+pub(crate) fn snapshot_resource(snapshotter: &ShortName, name: &Name) -> Result<Resource, Fault>
+    ensures ok { IfOk result (λ resource. resource ≡ H.Snapshot snapshotter.now name.now) }
+    ensures err { OnErr result (result ≡ Err F.OutOfMemory) }
+{
+    let snapshotter = snapshotter.copy()?;
+    let name = name.copy()?;
+    Ok(Resource::Snapshot(snapshotter, name))
+}
+
+/// Commits a snapshot, which the named lease then holds; or nothing at all.
+pub(crate) fn grow_commit(
+    tables: &mut Tables,
+    leases: &mut Leases,
+    alloc: Global,
+    key: &SnapKey,
+    name: Name,
+    labels: Labels,
+    lease: &Option<Name>,
+) -> Result<(), Fault>
+    requires lease { is_lease_there key.now.ns lease.now leases.old ≡ true }
+    requires fine { committing_fault key.now.ns key.now.snapshotter key.now.name name
+        tables.old.snapshots ≡ None }
+    ensures tables { OnOk result (tables.new ≡ record tables.old {
+      snapshots = committed key.now.ns key.now.snapshotter key.now.name name labels
+          tables.old.snapshots;
+    }) }
+    ensures leases { OnOk result
+        (leases.new
+        ≡ hold_under key.now.ns lease.now (H.Snapshot key.now.snapshotter name) leases.old) }
+    ensures err { OnErr result ((result ≡ Err F.OutOfMemory) × (tables.new ≡ tables.old)
+        × (leases.new ≡ leases.old)) }
+{
+    let resource = snapshot_resource(&key.snapshotter, &name)?;
+    let new = hold(leases, alloc, &key.ns, lease, &resource)?;
+    match tables.commit_snap(alloc, key, name, labels) {
+        Ok(()) => Ok(()),
+        Err(fault) => {
+            release(leases, &key.ns, lease, &resource, new);
+            Err(fault)
+        }
+    }
+}

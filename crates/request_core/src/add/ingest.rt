@@ -1,0 +1,169 @@
+//! A beginning of an ingest that happens whole or not at all.
+ghost use Rattle.std.specs.Prelude.{◌≡◌, ◌∷◌, [], true, false, None, OnOk, OnErr, IfOk, Err};
+ghost use Rattle.meta_types.specs.Keys.{has_row, add_row};
+ghost use Rattle.meta_types.specs.Rows.{ingest_key};
+ghost use Rattle.meta_types.specs.Sound.{AreNumbered};
+ghost use Rattle.meta_types.specs.Changes.{has_namespace, hold_under};
+ghost use Rattle.meta_types.specs.declared.fault.Fault.TheVariants as F;
+ghost use Rattle.meta_types.specs.declared.resource.Resource.TheVariants as H;
+ghost use Rattle.object_tables.specs.Calls.{adding_fault};
+ghost use Rattle.back_model.specs.Objects.{has_number, put_number};
+ghost use Rattle.request_core.specs.Parts.{is_lease_there, MakesOrFails};
+
+use crate::add::content::{hold, release};
+use back_model::{Backends, BlobBackend, IngestBackend, MakeFault, SnapBackend};
+use lease_book::Leases;
+use meta_types::{Digest, Fault, IngestRow, Instant, Name, Resource, ShortName};
+use object_tables::Tables;
+use std::alloc::Global;
+
+// Makes an ingest's object under a number that is free.
+fn make_ingest<S: SnapBackend, B: BlobBackend, I: IngestBackend>(
+    backends: &mut Backends<S, B, I>,
+    alloc: Global,
+    number: u64,
+) -> Result<(), Fault>
+    requires { has_number number (I.contents backends.old.ingests) ≡ false }
+    ensures ok { OnOk result
+        (I.contents backends.new.ingests ≡ put_number number (I.contents backends.old.ingests)) }
+    ensures err { OnErr result
+        (I.contents backends.new.ingests ≡ I.contents backends.old.ingests) }
+    ensures others { (backends.new.shards ≡ backends.old.shards)
+        × (backends.new.blobs ≡ backends.old.blobs) }
+    ensures fault { MakesOrFails result (I.fails backends.old.ingests)
+        (I.fails backends.new.ingests) }
+{
+    match backends.ingests_mut().make(alloc, number) {
+        Ok(()) => Ok(()),
+        Err(MakeFault::Device) => Err(Fault::BackendFailed),
+        Err(MakeFault::Memory) => Err(Fault::OutOfMemory),
+        Err(MakeFault::Taken | MakeFault::Missing) => unreachable!(),
+    }
+}
+
+// Has the named lease hold a resource and the backend an ingest, or neither.
+fn hold_and_begin<S: SnapBackend, B: BlobBackend, I: IngestBackend>(
+    leases: &mut Leases,
+    backends: &mut Backends<S, B, I>,
+    alloc: Global,
+    ns: &ShortName,
+    lease: &Option<Name>,
+    resource: &Resource,
+    number: u64,
+) -> Result<(), Fault>
+    requires lease { is_lease_there ns.now lease.now leases.old ≡ true }
+    requires number { has_number number (I.contents backends.old.ingests) ≡ false }
+    ensures leases { OnOk result (leases.new ≡ hold_under ns.now lease.now resource.now leases.old) }
+    ensures ingests { OnOk result
+        (I.contents backends.new.ingests ≡ put_number number (I.contents backends.old.ingests)) }
+    ensures err { OnErr result ((leases.new ≡ leases.old)
+        × (I.contents backends.new.ingests ≡ I.contents backends.old.ingests)) }
+    ensures others { (backends.new.shards ≡ backends.old.shards)
+        × (backends.new.blobs ≡ backends.old.blobs) }
+    ensures fault { MakesOrFails result (I.fails backends.old.ingests)
+        (I.fails backends.new.ingests) }
+{
+    let new = hold(leases, alloc, ns, lease, resource)?;
+    match make_ingest(backends, alloc, number) {
+        Ok(()) => Ok(()),
+        Err(fault) => {
+            release(leases, ns, lease, resource, new);
+            Err(fault)
+        }
+    }
+}
+
+// The resource of an ingest.
+fn ingest_resource(name: &Name) -> Result<Resource, Fault>
+    ensures ok { IfOk result (λ resource. resource ≡ H.Ingest name.now) }
+    ensures err { OnErr result (result ≡ Err F.OutOfMemory) }
+{
+    let name = name.copy()?;
+    Ok(Resource::Ingest(name))
+}
+
+// A row of an ingest.
+fn ingest_row(
+    ns: &ShortName,
+    name: &Name,
+    expected: Option<Digest>,
+    expires: Option<Instant>,
+    number: u64,
+) -> Result<IngestRow, Fault>
+    ensures ok { IfOk result (λ row. row ≡ record {
+      ns = ns.now;
+      name = name.now;
+      expected = expected;
+      expires = expires;
+      number = number;
+    }) }
+    ensures err { OnErr result (result ≡ Err F.OutOfMemory) }
+{
+    let ns = ns.copy()?;
+    let name = name.copy()?;
+    Ok(IngestRow {
+        ns,
+        name,
+        expected,
+        expires,
+        number,
+    })
+}
+
+/// Adds an ingest, which the named lease then holds, with its object; or nothing at all.
+pub(crate) fn grow_ingest<S: SnapBackend, B: BlobBackend, I: IngestBackend>(
+    tables: &mut Tables,
+    leases: &mut Leases,
+    backends: &mut Backends<S, B, I>,
+    alloc: Global,
+    ns: &ShortName,
+    name: &Name,
+    expected: Option<Digest>,
+    expires: Option<Instant>,
+    number: u64,
+    lease: &Option<Name>,
+) -> Result<(), Fault>
+    requires ns { has_namespace tables.old ns.now ≡ true }
+    requires lease { is_lease_there ns.now lease.now leases.old ≡ true }
+    requires free { has_row ingest_key (ns.now ∷ name.now ∷ []) tables.old.ingests ≡ false }
+    requires number { has_number number (I.contents backends.old.ingests) ≡ false }
+    requires numbered { adding_fault tables.old ns.now
+        (has_row ingest_key (ns.now ∷ name.now ∷ []) tables.old.ingests) ≡ None
+        → AreNumbered tables.old.snapshots (add_row ingest_key (record {
+          ns = ns.now;
+          name = name.now;
+          expected = expected;
+          expires = expires;
+          number = number;
+        }) tables.old.ingests) }
+    ensures tables { OnOk result (tables.new ≡ record tables.old {
+      ingests = add_row ingest_key (record {
+        ns = ns.now;
+        name = name.now;
+        expected = expected;
+        expires = expires;
+        number = number;
+      }) tables.old.ingests;
+    }) }
+    ensures leases { OnOk result
+        (leases.new ≡ hold_under ns.now lease.now (H.Ingest name.now) leases.old) }
+    ensures ingests { OnOk result
+        (I.contents backends.new.ingests ≡ put_number number (I.contents backends.old.ingests)) }
+    ensures err { OnErr result ((tables.new ≡ tables.old) × (leases.new ≡ leases.old)
+        × (I.contents backends.new.ingests ≡ I.contents backends.old.ingests)) }
+    ensures others { (backends.new.shards ≡ backends.old.shards)
+        × (backends.new.blobs ≡ backends.old.blobs) }
+    ensures fault { MakesOrFails result (I.fails backends.old.ingests)
+        (I.fails backends.new.ingests) }
+{
+    let resource = ingest_resource(name)?;
+    let row = ingest_row(ns, name, expected, expires, number)?;
+    tables.add_ingest(alloc, row)?;
+    match hold_and_begin(leases, backends, alloc, ns, lease, &resource, number) {
+        Ok(()) => Ok(()),
+        Err(fault) => {
+            let _ = tables.remove_ingest(ns, name);
+            Err(fault)
+        }
+    }
+}

@@ -1,0 +1,9 @@
+//! Requests, one file a kind.
+
+pub(crate) mod containers;
+pub(crate) mod content;
+pub(crate) mod images;
+pub(crate) mod ingests;
+pub(crate) mod leases;
+pub(crate) mod namespaces;
+pub(crate) mod snapshots;

@@ -1,0 +1,164 @@
+//! Names, digests and resources that the texts of a request give.
+ghost use Rattle.std.specs.Prelude.{[], is_some};
+ghost use Rattle.meta_types.specs.Resources.{resource_of};
+ghost use Rattle.request_core.specs.Parts.{some_of, some_third};
+ghost use Rattle.meta_types.specs.Text.{is_short_name, is_name, is_digest};
+ghost use Rattle.meta_types.specs.Changes.{all_of, is_allowed_if};
+ghost use Rattle.request_core.specs.Follows.{ReadsTexts};
+
+use crate::refusal::{Refusal, reading};
+use meta_types::{Digest, Name, RawText, Resource, ShortName, SnapKey};
+use std::alloc::Global;
+
+/// Reads a namespace or a snapshotter.
+pub(crate) fn read_short_name(alloc: Global, text: &RawText) -> Result<ShortName, Refusal>
+    ensures { ReadsTexts result (is_short_name text.now) text.now }
+{
+    match ShortName::read(alloc, text.text()) {
+        Ok(read) => Ok(read),
+        Err(fault) => Err(reading(fault)),
+    }
+}
+
+/// Reads another name.
+pub(crate) fn read_name(alloc: Global, text: &RawText) -> Result<Name, Refusal>
+    ensures { ReadsTexts result (is_name text.now) text.now }
+{
+    match Name::read(alloc, text.text()) {
+        Ok(read) => Ok(read),
+        Err(fault) => Err(reading(fault)),
+    }
+}
+
+/// Reads a name that may be left out.
+pub(crate) fn read_name_if(alloc: Global, text: &Option<RawText>) -> Result<Option<Name>, Refusal>
+    ensures { ReadsTexts result (is_allowed_if is_name text.now) text.now }
+{
+    match text {
+        Some(text) => Ok(Some(read_name(alloc, text)?)),
+        None => Ok(None),
+    }
+}
+
+/// Reads a digest.
+pub(crate) fn read_digest(alloc: Global, text: &RawText) -> Result<Digest, Refusal>
+    ensures { ReadsTexts result (is_digest text.now) text.now }
+{
+    match Digest::read(alloc, text.text()) {
+        Ok(read) => Ok(read),
+        Err(fault) => Err(reading(fault)),
+    }
+}
+
+/// Reads a namespace.
+pub(crate) fn read_ns(alloc: Global, ns: &RawText) -> Result<ShortName, Refusal>
+    ensures { ReadsTexts result (all_of (is_short_name ns.now ∷ [])) ns.now }
+{
+    read_short_name(alloc, ns)
+}
+
+/// Reads a namespace and a name.
+pub(crate) fn read_object(
+    alloc: Global,
+    ns: &RawText,
+    name: &RawText,
+) -> Result<(ShortName, Name), Refusal>
+    ensures { ReadsTexts result (all_of (is_short_name ns.now ∷ is_name name.now ∷ []))
+        (ns.now, name.now) }
+{
+    let ns = read_short_name(alloc, ns)?;
+    let name = read_name(alloc, name)?;
+    Ok((ns, name))
+}
+
+/// Reads a namespace and a digest.
+pub(crate) fn read_content(
+    alloc: Global,
+    ns: &RawText,
+    digest: &RawText,
+) -> Result<(ShortName, Digest), Refusal>
+    ensures { ReadsTexts result (all_of (is_short_name ns.now ∷ is_digest digest.now ∷ []))
+        (ns.now, digest.now) }
+{
+    let ns = read_short_name(alloc, ns)?;
+    let digest = read_digest(alloc, digest)?;
+    Ok((ns, digest))
+}
+
+/// Reads what names a snapshot.
+pub(crate) fn read_snap(
+    alloc: Global,
+    ns: &RawText,
+    snapshotter: &RawText,
+    name: &RawText,
+) -> Result<SnapKey, Refusal>
+    ensures { ReadsTexts result (all_of (is_short_name ns.now ∷ is_short_name snapshotter.now
+        ∷ is_name name.now ∷ [])) (record {
+          ns = ns.now;
+          snapshotter = snapshotter.now;
+          name = name.now;
+        }) }
+{
+    let (ns, snapshotter) = read_snapshotter(alloc, ns, snapshotter)?;
+    let name = read_name(alloc, name)?;
+    Ok(SnapKey {
+        ns,
+        snapshotter,
+        name,
+    })
+}
+
+/// Reads a namespace and a snapshotter.
+pub(crate) fn read_snapshotter(
+    alloc: Global,
+    ns: &RawText,
+    snapshotter: &RawText,
+) -> Result<(ShortName, ShortName), Refusal>
+    ensures { ReadsTexts result (all_of (is_short_name ns.now ∷ is_short_name snapshotter.now
+        ∷ [])) (ns.now, snapshotter.now) }
+{
+    let ns = read_short_name(alloc, ns)?;
+    let snapshotter = read_short_name(alloc, snapshotter)?;
+    Ok((ns, snapshotter))
+}
+
+/// Reads a digest that may be left out.
+pub(crate) fn read_digest_if(
+    alloc: Global,
+    text: &Option<RawText>,
+) -> Result<Option<Digest>, Refusal>
+    ensures { ReadsTexts result (is_allowed_if is_digest text.now) text.now }
+{
+    match text {
+        Some(text) => Ok(Some(read_digest(alloc, text)?)),
+        None => Ok(None),
+    }
+}
+
+/// Reads a lease's namespace and id, and a resource.
+pub(crate) fn read_held(
+    alloc: Global,
+    ns: &RawText,
+    id: &RawText,
+    kind: &RawText,
+    resource: &RawText,
+) -> Result<(ShortName, Name, Resource), Refusal>
+    ensures { ReadsTexts (some_third result) (all_of (is_short_name ns.now ∷ is_name id.now
+        ∷ is_some (resource_of kind.now resource.now) ∷ []))
+        (ns.now, id.now, resource_of kind.now resource.now) }
+{
+    let (ns, id) = read_object(alloc, ns, id)?;
+    let resource = read_resource(alloc, kind, resource)?;
+    Ok((ns, id, resource))
+}
+
+// Reads a resource.
+fn read_resource(alloc: Global, kind: &RawText, resource: &RawText) -> Result<Resource, Refusal>
+    ensures { ReadsTexts (some_of result) (is_some (resource_of kind.now resource.now))
+        (resource_of kind.now resource.now) }
+{
+    match Resource::read(alloc, kind.text(), resource.text()) {
+        Ok(resource) => Ok(resource),
+        Err(fault) => Err(reading(fault)),
+    }
+}

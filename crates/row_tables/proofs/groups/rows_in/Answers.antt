@@ -1,0 +1,16 @@
+use Rattle.std.proofs.Common.{◌≡◌, List, map, sym, ap, ◌∙◌, subst}
+use Rattle.std.specs.Prelude.{IfOk}
+use Rattle.row_tables.proofs.NamespaceRows.{group_is, none_of_it, rows_of_it}
+use Rattle.row_tables.proofs.groups.rows_in.Goals as goal
+
+-- the namespace has its rows, and no other has one of them
+pub returns-in-Ok-clause-ok : goal.returns-in-Ok-clause-ok
+returns-in-Ok-clause-ok g c =
+    let home = c.in-Ok.ensures.found in
+    subst (λ (rows : List g.row.R.Denot). IfOk c.rows.result (λ list. map (λ row. row.now) list.items ≡ rows))
+    (ap (λ x. x.1) (group_is g.K.Named.texts_of g.R.NamedRow.name_of g.R.GroupedRow.group_of c.args.ns.now c.in-Ok.place home.0 c.args.groups.now home.1 c.requires c.index-groups-place.result c.index-groups-place.is)
+    ∙ sym (rows_of_it g.K.Named.texts_of g.R.NamedRow.name_of g.R.GroupedRow.group_of c.args.ns.now c.args.groups.now c.in-Ok.place home.0 c.requires.order c.requires.own home.1))
+    c.rows.ensures.ok
+
+pub returns-in-Err-clause-ok : goal.returns-in-Err-clause-ok
+returns-in-Err-clause-ok g c = ap (map (λ row. row.now)) c.new.ensures.items ∙ sym (none_of_it g.K.Named.texts_of g.R.NamedRow.name_of g.R.GroupedRow.group_of c.args.ns.now c.args.groups.now c.in-Err.ensures.none c.requires.own)

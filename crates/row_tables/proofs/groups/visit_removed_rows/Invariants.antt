@@ -1,0 +1,12 @@
+use Rattle.std.proofs.Common.{◌≡◌, map}
+use Rattle.row_tables.specs.Visiting.{gone, all_visited}
+use Rattle.row_tables.specs.Namespaces.{all_rows}
+use Rattle.row_tables.proofs.ListLoops.{Visits}
+use Rattle.row_tables.proofs.groups.visit_removed_rows.Given as goal
+
+-- so many namespaces are told of; all rows are as they were
+abbrev pub invariant-loop-group : goal.invariant-loop-group
+invariant-loop-group g l = record {
+  same : l.groups ≡ l.initial.groups;
+  visited : Visits g.P.RemovedRows.after_visit (all_visited g.P.RemovedRows.after_visit (gone l.marks (all_rows l.initial.groups)) l.initial.visitor) (map (λ group. group.1) l.groups) l.group-index l.rest l.visitor;
+}

@@ -1,0 +1,4 @@
+pub mod Arrived
+pub mod Namespaces
+pub mod Resources
+pub mod Visiting

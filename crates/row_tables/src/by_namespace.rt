@@ -1,0 +1,201 @@
+//! Rows of all namespaces.
+ghost use Rattle.std.specs.Prelude.{◌≡◌, ◌∷◌, [], map, false, None, IfOk, IfSome, IfNone, OnOk, OnErr, IsTrue, length, filter, bytes_eq, option_copied};
+ghost use Rattle.std.specs.Bool.{OnFalse};
+ghost use Rattle.std.specs.List.{list_any, list_all};
+ghost use Rattle.meta_types.specs.Keys.{are_in_order, row_at, has_row, add_row, remove_row};
+ghost use Rattle.meta_types.specs.Faults.{Refuses, least_of};
+ghost use Rattle.row_tables.specs.Arrived.{kept, Becomes};
+ghost use Rattle.row_tables.specs.Visiting.{gone, all_visited};
+ghost use Rattle.row_tables.specs.Namespaces.{full_key};
+
+use crate::group::Group;
+use crate::groups;
+use crate::named::Named;
+use crate::row::{Change, GroupedRow, RemovedRows, Test};
+use meta_types::{Fault, ShortName};
+use std::alloc::Global;
+use std::marker::Model;
+
+/// Rows by namespace and name, which contracts see in the order of their keys. A row is found in
+/// its namespace by a hash of its name.
+#[derive(Drop)]
+pub struct ByNamespace<K: Named, R: GroupedRow<K>> {
+    groups: Vec<Group<K, R>>,
+}
+
+impl<K: Named, R: GroupedRow<K>> Model for ByNamespace<K, R> {
+    ghost use Rattle.std.specs.Prelude.{List};
+    ghost use Rattle.row_tables.specs.Namespaces.{full_key, all_rows, AreGroups};
+
+    ghost Value = { List R };
+
+    ghost view = { λ t. all_rows t.groups.items };
+
+    ghost invariant = { λ t. AreGroups (full_key K.texts_of R.name_of R.group_of) R.group_of
+        t.groups.items };
+}
+
+impl<K: Named, R: GroupedRow<K>> ByNamespace<K, R> {
+    /// No row. It takes no memory.
+    pub fn new(alloc: Global) -> ByNamespace<K, R>
+        ensures { result ≡ [] }
+    {
+        ByNamespace {
+            groups: Vec::new(alloc),
+        }
+    }
+
+    /// How many rows there are.
+    pub fn len(&self) -> u128
+        ensures { result ≡ length self.now }
+    {
+        groups::count_rows(&self.groups)
+    }
+
+    /// Whether the row is there. Each caller learns here that keys stand in their order.
+    pub fn has(&self, ns: &ShortName, name: &K) -> bool
+        ensures there { result ≡ has_row (full_key K.texts_of R.name_of R.group_of)
+            (ns.now ∷ K.texts_of name.now) self.now }
+        ensures order { IsTrue (are_in_order (full_key K.texts_of R.name_of R.group_of) self.now) }
+    {
+        groups::has_row(&self.groups, ns, name)
+    }
+
+    /// The row of a namespace and a name.
+    pub fn get(&self, ns: &ShortName, name: &K) -> Option<&R>
+        ensures row { option_copied result ≡ row_at (full_key K.texts_of R.name_of R.group_of)
+            (ns.now ∷ K.texts_of name.now) self.now }
+        ensures order { IsTrue (are_in_order (full_key K.texts_of R.name_of R.group_of) self.now) }
+    {
+        groups::row_in(&self.groups, ns, name)
+    }
+
+    /// A row more, where none has its key. It takes the text of its namespace that is there.
+    pub fn add(&mut self, alloc: Global, row: R) -> Result<(), Fault>
+        requires { has_row (full_key K.texts_of R.name_of R.group_of)
+            (full_key K.texts_of R.name_of R.group_of row) self.old ≡ false }
+        ensures fault { Refuses result None }
+        ensures ok { OnOk result (self.new
+            ≡ add_row (full_key K.texts_of R.name_of R.group_of) row self.old) }
+        ensures err { OnErr result (self.new ≡ self.old) }
+    {
+        groups::add_row(&mut self.groups, alloc, row)
+    }
+
+    /// A row more, where none has its key: one look finds whether one has. It takes the text of its
+    /// namespace that is there.
+    pub fn add_new(&mut self, alloc: Global, row: R) -> Result<(), Fault>
+        ensures fault { Refuses result (least_of false false
+            (has_row (full_key K.texts_of R.name_of R.group_of)
+            (full_key K.texts_of R.name_of R.group_of row) self.old) false) }
+        ensures ok { OnOk result (self.new
+            ≡ add_row (full_key K.texts_of R.name_of R.group_of) row self.old) }
+        ensures err { OnErr result (self.new ≡ self.old) }
+    {
+        groups::add_new_row(&mut self.groups, alloc, row)
+    }
+
+    /// The row of a namespace and a name goes, to the caller. It takes no memory.
+    pub fn take(&mut self, ns: &ShortName, name: &K) -> Option<R>
+        ensures row { result ≡ row_at (full_key K.texts_of R.name_of R.group_of)
+            (ns.now ∷ K.texts_of name.now) self.old }
+        ensures left { self.new ≡ remove_row (full_key K.texts_of R.name_of R.group_of)
+            (ns.now ∷ K.texts_of name.now) self.old }
+    {
+        groups::take_row(&mut self.groups, ns, name)
+    }
+
+    /// The row of a namespace and a name goes; says whether it was there. It takes no memory.
+    pub fn remove(&mut self, ns: &ShortName, name: &K) -> bool
+        ensures found { result ≡ has_row (full_key K.texts_of R.name_of R.group_of)
+            (ns.now ∷ K.texts_of name.now) self.old }
+        ensures left { self.new ≡ remove_row (full_key K.texts_of R.name_of R.group_of)
+            (ns.now ∷ K.texts_of name.now) self.old }
+        ensures same { OnFalse result (self.new ≡ self.old) }
+    {
+        match self.take(ns, name) {
+            Some(_row) => true,
+            None => false,
+        }
+    }
+
+    /// Changes the row of a namespace and a name in its place; nothing is answered where there is
+    /// none. It takes no memory but what the change takes.
+    pub fn change<A, C: Change<K, R, A>>(
+        &mut self,
+        ns: &ShortName,
+        name: &K,
+        change: C,
+    ) -> Option<A>
+        requires { (row : R) (answer : A) (after : R) → C.changes change row answer after
+            → R.group_of after ≡ R.group_of row }
+        ensures absent { IfNone result (has_row (full_key K.texts_of R.name_of R.group_of)
+            (ns.now ∷ K.texts_of name.now) self.old ≡ false) }
+        ensures same { IfNone result (self.new ≡ self.old) }
+        ensures changed { IfSome result (λ answer. (row : R) × (after : R)
+            × C.changes change row answer after × Becomes (full_key K.texts_of R.name_of R.group_of)
+            (ns.now ∷ K.texts_of name.now) row after self.old self.new) }
+    {
+        groups::change_row(&mut self.groups, ns, name, change)
+    }
+
+    /// Whether all rows pass the test. It takes no memory.
+    pub fn all<T: Test<R>>(&self, test: &T) -> bool
+        ensures { result ≡ list_all (T.passes test.now) self.now }
+    {
+        groups::all_pass(&self.groups, test)
+    }
+
+    /// Whether some row is in the namespace.
+    pub fn any_in(&self, ns: &ShortName) -> bool
+        ensures { result ≡ list_any (λ row. bytes_eq ns.now (R.group_of row)) self.now }
+    {
+        groups::any_in(&self.groups, ns)
+    }
+
+    /// The rows of a namespace, in the order of their keys.
+    pub fn rows_in(&self, alloc: Global, ns: &ShortName) -> Result<Vec<&R>, Fault>
+        ensures fault { Refuses result None }
+        ensures ok { IfOk result (λ list. map (λ row. row.now) list.items
+            ≡ filter (λ row. bytes_eq ns.now (R.group_of row)) self.now) }
+    {
+        groups::rows_in(&self.groups, alloc, ns)
+    }
+
+    /// The rows, in the order of their keys.
+    pub fn rows(&self, alloc: Global) -> Result<Vec<&R>, Fault>
+        ensures fault { Refuses result None }
+        ensures ok { IfOk result (λ list. map (λ row. row.now) list.items ≡ self.now) }
+        ensures order { IsTrue (are_in_order (full_key K.texts_of R.name_of R.group_of) self.now) }
+    {
+        groups::borrow_rows(&self.groups, alloc)
+    }
+
+    /// The same rows once more. They share their texts.
+    pub fn copy(&self, alloc: Global) -> Result<ByNamespace<K, R>, Fault>
+        ensures fault { Refuses result None }
+        ensures ok { IfOk result (λ table. table ≡ self.now) }
+    {
+        let groups = groups::copy_groups(&self.groups, alloc)?;
+        Ok(ByNamespace { groups })
+    }
+
+    /// Tells of each row whose place in the order of keys isn't marked, in that order. It takes no
+    /// memory.
+    pub(crate) fn visit_removed<P: RemovedRows<R>>(&mut self, marks: &[bool], visitor: &mut P)
+        requires { length marks.now ≡ length self.old }
+        ensures same { self.new ≡ self.old }
+        ensures visited { visitor.new
+            ≡ all_visited P.after_visit (gone marks.now self.old) visitor.old }
+    {
+        groups::visit_removed_rows(&mut self.groups, marks, visitor);
+    }
+
+    /// Keeps the rows whose places in the order of keys are marked. It takes no memory.
+    pub fn retain(&mut self, marks: &[bool])
+        requires { length marks.now ≡ length self.old }
+        ensures { self.new ≡ kept marks.now self.old }
+    {
+        groups::retain_rows(&mut self.groups, marks);
+    }
+}

@@ -1,0 +1,253 @@
+//! Rows as they came.
+ghost use Rattle.std.specs.Prelude.{◌≡◌, ◌<◌, ◌≤◌, ◌^◌, ◌++◌, ◌∷◌, [], Bool, map, filter, false, None, Some, IfOk, IfErr, IfSome, IfNone, OnOk, OnErr, IsTrue, length, is_some, option_copied};
+ghost use Rattle.std.specs.Bool.{OnFalse};
+ghost use Rattle.std.specs.List.{IsDistinct, list_all};
+ghost use Rattle.meta_types.specs.Keys.{are_in_order, row_at, has_row, add_row, remove_row, change_row};
+ghost use Rattle.meta_types.specs.Faults.{Refuses, least_of};
+ghost use Rattle.indexmap.specs.IndexMap.{IsUnique, get, insert_entry};
+ghost use Rattle.row_tables.specs.Arrived.{sorted, by_name, same_key, kept, without_memory, Becomes};
+
+use crate::named::Named;
+use crate::row::{Change, NamedRow, Test};
+use indexmap::IndexMap;
+use indexmap::map::Entry;
+use meta_types::Fault;
+use std::alloc::{AllocFailed, Global};
+use std::marker::Model;
+
+/// Rows in the order in which they came, each found by its name. Where one goes, the last takes its
+/// place.
+#[derive(Drop)]
+pub struct RowTable<K: Named, R: NamedRow<K>> {
+    rows: IndexMap<K, R>,
+}
+
+impl<K: Named, R: NamedRow<K>> Model for RowTable<K, R> {
+    ghost use Rattle.std.specs.Prelude.{List};
+    ghost use Rattle.indexmap.specs.IndexMap.{values};
+    ghost use Rattle.row_tables.specs.Arrived.{AreNamed};
+
+    ghost Value = { List R };
+
+    ghost view = { λ t. values t.rows };
+
+    ghost invariant = { λ t. AreNamed K.eq R.name_of t.rows.entries };
+}
+
+impl<K: Named, R: NamedRow<K>> RowTable<K, R> {
+    /// No row. It takes no memory.
+    pub fn new(alloc: Global) -> RowTable<K, R>
+        ensures { result ≡ [] }
+    {
+        RowTable {
+            rows: IndexMap::new(alloc),
+        }
+    }
+
+    /// How many rows there are.
+    pub fn len(&self) -> usize
+        ensures len { result ≡ length self.now }
+        ensures small { result < 2 ^ 63 }
+    {
+        self.rows.len()
+    }
+
+    /// Whether a row has the name.
+    pub fn has(&self, name: &K) -> bool
+        ensures { result ≡ has_row (by_name K.texts_of R.name_of) (K.texts_of name.now)
+            (sorted (by_name K.texts_of R.name_of) self.now) }
+    {
+        self.rows.contains_key(name)
+    }
+
+    /// The row of a name.
+    pub fn get(&self, name: &K) -> Option<&R>
+        ensures { option_copied result ≡ row_at (by_name K.texts_of R.name_of)
+            (K.texts_of name.now) (sorted (by_name K.texts_of R.name_of) self.now) }
+    {
+        self.rows.get(name)
+    }
+
+    /// The rows, in the order of their places.
+    pub fn rows(&self) -> &[R]
+        ensures rows { result.now ≡ self.now }
+        ensures order { IsTrue (are_in_order (by_name K.texts_of R.name_of) (sorted
+            (by_name K.texts_of R.name_of) self.now)) }
+        ensures distinct { IsDistinct (same_key (by_name K.texts_of R.name_of)) self.now }
+    {
+        self.rows.values().as_slice()
+    }
+
+    /// Whether all rows pass the test. It takes no memory.
+    pub fn all<T: Test<R>>(&self, test: &T) -> bool
+        ensures { result ≡ list_all (T.passes test.now)
+            (sorted (by_name K.texts_of R.name_of) self.now) }
+    {
+        all_pass(self.rows(), test)
+    }
+
+    /// The row goes behind all others; where memory is refused, it comes back.
+    pub fn add(&mut self, row: R) -> Result<(), AllocFailed<R>>
+        requires { has_row (by_name K.texts_of R.name_of) (K.texts_of (R.name_of row)) (sorted
+            (by_name K.texts_of R.name_of) self.old) ≡ false }
+        ensures ok { OnOk result (sorted (by_name K.texts_of R.name_of) self.new ≡ add_row
+            (by_name K.texts_of R.name_of) row (sorted (by_name K.texts_of R.name_of) self.old)) }
+        ensures last { OnOk result (self.new ≡ self.old ++ row ∷ []) }
+        ensures err { OnErr result (self.new ≡ self.old) }
+        ensures value_returned { IfErr result (λ refused. refused.value ≡ row) }
+    {
+        let Ok(name) = row.name().copy_name() else {
+            return Err(AllocFailed { value: row });
+        };
+        match self.rows.insert(name, row) {
+            Ok(_) => Ok(()),
+            Err(refused) => Err(AllocFailed {
+                value: refused.value.1,
+            }),
+        }
+    }
+
+    /// The row goes behind all others, where none has its name: one look finds whether one has.
+    pub fn add_new(&mut self, row: R) -> Result<(), Fault>
+        ensures fault { Refuses result (least_of false false (has_row
+            (by_name K.texts_of R.name_of) (K.texts_of (R.name_of row)) (sorted
+            (by_name K.texts_of R.name_of) self.old)) false) }
+        ensures ok { OnOk result (sorted (by_name K.texts_of R.name_of) self.new ≡ add_row
+            (by_name K.texts_of R.name_of) row (sorted (by_name K.texts_of R.name_of) self.old)) }
+        ensures last { OnOk result (self.new ≡ self.old ++ row ∷ []) }
+        ensures err { OnErr result (self.new ≡ self.old) }
+    {
+        let Ok(name) = row.name().copy_name() else {
+            return Err(self.refusal(row.name()));
+        };
+        insert_new(&mut self.rows, name, row)
+    }
+
+    /// Why no row of the name is added, where memory was refused.
+    pub(crate) fn refusal(&self, name: &K) -> Fault
+        ensures { result ≡ without_memory (has_row (by_name K.texts_of R.name_of)
+            (K.texts_of name.now) (sorted (by_name K.texts_of R.name_of) self.now)) }
+    {
+        if self.has(name) {
+            Fault::AlreadyExists
+        } else {
+            Fault::OutOfMemory
+        }
+    }
+
+    /// The row of a name goes, to the caller; the last one takes its place. It takes no memory.
+    pub fn take(&mut self, name: &K) -> Option<R>
+        ensures row { result ≡ row_at (by_name K.texts_of R.name_of) (K.texts_of name.now) (sorted
+            (by_name K.texts_of R.name_of) self.old) }
+        ensures left { sorted (by_name K.texts_of R.name_of) self.new ≡ remove_row
+            (by_name K.texts_of R.name_of) (K.texts_of name.now) (sorted
+            (by_name K.texts_of R.name_of) self.old) }
+        ensures same { IfNone result (self.new ≡ self.old) }
+        ensures len { length self.new ≤ length self.old }
+    {
+        let place = match self.rows.get_full(name) {
+            Some((place, _name, _row)) => place,
+            None => return None,
+        };
+        let (_name, row) = self.rows.swap_remove_index(place).unwrap();
+        Some(row)
+    }
+
+    /// Changes the row of a name in its place; nothing is answered where there is none. It takes no
+    /// memory but what the change takes.
+    pub fn change<A, C: Change<K, R, A>>(&mut self, name: &K, change: C) -> Option<A>
+        ensures absent { IfNone result (has_row (by_name K.texts_of R.name_of)
+            (K.texts_of name.now) (sorted (by_name K.texts_of R.name_of) self.old) ≡ false) }
+        ensures same { IfNone result (self.new ≡ self.old) }
+        ensures changed { IfSome result (λ answer. (row : R) × (after : R)
+            × C.changes change row answer after × Becomes (by_name K.texts_of R.name_of)
+            (K.texts_of name.now) row after (sorted (by_name K.texts_of R.name_of) self.old)
+            (sorted (by_name K.texts_of R.name_of) self.new)) }
+        ensures len { length self.new ≡ length self.old }
+    {
+        let place = match self.rows.get_full(name) {
+            Some((place, _name, _row)) => place,
+            None => return None,
+        };
+        Some(change.change(&mut self.rows[place]))
+    }
+
+    /// The same rows once more, at the same places.
+    pub fn copy(&self, alloc: Global) -> Result<RowTable<K, R>, Fault>
+        ensures fault { Refuses result None }
+        ensures ok { IfOk result (λ table. table ≡ self.now) }
+    {
+        copy_rows(self.rows(), alloc)
+    }
+
+    /// Keeps the rows whose places are marked, in the order in which they came. It takes no memory.
+    pub fn retain(&mut self, marks: &[bool])
+        requires { length marks.now ≡ length self.old }
+        ensures left { self.new ≡ kept marks.now self.old }
+        ensures stays { (stays : R → Bool) → marks.now ≡ map stays self.old
+            → sorted (by_name K.texts_of R.name_of) self.new ≡ filter stays
+            (sorted (by_name K.texts_of R.name_of) self.old) }
+    {
+        retain_rows(&mut self.rows, marks);
+    }
+}
+
+// One look for the name gives its row's place, or the one where a row goes.
+fn insert_new<K: Named, R: NamedRow<K>>(
+    rows: &mut IndexMap<K, R>,
+    name: K,
+    row: R,
+) -> Result<(), Fault>
+    ensures fault { Refuses result (least_of false false (is_some (get K.eq rows.old name)) false) }
+    ensures ok { OnOk result (rows.new.entries ≡ insert_entry K.eq rows.old.entries name row) }
+    ensures err { OnErr result (rows.new.entries ≡ rows.old.entries) }
+    ensures unique { IsUnique K.eq rows.new }
+{
+    match rows.entry(name) {
+        Ok(Entry::Vacant(place)) => {
+            place.insert(row);
+            Ok(())
+        }
+        Ok(Entry::Occupied(there)) => {
+            // Lends the row that is there, so that the proof sees the map again.
+            let _ = there.into_mut();
+            Err(Fault::AlreadyExists)
+        }
+        Err(_) => Err(Fault::OutOfMemory),
+    }
+}
+
+fn all_pass<R, T: Test<R>>(rows: &[R], test: &T) -> bool
+    ensures { result ≡ list_all (T.passes test.now) rows.now }
+{
+    rows.iter().all(|row| test.test(row))
+}
+
+fn copy_rows<K: Named, R: NamedRow<K>>(rows: &[R], alloc: Global) -> Result<RowTable<K, R>, Fault>
+    requires { IsDistinct (same_key (by_name K.texts_of R.name_of)) rows.now }
+    ensures fault { Refuses result None }
+    ensures ok { IfOk result (λ copies. copies ≡ rows.now) }
+{
+    let mut copies = RowTable::new(alloc);
+    for row in rows {
+        let copy = row.copy_row(alloc)?;
+        copies.add(copy)?;
+    }
+    Ok(copies)
+}
+
+// Each row that stays goes to the first place that is free.
+fn retain_rows<K: Named, R: NamedRow<K>>(rows: &mut IndexMap<K, R>, marks: &[bool])
+    requires { length marks.now ≡ length rows.old.entries }
+    ensures kept { rows.new.entries ≡ kept marks.now rows.old.entries }
+    ensures unique { IsUnique K.eq rows.new }
+{
+    let mut next = 0;
+    for place in 0..marks.len() {
+        if marks[place] {
+            rows.swap_indices(next, place);
+            next += 1;
+        }
+    }
+    rows.truncate(next);
+}

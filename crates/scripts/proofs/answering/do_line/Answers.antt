@@ -1,0 +1,10 @@
+use Rattle.scripts.proofs.LineAnswers.{step-unread, refused_call, passed_on}
+use Rattle.scripts.proofs.answering.do_line.Goals as goal
+
+-- the line can't be read
+pub returns-in_err-asked-clause-err : goal.returns-in_err-asked-clause-err
+returns-in_err-asked-clause-err g c = passed_on c.from_residual.result _ _ c.from_residual.ensures.1 (step-unread c.args.locked.now.store.state c.args.line.now c.requires.length _ c.in_err-asked.ensures.fault)
+
+-- what it asks for is refused
+pub returns-clause-err : goal.returns-clause-err
+returns-clause-err g c = refused_call c.args.locked.now.store.state c.args.line.now c.requires.length c.do_asked-answer.result _ c.do_asked-answer.new.locked.store.state c.in_ok-asked.ensures.ok c.do_asked-answer.ensures.err

@@ -1,0 +1,17 @@
+use Rattle.std.proofs.Common.{None, refl, string_bytes}
+use Rattle.std.proofs.lemmas.Result.{on_err_weaker}
+use Rattle.scripts.specs.LineSteps.{line_step, with_line_feed}
+use Rattle.scripts.proofs.Writers.{WritesFront-none, holds_on_err}
+use Rattle.scripts.proofs.script.write_reply.Goals as goal
+
+pub returns-in_err-buffered_reply-clause-err : goal.returns-in_err-buffered_reply-clause-err
+returns-in_err-buffered_reply-clause-err g c = holds_on_err c.from_residual.result (λ line is_line.
+    let step = line_step c.args.store.now None line in
+    (step.0, step.0, step.1, (None, refl), WritesFront-none _ step.0))
+
+pub returns-in-Some-clause-err : goal.returns-in-Some-clause-err
+returns-in-Some-clause-err g c = on_err_weaker c.write_line.result
+    (λ w. λ line is_line.
+    let known = rw c.in-Some.is at (c.in_ok-buffered_reply.ensures.ok line is_line) in
+    (with_line_feed (string_bytes c.in-Some.text), w.0, _, known, w.1))
+    c.write_line.ensures.err

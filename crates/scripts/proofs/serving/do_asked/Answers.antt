@@ -1,0 +1,19 @@
+use Rattle.std.proofs.Common.{sym, subst}
+use Rattle.meta_types.specs.Steps.{reported}
+use Rattle.request_line.specs.declared.asked.Asked.{Asked}
+use Rattle.scripts.specs.Served.{IsServed, IsRefused}
+use Rattle.scripts.proofs.LineAnswers.{passed_on}
+use Rattle.scripts.proofs.serving.do_asked.Goals as goal
+
+-- the removal is refused
+pub returns-in_err-report-in-Remove-clause-err : goal.returns-in_err-report-in-Remove-clause-err
+returns-in_err-report-in-Remove-clause-err g c =
+    let old = c.args.locked.now.store.state in
+    let new = c.remove.new.locked.store.state in
+    passed_on c.from_residual-in_err-report-in-Remove.result _ (λ fault. IsRefused old c.args.asked.now fault new) c.from_residual-in_err-report-in-Remove.ensures.1
+    (subst (λ (asked : Asked). IsRefused old asked c.in_err-report-in-Remove.field-0.0 new) (sym c.in-Remove.is) c.in_err-report-in-Remove.ensures.err)
+
+-- the removal is done
+pub returns-in_ok-report-in-Remove-clause-ok : goal.returns-in_ok-report-in-Remove-clause-ok
+returns-in_ok-report-in-Remove-clause-ok g c =
+    subst (λ (asked : Asked). IsServed c.args.locked.now.store.state asked (reported c.in_ok-report-in-Remove.report) c.remove.new.locked.store.state) (sym c.in-Remove.is) c.in_ok-report-in-Remove.ensures.ok

@@ -1,6 +1,0 @@
-use Rattle.std.specs.Prelude.{Some}
-use Rattle.steal_mark.proofs.conclude.conclude.Given as goal
-
--- the graph of the claim words
-abbrev pub ghosts-learn : goal.ghosts-learn
-ghosts-learn a = record { graph = Some a.board.now.shared.key }

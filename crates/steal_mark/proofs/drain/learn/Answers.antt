@@ -1,7 +1,0 @@
-use Rattle.std.proofs.Common.{arith}
-use Rattle.steal_mark.proofs.Known.{learns}
-use Rattle.steal_mark.proofs.drain.learn.Goals as goal
-
--- a load changes nothing, and the rule tells who has every part
-pub load-requires : goal.load-requires
-load-requires g c = (c.requires.seat.0, (let w = c.requires.seat.1 in omega arith), rw c.requires.graph (learns c.args.board.now.shared.key _ _ _ _))

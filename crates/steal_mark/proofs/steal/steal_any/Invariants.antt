@@ -1,8 +1,0 @@
-use Rattle.std.proofs.Common.{◌≡◌, map}
-use Rattle.std.specs.Prelude.{All}
-use Rattle.steal_mark.specs.Stealing.{IsOther, hands, parts_of}
-use Rattle.steal_mark.proofs.steal.steal_any.Given as goal
-
--- so far nothing was found, and nothing changed
-abbrev pub invariant-loop-k : goal.invariant-loop-k
-invariant-loop-k l = All (IsOther l.graph) l.others × (map (λ o. o.stealer) l.others ≡ map (λ o. o.stealer) l.initial.others) × (hands l.others ≡ hands l.initial.others) × (parts_of l.others ≡ parts_of l.initial.others)

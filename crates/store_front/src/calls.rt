@@ -1,0 +1,7 @@
+//! The calls that serve a store.
+
+pub(crate) mod apply;
+pub(crate) mod collect;
+pub(crate) mod in_memory;
+pub(crate) mod plan_copy;
+pub(crate) mod records;

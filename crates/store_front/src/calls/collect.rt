@@ -1,0 +1,194 @@
+//! Collections.
+ghost use Rattle.std.specs.Prelude.{◌≡◌, ◌+◌, ◌<◌, IfErr};
+ghost use Rattle.meta_types.specs.Steps.{collect, collect_fault, remove_collect, remove_collect_fault};
+ghost use Rattle.collection.specs.Refused.{CollectFails};
+ghost use Rattle.store_front.specs.KeptAnswers.{kept_if, kept_report, Takes, log_after, list_after, report_failures};
+ghost use Rattle.meta_types.specs.Sound.{IsSound};
+
+use crate::event::both::Events;
+use crate::event::room::{keep_report, make_room, report_alone};
+use crate::keeps::Keeps;
+use crate::locked::Locked;
+use crate::session::Session;
+use back_model::{BlobBackend, IngestBackend, SnapBackend};
+use backend_sweep::SweepGate;
+use collection::Reports;
+use gc_report::Report;
+use meta_types::{Fault, Instant, Removal};
+use request_core::State;
+use std::alloc::Global;
+use std::sync::Wait;
+use std::sync::ledger::Ledger;
+use std::thread::Threads;
+use steal_mark::Gate;
+
+// Collects, or with `dry` only reports.
+pub(crate) fn run_collect<
+    R: Threads + Wait + Sync,
+    S: SnapBackend,
+    B: BlobBackend,
+    I: IngestBackend,
+    G: Gate,
+    H: SweepGate,
+>(
+    rt: &R,
+    alloc: Global,
+    state: &mut State<S, B, I>,
+    at: Instant,
+    dry: bool,
+    workers: usize,
+    gate: &G,
+    sweep_gate: &H,
+) -> Result<Reports, Fault>
+    requires { IsSound state.old.state }
+    ensures step { Takes state.old.state (collect at.0 dry workers) (kept_report result)
+        state.new.state }
+    ensures fault { IfErr result (λ f. CollectFails f
+        (collect_fault state.old.state.records workers)) }
+    ensures failures { state.new.failures ≡ state.old.failures + report_failures result }
+    ensures sound { IsSound state.new.state }
+{
+    let State { records, backends } = state;
+    if dry {
+        return collection::dry_run(rt, alloc, records, backends, at, workers, gate);
+    }
+    collection::collect(rt, alloc, records, backends, at, workers, gate, sweep_gate)
+}
+
+// Removes an image or a lease, and collects.
+pub(crate) fn run_removal<
+    R: Threads + Wait + Sync,
+    S: SnapBackend,
+    B: BlobBackend,
+    I: IngestBackend,
+    G: Gate,
+    H: SweepGate,
+>(
+    rt: &R,
+    alloc: Global,
+    state: &mut State<S, B, I>,
+    removal: &Removal,
+    at: Instant,
+    workers: usize,
+    gate: &G,
+    sweep_gate: &H,
+) -> Result<Reports, Fault>
+    requires { IsSound state.old.state }
+    ensures step { Takes state.old.state (remove_collect removal.now at.0 workers)
+        (kept_report result) state.new.state }
+    ensures fault { IfErr result (λ f. CollectFails f
+        (remove_collect_fault state.old.state removal.now workers)) }
+    ensures failures { state.new.failures ≡ state.old.failures + report_failures result }
+    ensures sound { IsSound state.new.state }
+{
+    let State { records, backends } = state;
+    collection::remove_collect(
+        rt, alloc, records, backends, removal, at, workers, gate, sweep_gate,
+    )
+}
+
+impl<L: Ledger, S: SnapBackend, B: BlobBackend, I: IngestBackend, K: Keeps> Locked<L, S, B, I, K> {
+    /// Collects with so many workers, or with `dry` only reports what would go. It is an entry
+    /// unless memory or a thread was wanting; from the first removal on nothing is refused.
+    pub fn collect<R: Threads + Wait + Sync, G: Gate, H: SweepGate>(
+        &mut self,
+        rt: &R,
+        alloc: Global,
+        session: &mut Session<L>,
+        at: Instant,
+        dry: bool,
+        workers: usize,
+        gate: &G,
+        sweep_gate: &H,
+    ) -> Result<Report, Fault>
+        requires { session.old.number < self.old.opened }
+        ensures step { Takes self.old.store.state (collect at.0 dry workers) (kept_report result)
+            self.new.store.state }
+        ensures fault { IfErr result (λ f. CollectFails f
+            (collect_fault self.old.store.state.records workers)) }
+        ensures log { self.new.log ≡ log_after self.old.log session.old.number
+            (collect at.0 dry workers) (kept_if K.KEPT (kept_report result)) }
+        ensures list { session.new.list ≡ list_after session.old.list (collect at.0 dry workers)
+            (kept_if K.KEPT (kept_report result)) }
+        ensures number { session.new.number ≡ session.old.number }
+        ensures base { self.new.base ≡ self.old.base }
+        ensures opened { self.new.opened ≡ self.old.opened }
+        ensures failures { self.new.store.failures
+            ≡ self.old.store.failures + report_failures result }
+    {
+        let Locked {
+            state,
+            log,
+            book,
+            ..
+        } = self;
+        if !K::KEPT {
+            let reports = run_collect(rt, alloc, state, at, dry, workers, gate, sweep_gate);
+            return report_alone(reports);
+        }
+        let Session {
+            number,
+            list,
+            share,
+        } = session;
+        if make_room(log, list).is_err() {
+            return Err(Fault::OutOfMemory);
+        }
+        let events = Events::collect(at, dry, workers);
+        let reports = run_collect(rt, alloc, state, at, dry, workers, gate, sweep_gate);
+        keep_report(log, list, book, share, *number, events, reports)
+    }
+
+    /// Removes an image or a lease and collects, as one event, with the entry and the refusals of
+    /// a collection. Graph and plan are made of records without the row.
+    pub fn remove_collect<R: Threads + Wait + Sync, G: Gate, H: SweepGate>(
+        &mut self,
+        rt: &R,
+        alloc: Global,
+        session: &mut Session<L>,
+        removal: &Removal,
+        at: Instant,
+        workers: usize,
+        gate: &G,
+        sweep_gate: &H,
+    ) -> Result<Report, Fault>
+        requires { session.old.number < self.old.opened }
+        ensures step { Takes self.old.store.state (remove_collect removal.now at.0 workers)
+            (kept_report result) self.new.store.state }
+        ensures fault { IfErr result (λ f. CollectFails f
+            (remove_collect_fault self.old.store.state removal.now workers)) }
+        ensures log { self.new.log ≡ log_after self.old.log session.old.number
+            (remove_collect removal.now at.0 workers) (kept_if K.KEPT (kept_report result)) }
+        ensures list { session.new.list ≡ list_after session.old.list
+            (remove_collect removal.now at.0 workers) (kept_if K.KEPT (kept_report result)) }
+        ensures number { session.new.number ≡ session.old.number }
+        ensures base { self.new.base ≡ self.old.base }
+        ensures opened { self.new.opened ≡ self.old.opened }
+        ensures failures { self.new.store.failures
+            ≡ self.old.store.failures + report_failures result }
+    {
+        let Locked {
+            state,
+            log,
+            book,
+            ..
+        } = self;
+        if !K::KEPT {
+            let reports = run_removal(rt, alloc, state, removal, at, workers, gate, sweep_gate);
+            return report_alone(reports);
+        }
+        let Session {
+            number,
+            list,
+            share,
+        } = session;
+        if make_room(log, list).is_err() {
+            return Err(Fault::OutOfMemory);
+        }
+        let Ok(events) = Events::remove_collect(removal, at, workers) else {
+            return Err(Fault::OutOfMemory);
+        };
+        let reports = run_removal(rt, alloc, state, removal, at, workers, gate, sweep_gate);
+        keep_report(log, list, book, share, *number, events, reports)
+    }
+}

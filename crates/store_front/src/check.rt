@@ -1,0 +1,5 @@
+//! What a cut asks of the sessions that it is given.
+
+pub(crate) mod numbers;
+pub(crate) mod parts;
+pub(crate) mod sessions;

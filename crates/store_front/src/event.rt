@@ -1,0 +1,6 @@
+//! Events of a history, and what is kept of them.
+
+pub(crate) mod both;
+pub(crate) mod entry;
+pub(crate) mod event;
+pub(crate) mod room;
