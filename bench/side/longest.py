@@ -4,6 +4,8 @@ Each request's time is the least of all runs, so that a pause of the machine isn
 the program. A request that came when its table held just as many rows as fill a hash table (seven
 eighths of a power of two) or its list of entries (a power of two) is called a growth. What tables
 hold is counted twice: rows that stand, and all that ever came, as blobs stay until a collection.
+A snapshot's commit replaces its key, and replaced keys fill a hash table too until it is laid out
+anew: so up to a thirtieth below such a number an addition or commit of a snapshot is near a growth.
 """
 
 import statistics
@@ -67,10 +69,16 @@ def fills_a_table(count):
     return odd == 1 or odd == 7
 
 
-def is_growth(note):
+def growth_of(note):
+    """` (a growth)`, ` (near a growth)` or nothing."""
     operation, standing, came = note
-    grows = operation.endswith((".add", ".prepare", ".hold", ".commit"))
-    return grows and (fills_a_table(standing) or fills_a_table(came))
+    if not operation.endswith((".add", ".prepare", ".hold", ".commit")):
+        return ""
+    if fills_a_table(standing) or fills_a_table(came):
+        return " (a growth)"
+    if operation.startswith("snap.") and any(map(fills_a_table, range(standing, standing * 30 // 29 + 1))):
+        return " (near a growth)"
+    return ""
 
 
 def measure(programs, rows, times, replies):
@@ -82,13 +90,15 @@ def measure(programs, rows, times, replies):
         for name, path in programs.items():
             found = reply_times(path, lines, replies)
             least[name] = [min(pair) for pair in zip(least.get(name, found), found)]
+    # at least a nanosecond: a program that only starts another has no processor time of its own
+    medians = {name: max(1, statistics.median(nanoseconds)) for name, nanoseconds in least.items()}
     text = ["longest reply against the median: %d requests one by one over %d rows, each by its least time"
             % (len(lines), rows)]
     for name, path in programs.items():
         nanoseconds = least[name]
-        median = statistics.median(nanoseconds)
+        median = medians[name]
         places = sorted(range(len(lines)), key=lambda place: -nanoseconds[place])
-        apart = next(place for place in places if not is_growth(notes[place]))
+        apart = next(place for place in places if not growth_of(notes[place]))
         text.append("  %s: %.0f times the median; growths of hash tables apart, %.0f times"
                     % (name, nanoseconds[places[0]] / median, nanoseconds[apart] / median))
         shown = sorted(set(places[:SHOWN] + [apart]), key=lambda place: -nanoseconds[place])
@@ -97,7 +107,7 @@ def measure(programs, rows, times, replies):
             operation, standing, came = notes[place]
             text.append("    %6.0f times  request %d, %s: %d rows stood, %d came, memory grew by %d KiB%s" % (
                 nanoseconds[place] / median, place + 1, operation, standing, came, grown[place],
-                " (a growth)" if is_growth(notes[place]) else ""))
-    text.append("  the plain program's median to metad's: 1 to %.2f, the pipe's time in both" % (
-        statistics.median(least["metad"]) / statistics.median(least["plain"])))
+                growth_of(notes[place])))
+    text.append("  the plain program's median to metad's: 1 to %.2f, the pipe's time in both"
+                % (medians["metad"] / medians["plain"]))
     return text

@@ -2,18 +2,21 @@
 
 The clock starts once the program has answered a first line, so that its start isn't in it; a phase
 ends with its last reply. `Program.clock` is "wall", or "processor" for what all threads of the
-program together spent on processors, which a busy machine changes less. Peak memory is VmHWM of /proc/PID/status, read before the program ends:
-the figure of `wait4` holds this process's own memory too, since a child begins as its copy.
+program together spent on processors, which a busy machine changes less. Peak memory is VmHWM of
+/proc/PID/status, read before the program ends: the figure of `wait4` holds this process's own
+memory too, since a child begins as its copy.
 """
 
 import array
 import fcntl
 import os
+import select
 import subprocess
 import threading
 import time
 
 BLOCK = 1 << 20
+LIMIT = 900  # seconds without a byte of a reply, after which a program has failed
 FIRST_LINE = b'{"op":"ns.list"}\n'
 
 
@@ -85,6 +88,8 @@ class Program:
         """The bytes of so many replies, in blocks."""
         blocks = []
         while count > 0:
+            if not select.select([self.replies], [], [], LIMIT)[0]:
+                raise Failed("no reply within %d s" % LIMIT)
             block = os.read(self.replies, BLOCK)
             if not block:
                 raise Failed("it ended before its last reply, with status %s" % self.process.wait())
@@ -112,9 +117,14 @@ class Program:
         feeder = threading.Thread(target=feed, daemon=True)
         start = self.now()
         feeder.start()
-        blocks = self.answers(count)
-        seconds = (self.now() - start) / 1e9
-        feeder.join()
+        try:
+            blocks = self.answers(count)
+            seconds = (self.now() - start) / 1e9
+        except Failed:
+            self.process.kill()  # the feeder's next write fails, before its pipe is closed
+            raise
+        finally:
+            feeder.join()
         return seconds, blocks
 
     def status(self, key):
