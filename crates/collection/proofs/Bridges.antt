@@ -1,6 +1,6 @@
 -- What is said of the rows that were read holds of the records that they were read from: namespaces and the next number lead no path anywhere.
-use Rattle.std.proofs.Common.{inl, ◌≡◌, ℕ, Bool, true, false, not, List, [], ◌∷◌, refl, sym, ◌∙◌, subst, ℤ}
-use Rattle.std.specs.Prelude.{Contains, IsTrue, Option, None, Result, Ok, Err}
+use Rattle.std.proofs.Common.{inl, ◌≡◌, ◌≢◌, ℕ, Bool, true, false, not, List, [], ◌∷◌, refl, sym, ◌∙◌, subst, ℤ}
+use Rattle.std.specs.Prelude.{AllPairs, Contains, IsTrue, Option, None, Result, Ok, Err}
 use Rattle.std.specs.Result.{IsErrAnd}
 use Rattle.meta_types.specs.Limits.{is_worker_count, is_too_large}
 use Rattle.meta_types.specs.Reports.{Report}
@@ -9,7 +9,13 @@ use Rattle.meta_types.specs.declared.fault.Fault.{Fault}
 use Rattle.meta_types.specs.declared.fault.Fault.TheVariants.{InvalidArgument, OutOfMemory}
 use Rattle.steal_mark.specs.Refusing.{RefusesThreads}
 use Rattle.meta_types.specs.Faults.{least_of, Refuses, unless}
-use Rattle.meta_types.specs.Rows.{Records, BackLists}
+use Rattle.meta_types.specs.Rows.{Records, BackLists, content_key, ingest_key, snap_key}
+use Rattle.meta_types.specs.Sound.{AreTables}
+use Rattle.meta_types.specs.declared.rows.ContentRow.{ContentRow}
+use Rattle.meta_types.specs.declared.rows.IngestRow.{IngestRow}
+use Rattle.meta_types.specs.declared.rows.SnapRow.{SnapRow}
+use Rattle.gc_graph.specs.Built.{AreApart}
+use Rattle.gc_graph.proofs.NodesApart.{distinct_in_order}
 use Rattle.meta_types.specs.Paths.{Thing, things, is_root, IsPath, TellsReached}
 use Rattle.table_sweep.specs.declared.planning.Plan.{Plan}
 use Rattle.table_sweep.specs.Plans.{IsPlan}
@@ -31,6 +37,16 @@ tells_as a b at reached t p h = record {
         (λ r. (let q = e.0 r in (q.0, path_as a b at t p thing q.0 q.1))),
         (λ q. e.1 (q.0, path_as b a at (sym t) (sym p) thing q.0 q.1)),
       );
+}
+
+-- ---- keys
+
+-- rows that are read from sound tables have keys of their own
+pub apart_from : (a b : Records) → a.tables.content ≡ b.tables.content → a.tables.ingests ≡ b.tables.ingests → a.tables.snapshots ≡ b.tables.snapshots → AreTables b.tables → AreApart a
+apart_from a b content ingests snapshots tables = record {
+  content = subst (λ (rows : List ContentRow). AllPairs (λ (x y : ContentRow). content_key x ≢ content_key y) rows) (sym content) (distinct_in_order content_key b.tables.content tables.content.in_order);
+  ingests = subst (λ (rows : List IngestRow). AllPairs (λ (x y : IngestRow). ingest_key x ≢ ingest_key y) rows) (sym ingests) (distinct_in_order ingest_key b.tables.ingests tables.ingests.in_order);
+  snapshots = subst (λ (rows : List SnapRow). AllPairs (λ (x y : SnapRow). snap_key x ≢ snap_key y) rows) (sym snapshots) (distinct_in_order snap_key b.tables.snapshots tables.snapshots.in_order);
 }
 
 -- ---- records that agree but for namespaces and the next number

@@ -10,13 +10,14 @@ use Rattle.meta_types.specs.declared.rows.ContentRow.{ContentRow}
 use Rattle.meta_types.specs.declared.rows.IngestRow.{IngestRow}
 use Rattle.meta_types.specs.declared.rows.SnapRow.{SnapRow}
 use Rattle.meta_types.specs.declared.resource.Mode.{Mode}
-use Rattle.meta_types.proofs.FilteredNames.{not_named, gone_and_named}
+use Rattle.meta_types.proofs.FilteredNames.{gone_and_named}
 use Rattle.meta_types.proofs.Once.{ingest_in}
 use Rattle.meta_types.proofs.Promised.{content_name, ingest_name, snapshot_name, content_names, ingest_names, snapshot_names, reached_content, reached_snapshot, not_told, unreached_content, unreached_snapshot}
 use Rattle.gc_graph.specs.Built.{AreApart}
 use Rattle.table_sweep.specs.declared.planning.Plan.{Plan}
 use Rattle.table_sweep.specs.Plans.{IsPlanOf}
 use Rattle.table_sweep.specs.Laws.{GoesWhatNoPathLeadsTo}
+use Rattle.table_sweep.proofs.DistinctNames.{not_named}
 
 module _ (records : Records) (namespaces : ℕ) (back : BackLists) (at : ℤ) (plan : Plan) (apart : AreApart records) (of : IsPlanOf records namespaces back at plan) where
   -- what is said of the lists that the definitions compute is said of the plan's

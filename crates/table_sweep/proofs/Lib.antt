@@ -15,3 +15,4 @@ pub mod Planned
 pub mod Fitting
 pub mod NumbersLeft
 pub mod ByPaths
+pub mod DistinctNames

@@ -6,7 +6,7 @@ use Rattle.meta_types.specs.declared.rows.IngestRow.{IngestRow}
 use Rattle.meta_types.specs.declared.rows.SnapRow.{SnapRow}
 use Rattle.meta_types.specs.Rows.{LeaseRow}
 use Rattle.collection.specs.Stores.{records_in}
-use Rattle.collection.proofs.Bridges.{plan_as}
+use Rattle.collection.proofs.Bridges.{plan_as, apart_from}
 use Rattle.collection.proofs.planning.plan_store.Goals as goal
 
 pub returns-clause-ok : goal.returns-clause-ok
@@ -23,3 +23,12 @@ returns-clause-ok g c =
     })
     c.count_ns-namespaces.ensures
     c.in_ok-plan.ensures.ok
+
+-- rows that stand in the order of their keys have keys of their own
+pub plan_rows-requires-clause-apart : goal.plan_rows-requires-clause-apart
+plan_rows-requires-clause-apart g c κs within =
+    apart_from _ (records_in c.args.records.now)
+    (ap (map (λ (row : Bor ContentRow). row.now)) c.deref-5.ensures.value ∙ c.in_ok-content.ensures.ok)
+    (ap (map (λ (row : Bor IngestRow). row.now)) c.deref-4.ensures.value ∙ c.in_ok-ingests.ensures.ok)
+    (ap (map (λ (row : Bor SnapRow). row.now)) c.deref-6.ensures.value ∙ c.in_ok-snapshots.ensures.ok)
+    c.requires
