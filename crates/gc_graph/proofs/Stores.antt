@@ -28,9 +28,6 @@ use Rattle.gc_graph.proofs.RootPlaces.{fold-append, no_places, root_places_of, r
 assoc5 : {X : Type 0} (a b c d e : List X) → (((a ++ b) ++ c) ++ d) ++ e ≡ a ++ ((b ++ c) ++ (d ++ e))
 assoc5 a b c d e = append_assoc ((a ++ b) ++ c) d e ∙ ap (λ l. l ++ (d ++ e)) (append_assoc a b c) ∙ append_assoc a (b ++ c) (d ++ e)
 
-assoc6 : {X : Type 0} (a b c d e f : List X) → ((((a ++ b) ++ c) ++ d) ++ e) ++ f ≡ ((a ++ b) ++ c) ++ (d ++ (e ++ f))
-assoc6 a b c d e f = append_assoc (((a ++ b) ++ c) ++ d) e f ∙ append_assoc ((a ++ b) ++ c) d (e ++ f)
-
 -- ---- the roots
 
 module _ (profile : ℕ) (at : ℤ) where
@@ -173,24 +170,12 @@ module _ (stored : StoreRows) (at : ℤ) (book : List Node) where
         ∙ assoc5 (map t i) (map t cf) (map t cl) (map t sf) (map t sl) ∙ sym whole
 
     abbrev Rooted : Type 0
-    Rooted = graph.roots.items ≡ flat_map (λ row. root_targets profile at book (image row.now)) stored.images.now
-        ++ flat_map (λ row. targets_in book (container row.now)) stored.containers.now
-        ++ flat_map (λ row. root_targets profile at book (lease row.now)) stored.leases.now
-        ++ places (λ row. ingest_holds_itself at row.now) 0 ingests
-        ++ places (λ row. is_marked_root row.now.labels) (length ingests) contents
-        ++ places (λ row. is_marked_root row.now.labels) (length ingests + 2 * length contents) snaps
+    Rooted = graph.roots.items ≡ flat_map (targets_in book) (filter (is_root profile at) (root_things records)) ++ root_places profile at 0 (node_things records)
 
     -- what the code made is the graph of the store
     pub built : AreApart records → Filled → Edged → Rooted → IsBuilt records at book graph
     built apart filled made rooted_all =
         is_built records at book graph apart (nodes_filled apart filled) (record {
           edges = edges_of_things made;
-          roots = rooted_all
-              ∙ assoc6 (flat_map (λ row. root_targets profile at book (image row.now)) stored.images.now)
-              (flat_map (λ row. targets_in book (container row.now)) stored.containers.now)
-              (flat_map (λ row. root_targets profile at book (lease row.now)) stored.leases.now)
-              (places (λ row. ingest_holds_itself at row.now) 0 ingests)
-              (places (λ row. is_marked_root row.now.labels) (length ingests) contents)
-              (places (λ row. is_marked_root row.now.labels) (length ingests + 2 * length contents) snaps)
-              ∙ (λ j. thing_roots j ++ row_roots j);
+          roots = rooted_all;
         })

@@ -82,38 +82,6 @@ fn edges_of(
     Ok(edges)
 }
 
-fn roots_of(
-    alloc: Global,
-    book: &NodeBook,
-    rows: &StoreRows<'_>,
-    at: Instant,
-) -> Result<Vec<u32>, Fault>
-    requires { IsSmall rows.now }
-    ensures fault { Refuses result None }
-    ensures ok { IfOk result (λ roots. roots.items
-        ≡ flat_map (λ row. root_targets rows.now.profile at.0 book.now (image row.now))
-        rows.now.images.now
-        ++ flat_map (λ row. targets_in book.now (container row.now)) rows.now.containers.now
-        ++ flat_map (λ row. root_targets rows.now.profile at.0 book.now (lease row.now))
-        rows.now.leases.now
-        ++ places (λ row. ingest_holds_itself at.0 row.now) 0 rows.now.ingests.now
-        ++ places (λ row. is_marked_root row.now.labels) (length rows.now.ingests.now)
-        rows.now.content.now
-        ++ places (λ row. is_marked_root row.now.labels)
-        (length rows.now.ingests.now + 2 * length rows.now.content.now) rows.now.snapshots.now) }
-{
-    let mut roots = Vec::new(alloc);
-    push_images(alloc, book, rows.images, rows.profile, at, &mut roots)?;
-    push_containers(alloc, book, rows.containers, &mut roots)?;
-    push_leases(alloc, book, rows.leases, rows.profile, at, &mut roots)?;
-    let content = rows.ingests.len() as u32;
-    let snapshots = content + 2 * (rows.content.len() as u32);
-    push_own_ingests(0, rows.ingests, at, &mut roots)?;
-    push_marked_content(content, rows.content, &mut roots)?;
-    push_marked_snapshots(snapshots, rows.snapshots, &mut roots)?;
-    Ok(roots)
-}
-
 // The numbers of what images, containers and leases reference that haven't ended.
 fn held_of(
     alloc: Global,
@@ -182,6 +150,26 @@ pub fn find_starts(
     let held = held_of(alloc, book, rows, at)?;
     let own = own_of(alloc, rows, at)?;
     Ok(Starts { own, held })
+}
+
+// The numbers of all roots: first what images, containers and leases reference, then the rows that
+// are roots of their own.
+fn roots_of(
+    alloc: Global,
+    book: &NodeBook,
+    rows: &StoreRows<'_>,
+    at: Instant,
+) -> Result<Vec<u32>, Fault>
+    requires { IsSmall rows.now }
+    ensures fault { Refuses result None }
+    ensures ok { IfOk result (λ roots. roots.items ≡ flat_map (targets_in book.now)
+        (filter (is_root rows.now.profile at.0) (root_things (records_of rows.now)))
+        ++ root_places rows.now.profile at.0 0 (node_things (records_of rows.now))) }
+{
+    let Starts { own, held } = find_starts(alloc, book, rows, at)?;
+    let mut roots = held;
+    roots.extend_from_slice(own.as_slice())?;
+    Ok(roots)
 }
 
 fn ignored_of(alloc: Global, rows: &StoreRows<'_>) -> Result<Ignored, Fault>
