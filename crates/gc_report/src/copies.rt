@@ -25,7 +25,7 @@ impl Objects {
         ensures fault { Refuses result None }
         ensures ok { IfOk result (λ copy. copy ≡ self.now) }
     {
-        Ok(self.clone()?)
+        Ok(Objects::clone(self)?)
     }
 }
 
@@ -35,7 +35,7 @@ impl Removed {
         ensures fault { Refuses result None }
         ensures ok { IfOk result (λ copy. copy ≡ self.now) }
     {
-        Ok(self.clone()?)
+        Ok(Removed::clone(self)?)
     }
 }
 
@@ -45,6 +45,6 @@ impl Report {
         ensures fault { Refuses result None }
         ensures ok { IfOk result (λ copy. copy ≡ self.now) }
     {
-        Ok(self.clone()?)
+        Ok(Report::clone(self)?)
     }
 }

@@ -448,7 +448,7 @@ impl Request {
         ensures fault { Refuses result None }
         ensures ok { IfOk result (λ request. request ≡ self.now) }
     {
-        Ok(self.clone()?)
+        Ok(Request::clone(self)?)
     }
 }
 
@@ -458,7 +458,7 @@ impl Removal {
         ensures fault { Refuses result None }
         ensures ok { IfOk result (λ removal. removal ≡ self.now) }
     {
-        Ok(self.clone()?)
+        Ok(Removal::clone(self)?)
     }
 }
 
@@ -468,7 +468,7 @@ impl ReplyRow {
         ensures fault { Refuses result None }
         ensures ok { IfOk result (λ row. row ≡ self.now) }
     {
-        Ok(self.clone()?)
+        Ok(ReplyRow::clone(self)?)
     }
 }
 
@@ -479,6 +479,6 @@ impl Reply {
         ensures ok { IfOk result (λ reply. reply ≡ self.now) }
         ensures done { self.now ≡ P.Done → result ≡ Ok P.Done }
     {
-        Ok(self.clone()?)
+        Ok(Reply::clone(self)?)
     }
 }

@@ -112,7 +112,7 @@ impl Labels {
         ensures fault { Refuses result None }
         ensures ok { IfOk result (λ l. l ≡ self.now) }
     {
-        Ok(self.clone()?)
+        Ok(Labels::clone(self)?)
     }
 
     /// Whether the label may be put: a caller may ask before it changes anything.

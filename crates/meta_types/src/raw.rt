@@ -63,7 +63,7 @@ impl RawText {
         ensures fault { Refuses result None }
         ensures ok { IfOk result (λ words. words ≡ self.now) }
     {
-        Ok(self.clone()?)
+        Ok(RawText::clone(self)?)
     }
 }
 
@@ -115,7 +115,7 @@ impl RawLabels {
         ensures fault { Refuses result None }
         ensures ok { IfOk result (λ pairs. pairs ≡ self.now) }
     {
-        Ok(self.clone()?)
+        Ok(RawLabels::clone(self)?)
     }
 
     /// The keys and values as they came.

@@ -73,7 +73,7 @@ impl Listing {
         ensures fault { Refuses result None }
         ensures ok { IfOk result (λ names. names ≡ self.now) }
     {
-        Ok(self.clone()?)
+        Ok(Listing::clone(self)?)
     }
 
     fn push(&mut self, text: ArcStr) -> Result<(), Fault>
@@ -144,7 +144,7 @@ impl Holdings {
         ensures fault { Refuses result None }
         ensures ok { IfOk result (λ holdings. holdings ≡ self.now) }
     {
-        Ok(self.clone()?)
+        Ok(Holdings::clone(self)?)
     }
 
     /// The resources.

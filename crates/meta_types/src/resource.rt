@@ -61,7 +61,7 @@ impl Resource {
         ensures fault { Refuses result None }
         ensures ok { IfOk result (λ resource. resource ≡ self.now) }
     {
-        Ok(self.clone()?)
+        Ok(Resource::clone(self)?)
     }
 }
 

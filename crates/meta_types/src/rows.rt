@@ -25,7 +25,7 @@ impl ImageRow {
         ensures fault { Refuses result None }
         ensures ok { IfOk result (λ row. row ≡ self.now) }
     {
-        Ok(self.clone()?)
+        Ok(ImageRow::clone(self)?)
     }
 }
 
@@ -44,7 +44,7 @@ impl ContainerRow {
         ensures fault { Refuses result None }
         ensures ok { IfOk result (λ row. row ≡ self.now) }
     {
-        Ok(self.clone()?)
+        Ok(ContainerRow::clone(self)?)
     }
 }
 
@@ -62,7 +62,7 @@ impl ContentRow {
         ensures fault { Refuses result None }
         ensures ok { IfOk result (λ row. row ≡ self.now) }
     {
-        Ok(self.clone()?)
+        Ok(ContentRow::clone(self)?)
     }
 }
 
@@ -83,7 +83,7 @@ impl IngestRow {
         ensures fault { Refuses result None }
         ensures ok { IfOk result (λ row. row ≡ self.now) }
     {
-        Ok(self.clone()?)
+        Ok(IngestRow::clone(self)?)
     }
 }
 
@@ -101,7 +101,7 @@ impl SnapKey {
         ensures fault { Refuses result None }
         ensures ok { IfOk result (λ key. key ≡ self.now) }
     {
-        Ok(self.clone()?)
+        Ok(SnapKey::clone(self)?)
     }
 }
 
@@ -130,6 +130,6 @@ impl SnapRow {
         ensures fault { Refuses result None }
         ensures ok { IfOk result (λ row. row ≡ self.now) }
     {
-        Ok(self.clone()?)
+        Ok(SnapRow::clone(self)?)
     }
 }
