@@ -1,4 +1,4 @@
-//! The state of the mark machine: the claimed numbers, and a desk for each worker.
+//! The state of the mark machine: the claimed numbers, and the state of each worker.
 ghost use Rattle.std.specs.Prelude.{◌≡◌, ◌<◌, [], length, replicate, MatchOption, IfOk, OnOk};
 ghost use Rattle.mark_core.specs.Bits.{HasRoom};
 ghost use Rattle.mark_core.specs.Reach.{IsInRange, node_count};

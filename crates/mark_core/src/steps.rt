@@ -1,4 +1,4 @@
-//! The events of the mark machine, done on a board. Each answers false where it isn't allowed.
+//! The events of the mark machine, done on its state. Each answers false where it isn't allowed.
 ghost use Rattle.std.specs.Prelude.{◌≡◌, ◌<◌, ◌^◌, length, slice_get, IfOk, IfSome};
 ghost use Rattle.mark_core.specs.declared.event.MarkEvent.TheVariants.{Look, Put, Take, Finish};
 ghost use Rattle.mark_core.specs.Bits.{HasRoom};

@@ -1,4 +1,4 @@
--- What is told of rows that go. Ours, unless a source stands beside.
+-- Visits of the rows that a collection removes. Ours, unless a source stands beside.
 use Rattle.std.specs.Prelude.{Bool, List, [], ◌∷◌, map, not}
 use Rattle.row_tables.specs.Arrived.{kept}
 
@@ -6,7 +6,7 @@ use Rattle.row_tables.specs.Arrived.{kept}
 abbrev pub gone : {Row : Type 0} → List Bool → List Row → List Row
 gone marks rows = kept (map not marks) rows
 
--- what it becomes that is told of each row, from the first to the last
+-- the visitor after all rows, from the first to the last
 abbrev pub all_visited : {P Row : Type 0} → (P → Row → P) → List Row → P → P
-all_visited after_visit [] visited = visited
-all_visited after_visit (row ∷ rows) visited = all_visited after_visit rows (after_visit visited row)
+all_visited after_visit [] visitor = visitor
+all_visited after_visit (row ∷ rows) visitor = all_visited after_visit rows (after_visit visitor row)

@@ -207,8 +207,7 @@ impl<K: Named, R: SnapshotterRow<K>> BySnapshotter<K, R> {
         })
     }
 
-    /// Tells of each row whose place in the order of keys isn't marked, in that order. It takes no
-    /// memory.
+    /// Shows the visitor each row whose mark is unset, in the order of keys. It takes no memory.
     pub fn visit_removed<P: RemovedRows<R>>(&mut self, marks: &[bool], visitor: &mut P)
         requires { length marks.now ≡ length self.old }
         ensures same { self.new ≡ self.old }

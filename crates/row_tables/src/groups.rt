@@ -286,7 +286,7 @@ pub(crate) fn retain_rows<K: Named, R: GroupedRow<K>>(groups: &mut [Group<K, R>]
     }
 }
 
-/// Tells of each row whose place in the order of keys isn't marked, in that order.
+/// Shows the visitor each row whose mark is unset, in the order of keys.
 pub(crate) fn visit_removed_rows<K: Named, R: GroupedRow<K>, P: RemovedRows<R>>(
     groups: &mut [Group<K, R>],
     marks: &[bool],

@@ -309,7 +309,7 @@ fn own_len<K: Named, R: SnapshotterRow<K>>(layer: &Layer<K, R>, rest: &[bool]) -
     layer.len() as usize
 }
 
-/// Tells of each row whose place in the order of keys isn't marked, in that order.
+/// Shows the visitor each row whose mark is unset, in the order of keys.
 pub(crate) fn visit_removed_rows<K: Named, R: SnapshotterRow<K>, P: RemovedRows<R>>(
     layers: &mut [Layer<K, R>],
     marks: &[bool],

@@ -46,12 +46,12 @@ pub trait Test<R> {
         ensures { result ≡ passes self.now row.now };
 }
 
-/// What is told of rows that go.
+/// A visitor of the rows that a collection removes.
 pub trait RemovedRows<R>: Drop {
-    /// What it becomes when a row goes.
+    /// The visitor after one row.
     ghost after_visit: { Self → R → Self };
 
-    /// A row goes.
+    /// Visits one row.
     fn visit(&mut self, row: &R)
         ensures { self.new ≡ after_visit self.old row.now };
 }

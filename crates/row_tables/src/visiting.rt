@@ -1,10 +1,10 @@
-//! Telling of rows that go, in the order of their places.
+//! Visits of the rows that go, in the order of their places.
 ghost use Rattle.std.specs.Prelude.{◌≡◌, ◌<◌, ℕ, map, length, slice_index_or, if◌then◌else◌};
 ghost use Rattle.row_tables.specs.Visiting.{gone, all_visited};
 
 use crate::row::RemovedRows;
 
-/// Tells of the row at each place whose mark isn't set.
+/// Shows the visitor the row at each place whose mark is unset.
 pub(crate) fn visit_removed<R, P: RemovedRows<R>>(
     rows: &[R],
     places: &[usize],

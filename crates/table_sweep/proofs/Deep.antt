@@ -16,32 +16,32 @@ abbrev with_record : Option Listed → Option BackSnap
 with_record None = None
 with_record (Some s) = Some (snap_of s)
 
-find_listed : (snapshotter : Text) (number : ℕ) (shards : List Listed) → find (is_named (snapshotter, number)) (map snap_of shards) ≡ with_record (find (λ s. bytes_eq s.0 snapshotter && s.1 == number) shards)
+find_listed : (snapshotter : Text) (number : ℕ) (snapshots : List Listed) → find (is_named (snapshotter, number)) (map snap_of snapshots) ≡ with_record (find (λ s. bytes_eq s.0 snapshotter && s.1 == number) snapshots)
 find_listed snapshotter number [] = refl
-find_listed snapshotter number (s ∷ shards) = go (bytes_eq s.0 snapshotter && s.1 == number) (find_listed snapshotter number shards)
+find_listed snapshotter number (s ∷ snapshots) = go (bytes_eq s.0 snapshotter && s.1 == number) (find_listed snapshotter number snapshots)
   where
-    go : (b : Bool) → find (is_named (snapshotter, number)) (map snap_of shards) ≡ with_record (find (λ s. bytes_eq s.0 snapshotter && s.1 == number) shards)
-        → cond b (Some (snap_of s)) (find (is_named (snapshotter, number)) (map snap_of shards)) ≡ with_record (cond b (Some s) (find (λ s. bytes_eq s.0 snapshotter && s.1 == number) shards))
+    go : (b : Bool) → find (is_named (snapshotter, number)) (map snap_of snapshots) ≡ with_record (find (λ s. bytes_eq s.0 snapshotter && s.1 == number) snapshots)
+        → cond b (Some (snap_of s)) (find (is_named (snapshotter, number)) (map snap_of snapshots)) ≡ with_record (cond b (Some s) (find (λ s. bytes_eq s.0 snapshotter && s.1 == number) snapshots))
     go true e = refl
     go false e = e
 
-above_listed : (shards : List Listed) (s : Text) (n : ℕ) (parent : Option ℕ) → option_and_then (λ number. find (is_named (s, number)) (map snap_of shards)) parent ≡ with_record (above_of shards (s, n, parent))
-above_listed shards s n None = refl
-above_listed shards s n (Some number) = find_listed s number shards
+above_listed : (snapshots : List Listed) (s : Text) (n : ℕ) (parent : Option ℕ) → option_and_then (λ number. find (is_named (s, number)) (map snap_of snapshots)) parent ≡ with_record (above_of snapshots (s, n, parent))
+above_listed snapshots s n None = refl
+above_listed snapshots s n (Some number) = find_listed s number snapshots
 
-depth_steps : (most : ℕ) (shards : List Listed) (snap : Listed) → length (ancestors most (map snap_of shards) (snap_of snap)) ≡ depth_in most shards snap
-depth_steps zero shards snap = refl
-depth_steps (suc most) shards snap =
-    ap (λ o. length (option_map_or (λ above. above ∷ ancestors most (map snap_of shards) above) o [])) (above_listed shards snap.0 snap.1 snap.2)
-    ∙ go (above_of shards snap) (λ above. depth_steps most shards above)
+depth_steps : (most : ℕ) (snapshots : List Listed) (snap : Listed) → length (ancestors most (map snap_of snapshots) (snap_of snap)) ≡ depth_in most snapshots snap
+depth_steps zero snapshots snap = refl
+depth_steps (suc most) snapshots snap =
+    ap (λ o. length (option_map_or (λ above. above ∷ ancestors most (map snap_of snapshots) above) o [])) (above_listed snapshots snap.0 snap.1 snap.2)
+    ∙ go (above_of snapshots snap) (λ above. depth_steps most snapshots above)
   where
-    go : (o : Option Listed) → ((above : Listed) → length (ancestors most (map snap_of shards) (snap_of above)) ≡ depth_in most shards above)
-        → length (option_map_or (λ above. above ∷ ancestors most (map snap_of shards) above) (with_record o) []) ≡ option_map_or (λ above. suc (depth_in most shards above)) o zero
+    go : (o : Option Listed) → ((above : Listed) → length (ancestors most (map snap_of snapshots) (snap_of above)) ≡ depth_in most snapshots above)
+        → length (option_map_or (λ above. above ∷ ancestors most (map snap_of snapshots) above) (with_record o) []) ≡ option_map_or (λ above. suc (depth_in most snapshots above)) o zero
     go None h = refl
     go (Some above) h = ap suc (h above)
 
-depth_is : (shards : List Listed) (snap : Listed) → depth_of (map snap_of shards) (snap_of snap) ≡ depth_in (length shards) shards snap
-depth_is shards snap = ap (λ n. length (ancestors n (map snap_of shards) (snap_of snap))) (length-map shards snap_of) ∙ depth_steps (length shards) shards snap
+depth_is : (snapshots : List Listed) (snap : Listed) → depth_of (map snap_of snapshots) (snap_of snap) ≡ depth_in (length snapshots) snapshots snap
+depth_is snapshots snap = ap (λ n. length (ancestors n (map snap_of snapshots) (snap_of snap))) (length-map snapshots snap_of) ∙ depth_steps (length snapshots) snapshots snap
 
 -- ---- keys in order
 
@@ -67,16 +67,16 @@ filter_map_is f p (x ∷ xs) = go (p (f x)) (filter_map_is f p xs)
     go true e = ap (λ rest. f x ∷ rest) e
     go false e = e
 
-module _ (shards : List Listed) where
+module _ (snapshots : List Listed) where
   -- snapshots and their keys compare alike
-  same_order : (a b : Listed) → goes_before (map snap_of shards) (snap_of a) (snap_of b) ≡ is_first (key_of shards a) (key_of shards b)
-  same_order a b = λ i. is_first (record { snapshotter = a.0; depth = depth_is shards a i; number = a.1 }) (record { snapshotter = b.0; depth = depth_is shards b i; number = b.1 })
+  same_order : (a b : Listed) → goes_before (map snap_of snapshots) (snap_of a) (snap_of b) ≡ is_first (key_of snapshots a) (key_of snapshots b)
+  same_order a b = λ i. is_first (record { snapshotter = a.0; depth = depth_is snapshots a i; number = a.1 }) (record { snapshotter = b.0; depth = depth_is snapshots b i; number = b.1 })
 
   -- the names of those that go, in order
-  pub names_in_order : (goes : BackSnap → Bool) → map key_name (in_order is_first (map (key_of shards) (filter (λ s. goes (snap_of s)) shards))) ≡ map object_name (in_order (goes_before (map snap_of shards)) (filter goes (map snap_of shards)))
+  pub names_in_order : (goes : BackSnap → Bool) → map key_name (in_order is_first (map (key_of snapshots) (filter (λ s. goes (snap_of s)) snapshots))) ≡ map object_name (in_order (goes_before (map snap_of snapshots)) (filter goes (map snap_of snapshots)))
   names_in_order goes =
-      let p : Listed → Listed → Bool = λ a b. is_first (key_of shards a) (key_of shards b) in
-      let those = filter (λ s. goes (snap_of s)) shards in
-      ap (map key_name) (order_alike (key_of shards) p is_first (λ a b. refl) those) ∙ map-map key_name (key_of shards) (in_order p those)
-      ∙ sym (map-map object_name snap_of (in_order p those)) ∙ sym (ap (map object_name) (order_alike snap_of p (goes_before (map snap_of shards)) same_order those))
-      ∙ sym (ap (λ l. map object_name (in_order (goes_before (map snap_of shards)) l)) (filter_map_is snap_of goes shards))
+      let p : Listed → Listed → Bool = λ a b. is_first (key_of snapshots a) (key_of snapshots b) in
+      let those = filter (λ s. goes (snap_of s)) snapshots in
+      ap (map key_name) (order_alike (key_of snapshots) p is_first (λ a b. refl) those) ∙ map-map key_name (key_of snapshots) (in_order p those)
+      ∙ sym (map-map object_name snap_of (in_order p those)) ∙ sym (ap (map object_name) (order_alike snap_of p (goes_before (map snap_of snapshots)) same_order those))
+      ∙ sym (ap (λ l. map object_name (in_order (goes_before (map snap_of snapshots)) l)) (filter_map_is snap_of goes snapshots))

@@ -31,11 +31,11 @@ module _ (tables : Tables) (owners : List Object) (is : owners ≡ all_owners ta
   begun_goes_is : (number : ℕ) → begun_goes owners number ≡ not (ingest_object_stays tables no_objects number)
   begun_goes_is number = ap not (ap (list_any (is_object (Begun number))) is ∙ owns_ingests tables.content tables.ingests tables.snapshots number ∙ sym (or_nothing _ false refl))
 
-  snap_stays_is : (shards : List BackSnap) (snap : BackSnap) → snapshot_object_stays tables shards no_objects snap ≡ owns_snapshot tables snap
-  snap_stays_is shards snap = or_nothing (owns_snapshot tables snap || false) (is_ancestor_of_one shards [] snap) (none_any shards) ∙ or_nothing (owns_snapshot tables snap) false refl
+  snap_stays_is : (snapshots : List BackSnap) (snap : BackSnap) → snapshot_object_stays tables snapshots no_objects snap ≡ owns_snapshot tables snap
+  snap_stays_is snapshots snap = or_nothing (owns_snapshot tables snap || false) (is_ancestor_of_one snapshots [] snap) (none_any snapshots) ∙ or_nothing (owns_snapshot tables snap) false refl
 
-  snap_goes_is : (shards : List Listed) (s : Listed) → snap_goes owners s ≡ not (snapshot_object_stays tables (map snap_of shards) no_objects (snap_of s))
-  snap_goes_is shards s = ap not (ap (list_any (is_object (Snap s.0 s.1))) is ∙ owns_snapshots tables.content tables.ingests tables.snapshots s.0 s.1 ∙ sym (snap_stays_is (map snap_of shards) (snap_of s)))
+  snap_goes_is : (snapshots : List Listed) (s : Listed) → snap_goes owners s ≡ not (snapshot_object_stays tables (map snap_of snapshots) no_objects (snap_of s))
+  snap_goes_is snapshots s = ap not (ap (list_any (is_object (Snap s.0 s.1))) is ∙ owns_snapshots tables.content tables.ingests tables.snapshots s.0 s.1 ∙ sym (snap_stays_is (map snap_of snapshots) (snap_of s)))
 
   pub blobs_are : (blobs : List Text) → flat_map (λ digest. if blob_goes owners digest then digest ∷ [] else []) blobs ≡ filter (λ digest. not (blob_stays tables no_objects digest)) blobs
   blobs_are blobs =
@@ -47,9 +47,9 @@ module _ (tables : Tables) (owners : List Object) (is : owners ≡ all_owners ta
       held_names (begun_goes owners) (λ number. number) numbers ∙ map-id (filter (begun_goes owners) numbers)
       ∙ filter_agree (begun_goes owners) (λ number. not (ingest_object_stays tables no_objects number)) begun_goes_is numbers
 
-  pub snapshots_are : (shards : List Listed) → map key_name (in_order is_first (flat_map (λ s. if snap_goes owners s then key_of shards s ∷ [] else []) shards))
-      ≡ map object_name (in_order (goes_before (map snap_of shards)) (filter (λ snap. not (snapshot_object_stays tables (map snap_of shards) no_objects snap)) (map snap_of shards)))
-  snapshots_are shards =
-      let goes : BackSnap → Bool = λ snap. not (snapshot_object_stays tables (map snap_of shards) no_objects snap) in
-      ap (λ keys. map key_name (in_order is_first keys)) (held_names (snap_goes owners) (key_of shards) shards ∙ ap (map (key_of shards)) (filter_agree (snap_goes owners) (λ s. goes (snap_of s)) (snap_goes_is shards) shards))
-      ∙ names_in_order shards goes
+  pub snapshots_are : (snapshots : List Listed) → map key_name (in_order is_first (flat_map (λ s. if snap_goes owners s then key_of snapshots s ∷ [] else []) snapshots))
+      ≡ map object_name (in_order (goes_before (map snap_of snapshots)) (filter (λ snap. not (snapshot_object_stays tables (map snap_of snapshots) no_objects snap)) (map snap_of snapshots)))
+  snapshots_are snapshots =
+      let goes : BackSnap → Bool = λ snap. not (snapshot_object_stays tables (map snap_of snapshots) no_objects snap) in
+      ap (λ keys. map key_name (in_order is_first keys)) (held_names (snap_goes owners) (key_of snapshots) snapshots ∙ ap (map (key_of snapshots)) (filter_agree (snap_goes owners) (λ s. goes (snap_of s)) (snap_goes_is snapshots) snapshots))
+      ∙ names_in_order snapshots goes

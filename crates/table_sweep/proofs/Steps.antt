@@ -83,29 +83,29 @@ depths_more aboves place = map-range_with_len_more (deep (length aboves) aboves)
 
 -- ---- places and snapshots
 
-module _ (shards : List Listed) where
+module _ (snapshots : List Listed) where
   abbrev places : List (Option ℕ)
-  places = map (above_place shards) shards
+  places = map (above_place snapshots) snapshots
 
-  above_known : (place : ℕ) (snap : Listed) → slice_get shards place ≡ Some snap → above_from places place ≡ above_place shards snap
-  above_known place snap e = ap (option_and_then (λ above. above)) (slice_get-map (above_place shards) shards place ∙ ap (option_map (above_place shards)) e)
+  above_known : (place : ℕ) (snap : Listed) → slice_get snapshots place ≡ Some snap → above_from places place ≡ above_place snapshots snap
+  above_known place snap e = ap (option_and_then (λ above. above)) (slice_get-map (above_place snapshots) snapshots place ∙ ap (option_map (above_place snapshots)) e)
 
-  above_tied : (snap : Listed) → AreTied shards (above_place shards snap) (above_of shards snap)
+  above_tied : (snap : Listed) → AreTied snapshots (above_place snapshots snap) (above_of snapshots snap)
   above_tied snap = go snap.2
     where
-      go : (o : Option ℕ) → AreTied shards (option_and_then (λ number. position (has_name (name_of snap number)) shards) o) (option_and_then (λ number. find (has_name (name_of snap number)) shards) o)
+      go : (o : Option ℕ) → AreTied snapshots (option_and_then (λ number. position (has_name (name_of snap number)) snapshots) o) (option_and_then (λ number. find (has_name (name_of snap number)) snapshots) o)
       go None = tt
-      go (Some number) = tied (has_name (name_of snap number)) shards
+      go (Some number) = tied (has_name (name_of snap number)) snapshots
 
-  deep_is : (most place : ℕ) (snap : Listed) → slice_get shards place ≡ Some snap → deep most places place ≡ depth_in most shards snap
+  deep_is : (most place : ℕ) (snap : Listed) → slice_get snapshots place ≡ Some snap → deep most places place ≡ depth_in most snapshots snap
   deep_is zero place snap e = refl
   deep_is (suc most) place snap e =
       ap (λ o. option_map_or (λ above. suc (deep most places above)) o zero) (above_known place snap e)
-      ∙ go (above_place shards snap) (above_of shards snap) (above_tied snap) (λ next above is. deep_is most next above is)
+      ∙ go (above_place snapshots snap) (above_of snapshots snap) (above_tied snap) (λ next above is. deep_is most next above is)
     where
-      go : (o : Option ℕ) (w : Option Listed) → AreTied shards o w
-          → ((next : ℕ) (above : Listed) → slice_get shards next ≡ Some above → deep most places next ≡ depth_in most shards above)
-          → option_map_or (λ next. suc (deep most places next)) o zero ≡ option_map_or (λ above. suc (depth_in most shards above)) w zero
+      go : (o : Option ℕ) (w : Option Listed) → AreTied snapshots o w
+          → ((next : ℕ) (above : Listed) → slice_get snapshots next ≡ Some above → deep most places next ≡ depth_in most snapshots above)
+          → option_map_or (λ next. suc (deep most places next)) o zero ≡ option_map_or (λ above. suc (depth_in most snapshots above)) w zero
       go None None t h = refl
       go (Some next) (Some above) t h = ap suc (h next above t)
       go None (Some above) t h = absurd t
@@ -119,8 +119,8 @@ each_place g h a (x ∷ xs) same =
     λ i. (sym (ap g first) ∙ same 0 x refl) i ∷ rest i
 
 -- depths by places are those of the snapshots
-pub depths_are : (shards : List Listed) → depths_to (map (above_place shards) shards) (length (map (above_place shards) shards)) ≡ map (depth_in (length shards) shards) shards
-depths_are shards =
-    let aboves = map (above_place shards) shards in
-    ap (λ n. map (deep n aboves) (range_with_len 0 n)) (length-map shards (above_place shards))
-    ∙ each_place (deep (length shards) aboves) (depth_in (length shards) shards) 0 shards (λ i snap e. let place : 0 + i ≡ i = omega arith in ap (deep (length shards) aboves) place ∙ deep_is shards (length shards) i snap e)
+pub depths_are : (snapshots : List Listed) → depths_to (map (above_place snapshots) snapshots) (length (map (above_place snapshots) snapshots)) ≡ map (depth_in (length snapshots) snapshots) snapshots
+depths_are snapshots =
+    let aboves = map (above_place snapshots) snapshots in
+    ap (λ n. map (deep n aboves) (range_with_len 0 n)) (length-map snapshots (above_place snapshots))
+    ∙ each_place (deep (length snapshots) aboves) (depth_in (length snapshots) snapshots) 0 snapshots (λ i snap e. let place : 0 + i ≡ i = omega arith in ap (deep (length snapshots) aboves) place ∙ deep_is snapshots (length snapshots) i snap e)

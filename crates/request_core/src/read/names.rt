@@ -1,5 +1,5 @@
 //! Names, digests and resources that the texts of a request give.
-ghost use Rattle.std.specs.Prelude.{[], is_some};
+ghost use Rattle.std.specs.Prelude.{◌∷◌, [], is_some};
 ghost use Rattle.meta_types.specs.Resources.{resource_of};
 ghost use Rattle.request_core.specs.Parts.{some_of, some_third};
 ghost use Rattle.meta_types.specs.Text.{is_short_name, is_name, is_digest};

@@ -1,5 +1,5 @@
 //! Rows that the texts of a request give.
-ghost use Rattle.std.specs.Prelude.{[], is_some, is_none, option_and_then, option_map};
+ghost use Rattle.std.specs.Prelude.{◌≡◌, ◌∷◌, [], is_some, is_none, option_and_then, option_map, if◌then◌else◌};
 ghost use Rattle.meta_types.specs.Time.{instant_of};
 ghost use Rattle.meta_types.specs.Ops.Ingests.{end_of, own_end};
 ghost use Rattle.meta_types.specs.Text.{is_short_name, is_name, is_digest};

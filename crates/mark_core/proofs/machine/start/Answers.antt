@@ -10,7 +10,7 @@ use Rattle.mark_core.proofs.machine.start.Goals as goal
 some_workers : (c : goal.In_ok-machine_state) → 0 < c.args.workers
 some_workers c = grind (arith, nat_tests)
 
--- the board is the machine's start, which is sound
+-- the state is the machine's start, which is sound
 keeps : (c : goal.In_ok-machine_state) → Keeps c.args.graph.now (machine_of c.in_ok-machine_state.machine_state)
 keeps c =
     subst (Keeps c.args.graph.now) (sym c.in_ok-machine_state.ensures.start)

@@ -23,6 +23,6 @@ returns-clause-ok g c = record {
         r.0,
         r.2,
         rw (← append_assoc taken c.args.piece.now (10 ∷ []))
-            (Progress-line (taken ++ c.args.piece.now) written c.args.store.now c.add.new.self c.clear.new.self p1 r.0 c.answer.new.store r.1 c.clear.ensures.empty),
+            (Progress-line (taken ++ c.args.piece.now) written c.args.store.now c.add.new.self c.clear.new.self p1 r.0 c.write_reply.new.store r.1 c.clear.ensures.empty),
       );
 }

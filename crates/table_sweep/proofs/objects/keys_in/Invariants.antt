@@ -6,4 +6,4 @@ use Rattle.table_sweep.proofs.objects.keys_in.Given as goal
 
 -- those so far that go are there
 abbrev pub invariant-loop-i : goal.invariant-loop-i
-invariant-loop-i l = l.keys.items ≡ flat_map (λ s. if snap_goes l.owners s then key_of l.shards s ∷ [] else []) (take l.i l.shards)
+invariant-loop-i l = l.keys.items ≡ flat_map (λ s. if snap_goes l.owners s then key_of l.snapshots s ∷ [] else []) (take l.i l.snapshots)

@@ -4,4 +4,4 @@ use Rattle.table_sweep.proofs.places.places_of.Given as goal
 
 -- the names so far have their places
 abbrev pub invariant-loop-i : goal.invariant-loop-i
-invariant-loop-i l = Finds l.places (take l.i l.shards)
+invariant-loop-i l = Finds l.places (take l.i l.snapshots)

@@ -8,7 +8,7 @@ use Rattle.lease_book.specs.Edits.{without_resource}
 use Rattle.lease_book.proofs.leases.Leases.drop_resource.Goals.{in-Some-true, in-Some-false, in-None}
 use Rattle.lease_book.proofs.leases.Leases.drop_resource.Goals as goal
 
--- the lease that was found lets the resource go
+-- the lease that was found releases the resource
 pub returns-clause-left : goal.returns-clause-left
 returns-clause-left c =
     let key = c.args.ns.now ∷ c.args.id.now ∷ [] in
