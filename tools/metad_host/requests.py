@@ -1,0 +1,194 @@
+"""What a request line may say, as docs/FORMATS.md has it: the members of each op, and the rule of each member."""
+import json
+import re
+
+from .numbers import is_moment
+from .texts import CONTROL, DIGEST, LABEL_BYTES, NAME_BYTES, SHORT_NAME
+
+LINE_BYTES = 65536
+MOST_LABELS = 256
+NESTING = 127
+OPS = {}  # name of an op -> its members, and those of them that may be left out
+
+for _row in """ns.add ns; ns.remove ns; ns.list
+image.add ns name target [labels]; image.target ns name target; image.remove ns name [sync]; image.get ns name; image.list ns; image.label ns name key value
+container.add ns name [snapshotter] [key] [labels]; container.remove ns name; container.get ns name; container.list ns; container.label ns name key value
+content.add ns digest [labels] [lease]; content.remove ns digest; content.get ns digest; content.list ns; content.label ns digest key value
+ingest.begin ns ref at [expected] [lease]; ingest.commit ns ref digest [labels] [lease]; ingest.abort ns ref; ingest.get ns ref; ingest.list ns
+snap.prepare ns snapshotter key [parent] [labels] [lease]; snap.view ns snapshotter key [parent] [labels] [lease]
+snap.commit ns snapshotter key name [labels] [lease]; snap.remove ns snapshotter key; snap.get ns snapshotter key; snap.list ns snapshotter
+snap.label ns snapshotter name key value
+lease.add ns id [labels]; lease.remove ns id [sync]; lease.get ns id; lease.list ns; lease.label ns id key value
+lease.hold ns id type resource; lease.drop ns id type resource; lease.resources ns id
+profile v; gc.run at; gc.plan at""".replace("\n", ";").split(";"):
+    _op, *_members = _row.split()
+    OPS[_op] = ([_name.strip("[]") for _name in _members], {_name[1:-1] for _name in _members if _name.startswith("[")})
+
+SHORT_RULE = "not 1 to 76 letters, digits, '.', '_' or '-', of which the first is a letter or a digit"
+NAME_RULE = "not 1 to 1,024 bytes without control characters"
+TIME_RULE = "no time such as 2024-03-01T00:00:00Z"
+TYPE_RULE = "neither content, nor ingests, nor snapshots/ with a snapshotter"
+
+
+class NoRequest(Exception):
+    """Why a line is no request: the op, where it has one that is known, and the reason."""
+
+
+def refuse(reason, op=None):
+    raise NoRequest("%s: %s" % (op, reason) if op else reason)
+
+
+def whole_number(text):
+    """A JSON number: an int where it is one from 0 to 2^64 - 1 without a sign, else a float, which has to be finite."""
+    if text.isdigit() and len(text) <= 20 and int(text) < 2 ** 64:
+        return int(text)
+    number = float(text)
+    if number in (float("inf"), float("-inf")):
+        refuse("not JSON: a number out of range")
+    return number
+
+
+def read(line):
+    """The op and the members of a request line, or NoRequest."""
+    if len(line) > LINE_BYTES:
+        refuse("more than 65,536 bytes")
+    try:
+        text = line.decode()
+    except UnicodeDecodeError as bad:
+        refuse("not UTF-8, from byte %d on" % (bad.start + 1))
+    if not text.strip(" \t\r"):
+        refuse("white space alone")
+    if deepest(text) > NESTING:
+        refuse("nested over 127 deep")
+    try:
+        request = json.loads(text, parse_int=whole_number, parse_float=whole_number, parse_constant=lambda name: refuse("not JSON: %s" % name))
+    except ValueError as bad:
+        refuse("not JSON: %s" % str(bad).replace(": line 1 column", ", at character").split(" (char")[0])
+    if has_lone_surrogate(text):
+        refuse("not JSON: half of a surrogate pair")
+    return members_of(request)
+
+
+def members_of(request):
+    """The op and the members of a JSON value that is a request."""
+    if not isinstance(request, dict):
+        refuse("not an object")
+    op = request.pop("op", None)
+    if op is None:
+        refuse("op: missing")
+    if not isinstance(op, str):
+        refuse("op: not a text")
+    if op not in OPS:
+        refuse("op: no op is named %s" % json.dumps(op, ensure_ascii=False))
+    members, optional = OPS[op]
+    faults = ["%s: missing" % name for name in members if name not in request and name not in optional]
+    faults += ["%s: no member of this op" % name for name in request if name not in members]
+    faults += ["%s: %s" % (name, fault) for name, fault in ((name, wrong_kind(name, value)) for name, value in request.items() if name in members) if fault]
+    if faults:
+        refuse("; ".join(faults), op)
+    return op, request
+
+
+def wrong_kind(name, value):
+    """Why a member's value is of another kind than its own; None where it isn't."""
+    if name == "v":
+        return None if type(value) is int else "not a whole number from 0 to 2^64 - 1"
+    if name == "labels":
+        return None if isinstance(value, dict) and all(isinstance(text, str) for text in value.values()) else "not an object of texts"
+    return None if isinstance(value, str) else "not a text"
+
+
+def deepest(text):
+    """How deep arrays and objects are nested in each other."""
+    depth = most = 0
+    for found in re.finditer(r'"(?:[^"\\]|\\.)*"|[\[{\]}]', text, re.DOTALL):
+        if found[0] in "[{":
+            depth += 1
+            most = max(most, depth)
+        elif found[0] in "]}":
+            depth -= 1
+    return most
+
+
+def has_lone_surrogate(text):
+    """Whether an escape is half of a surrogate pair."""
+    high = None  # the end of a first half
+    for found in re.finditer(r"\\(?:u([0-9A-Fa-f]{4})|.)", text, re.DOTALL):
+        code = int(found[1], 16) if found[1] else 0
+        if high is not None:
+            if found.start() != high or not 0xDC00 <= code < 0xE000:
+                return True
+            high = None
+        elif 0xDC00 <= code < 0xE000:
+            return True
+        elif 0xD800 <= code < 0xDC00:
+            high = found.end()
+    return high is not None
+
+
+def broken_rules(op, request):
+    """Each rule that a member breaks, with the member, whatever the store holds."""
+    for name in OPS[op][0]:
+        if name in request:
+            fault = broken(op, name, request)
+            if fault:
+                yield "%s: %s" % (name, fault)
+    if op == "container.add" and ("snapshotter" in request) != ("key" in request):
+        yield "key: missing beside snapshotter" if "snapshotter" in request else "snapshotter: missing beside key"
+
+
+def broken(op, name, request):
+    """The rule that this member of the request breaks; None where it breaks none."""
+    text = request[name]
+    if op.endswith(".label") and name in ("key", "value"):
+        return label_rule(request["key"], request["value"]) if name == "key" else None
+    if name in ("ns", "snapshotter"):
+        return None if SHORT_NAME.fullmatch(text) else SHORT_RULE
+    if name in ("digest", "target", "expected"):
+        return digest_rule(text)
+    if name in ("at", "sync"):
+        return None if is_moment(text) else TIME_RULE
+    if name == "labels":
+        return labels_rule(text)
+    if name == "v":
+        return None if text in (1, 2) else "neither 1 nor 2"
+    if name == "type":
+        return None if resource_type(text) else TYPE_RULE
+    if name == "resource" and resource_type(request["type"]) in (None, "content"):
+        return digest_rule(text) if resource_type(request["type"]) else None
+    return name_rule(text)
+
+
+def name_rule(text):
+    data = text.encode()
+    return None if 0 < len(data) <= NAME_BYTES and not CONTROL.search(data) else NAME_RULE
+
+
+def digest_rule(text):
+    if DIGEST.fullmatch(text):
+        return None
+    return "not sha512: with 128 lower-case digits" if text.startswith("sha512:") else "not sha256: with 64 lower-case digits"
+
+
+def resource_type(text):
+    """The type of a lease's resource without its snapshotter; None where it is none."""
+    if text in ("content", "ingests"):
+        return text
+    return "snapshots" if text.startswith("snapshots/") and SHORT_NAME.fullmatch(text[len("snapshots/"):]) else None
+
+
+def label_rule(key, value):
+    """The rule that a label breaks; an empty value takes a label away, and then any key is allowed."""
+    if not value:
+        return None
+    if not key:
+        return "empty"
+    return None if len(key.encode()) + len(value.encode()) <= LABEL_BYTES else "over 4,096 bytes with its value"
+
+
+def labels_rule(labels):
+    for key, value in labels.items():
+        fault = label_rule(key, value)
+        if fault:
+            return "the key %s is %s" % (json.dumps(key[:60], ensure_ascii=False), fault) if key else "a key is empty"
+    return "over 256" if sum(value != "" for value in labels.values()) > MOST_LABELS else None
