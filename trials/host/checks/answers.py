@@ -1,0 +1,35 @@
+"""By the built program: the replies to each store's script are those that its report says, and impact tells what containerd freed."""
+import os
+import subprocess
+
+import stores
+
+
+def run(work, metad):
+    freed = 0
+    for name in stores.NAMES:
+        script = stores.read(name, "script")
+        replies = subprocess.run([metad, "run"], input=stores.asked(name, script), stdout=subprocess.PIPE).stdout
+        assert replies == stores.expected(name, script), "%s: metad answers otherwise" % name
+        if stores.facts(name)["without"]:
+            impact(name, work, metad)
+            freed += 1
+    return "%d scripts answered, %d removals as containerd made them" % (len(stores.NAMES), freed)
+
+
+def impact(name, work, metad):
+    """What goes anyway and what impact says of the removed row is together what containerd freed; the lines stand by their bytes."""
+    found = stores.host("impact", "--metad", metad, stores.path(name, "script"), os.path.join(work, name + ".sizes"))
+    assert found.returncode == 0, found.stderr.decode()
+    first, *lines = found.stdout.decode().splitlines()
+    facts = stores.facts(name)
+    kind, ns, row = facts["without"]
+    own = [line.split() for line in lines if line.split()[6:8] == [kind, ns + "/" + row]]
+    assert len(own) == 1, "%s: no line of its own" % name
+    assert int(own[0][0]) > 0, "%s: nothing goes with it" % name
+    assert int(first.split()[0]) + int(own[0][0]) == facts["freed_bytes"], "%s: %s, where containerd freed %d" % (name, own[0], facts["freed_bytes"])
+    bytes_of = [int(line.split()[0]) for line in lines]
+    assert bytes_of == sorted(bytes_of, reverse=True), "%s: not by bytes" % name
+    rows = sum(line.count('"op":"%s.add"' % kind) for line in stores.read(name, "script").decode().splitlines() for kind in ("image", "container", "lease"))
+    gone = sum(line.count('"op":"lease.remove"') for line in stores.read(name, "script").decode().splitlines())
+    assert len(lines) == rows - gone, "%s: %d lines for %d rows" % (name, len(lines), rows - gone)

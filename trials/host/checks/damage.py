@@ -1,0 +1,67 @@
+"""Damaged copies of a daemon's file: each is exported, or refused with one line and nothing on standard output, within two seconds."""
+import contextlib
+import gzip
+import io
+import os
+import random
+import time
+
+import stores
+
+KINDS = ("cut", "a bit", "a page's head", "a page of zeros")
+
+
+def damaged(data, kind, dice):
+    """A copy with one damage."""
+    data = bytearray(data)
+    pages = len(data) // 4096
+    if kind == "cut":
+        del data[dice.randrange(len(data)):]
+    elif kind == "a bit":
+        data[dice.randrange(len(data))] ^= 1 << dice.randrange(8)
+    elif kind == "a page's head":
+        at = 4096 * dice.randrange(pages) + dice.randrange(0, 13)
+        data[at:at + 4] = bytes(dice.randrange(256) for _ in range(4))
+    else:
+        at = 4096 * dice.randrange(pages)
+        data[at:at + 4096] = bytes(4096)
+    return bytes(data)
+
+
+class Output(io.StringIO):
+    """Standard output of an export in this process."""
+
+    def __init__(self):
+        super().__init__()
+        self.buffer = io.BytesIO()
+
+
+def export(path):
+    """The status, the output and the remarks of an export in this process."""
+    from metad_host import words
+    out, told = Output(), io.StringIO()
+    with contextlib.redirect_stdout(out), contextlib.redirect_stderr(told):
+        status = words.main(["export", "--at", "2024-03-02T00:00:00Z", path])
+    return status, out.buffer.getvalue(), told.getvalue()
+
+
+def run(work, count):
+    path = os.path.join(work, "damaged.db")
+    dice = random.Random(count)
+    sources = [gzip.decompress(stores.read(name, "db.gz")) for name in ("a_daemon", "without_an_image")]
+    refused, slowest = 0, 0
+    for place in range(count):
+        kind = KINDS[place % len(KINDS)]
+        stores.put(path, damaged(sources[place // len(KINDS) % 2], kind, dice))
+        start = time.time()
+        status, output, told = export(path)
+        slowest = max(slowest, time.time() - start)
+        assert status in (0, 1, 3), "copy %d, %s: status %d" % (place, kind, status)
+        if status == 1:
+            refused += 1
+            assert output == b"" and told.count("\n") == 1, "copy %d, %s: %s" % (place, kind, told)
+        else:
+            assert output.endswith(b'{"op":"gc.plan","at":"2024-03-02T00:00:00Z"}\n'), "copy %d, %s" % (place, kind)
+    assert slowest <= 2, "%.1f seconds" % slowest
+    assert 0 < refused < count
+    return "%d damaged copies, %d of them refused" % (count, refused)

@@ -1,0 +1,119 @@
+"""The stores of ../data: each is a daemon's files with facts, what containerd 1.6.20 removed of it; and its script and report.
+
+    stores.py FOLDER         writes each store's script there, with the replies that its report expects beside it
+    stores.py NAME METAD     writes NAME.script and NAME.report anew
+"""
+import gzip
+import hashlib
+import json
+import os
+import subprocess
+import sys
+import tempfile
+
+HERE = os.path.dirname(os.path.abspath(__file__))
+TOP = os.path.dirname(os.path.dirname(os.path.dirname(HERE)))
+DATA = os.path.join(os.path.dirname(HERE), "data")
+HOST = os.path.join(TOP, "tools", "host")
+NAMES = ("a_daemon", "without_an_image", "without_a_container", "without_a_lease", "everything_odd")
+
+
+def path(name, kind):
+    return os.path.join(DATA, "%s.%s" % (name, kind))
+
+
+def read(name, kind):
+    with open(path(name, kind), "rb") as file:
+        return file.read()
+
+
+def put(file, data):
+    """Writes a file, and the folders above it."""
+    os.makedirs(os.path.dirname(file), exist_ok=True)
+    with open(file, "wb") as out:
+        out.write(data)
+
+
+def make_root(name, root):
+    """The daemon's folder of a store: meta.db, the snapshotters' files, and blobs and ingests of their sizes without their bytes."""
+    put(os.path.join(root, "io.containerd.metadata.v1.bolt", "meta.db"), gzip.decompress(read(name, "db.gz")))
+    for snapshotter in ("native", "overlayfs"):
+        if os.path.exists(path(name, snapshotter + ".gz")):
+            put(os.path.join(root, "io.containerd.snapshotter.v1." + snapshotter, "metadata.db"), gzip.decompress(read(name, snapshotter + ".gz")))
+    content = os.path.join(root, "io.containerd.content.v1.content")
+    for line in read(name, "stored").decode().splitlines():
+        kind, size, what = line.split()
+        if kind == "blob":
+            file = os.path.join(content, "blobs", *what.split(":"))
+        else:
+            folder = os.path.join(content, "ingest", hashlib.sha256(what.encode()).hexdigest())
+            put(os.path.join(folder, "ref"), bytes.fromhex(what))
+            file = os.path.join(folder, "data")
+        put(file, b"")
+        os.truncate(file, int(size))
+
+
+def host(*words, **more):
+    """A run of tools/host."""
+    return subprocess.run([HOST] + list(words), stdout=subprocess.PIPE, stderr=subprocess.PIPE, **more)
+
+
+def facts(name):
+    """What containerd removed, with the texts of rows and objects as export writes them in its sizes."""
+    found = json.loads(read(name, "facts"))
+    found["removed"] = {kind: [[text(part) for part in row] for row in rows] for kind, rows in found["removed"].items()}
+    found["backend"]["ingests"] = [text(ref) for ref in found["backend"]["ingests"]]
+    found["backend"]["snapshots"] = [[snapshotter, text(key)] for snapshotter, key in found["backend"]["snapshots"]]
+    return found
+
+
+def text(digits):
+    return bytes.fromhex(digits).decode("utf-8", "backslashreplace")
+
+
+def export(name, root, sizes):
+    """The export of a store's folder at the moment of its facts."""
+    return host("export", "--at", facts(name)["at"], "--sizes", sizes, root)
+
+
+def asked(name, script):
+    """The script, and where containerd removed a row by hand, that removal and one more plan."""
+    gone = facts(name)["without"]
+    if not gone:
+        return script
+    kind, ns, row = gone
+    remove = {"op": kind + ".remove", "ns": ns, "id" if kind == "lease" else "name": row}
+    return script + json.dumps(remove).encode() + b"\n" + script.rstrip(b"\n").split(b"\n")[-1] + b"\n"
+
+
+def expected(name, script):
+    """All replies to what is asked: done, and the reports at the places of the plans."""
+    reports = read(name, "report").splitlines(keepends=True)
+    replies = [b'{"ok":true}\n'] * (len(asked(name, script).splitlines()) - len(reports))
+    replies.insert(len(script.splitlines()) - 1, reports[0])
+    return b"".join(replies + reports[1:])
+
+
+def write_cases(folder):
+    """Each store's script with its expected replies, as files of a folder."""
+    for name in NAMES:
+        put(os.path.join(folder, name), asked(name, read(name, "script")))
+        put(os.path.join(folder, name + ".stdout"), expected(name, read(name, "script")))
+
+
+def write_anew(name, metad):
+    """A store's script as export writes it now, and its reports as the program writes them now."""
+    with tempfile.TemporaryDirectory() as work:
+        make_root(name, os.path.join(work, "root"))
+        found = export(name, os.path.join(work, "root"), os.path.join(work, "sizes"))
+    put(path(name, "script"), found.stdout)
+    replies = subprocess.run([metad, "run"], input=asked(name, found.stdout), stdout=subprocess.PIPE).stdout.splitlines(keepends=True)
+    put(path(name, "report"), b"".join(line for line in replies if b'"report"' in line))
+    sys.stderr.write("%s: status %d, %d lines\n" % (name, found.returncode, len(found.stdout.splitlines())))
+
+
+if __name__ == "__main__":
+    if len(sys.argv) == 2:
+        write_cases(sys.argv[1])
+    else:
+        write_anew(sys.argv[1], sys.argv[2])
