@@ -8,11 +8,12 @@
 Status 0: done; 1: an input can't be read, with one line that says why; 2: other words; 3, of export: the plan may differ from the daemon's collection, for a remark that says so.
 """
 import argparse
+import importlib
 import os
 import sys
 import time
 
-from . import backends, buckets, impact, pages, refused, report, sizes
+from . import backends, buckets, pages, sizes
 from .faults import BadInput
 from .numbers import is_moment
 from .remarks import Remarks, printable
@@ -74,14 +75,18 @@ def close_output():
     os.dup2(os.open(os.devnull, os.O_WRONLY), sys.stdout.fileno())
 
 
-COMMANDS = {"export": export, "report": report.run, "impact": impact.run, "refused": refused.run}
+def run(words):
+    """The command that the words name; each of the others is a module, which is loaded where it is wanted."""
+    if words.command == "export":
+        return export(words)
+    return importlib.import_module("." + words.command, __package__).run(words)
 
 
 def main(arguments):
     """Runs a command, and answers its status."""
     words = parser().parse_args(["--help"] if arguments == ["help"] else arguments)
     try:
-        return COMMANDS[words.command](words)
+        return run(words)
     except BrokenPipeError:  # who reads has seen enough
         close_output()
         return 1

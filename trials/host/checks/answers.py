@@ -1,4 +1,6 @@
-"""By the built program: the replies to each store's script are those that its report says, and impact tells what containerd freed."""
+"""By the built program: the replies to each store's script are those that its report says, also with all labels, and with the file alone as far as
+rows go; and impact tells what containerd freed."""
+import json
 import os
 import subprocess
 
@@ -11,10 +13,24 @@ def run(work, metad):
         script = stores.read(name, "script")
         replies = subprocess.run([metad, "run"], input=stores.asked(name, script), stdout=subprocess.PIPE).stdout
         assert replies == stores.expected(name, script), "%s: metad answers otherwise" % name
+        otherwise(name, work, metad)
         if stores.facts(name)["without"]:
             impact(name, work, metad)
             freed += 1
-    return "%d scripts answered, %d removals as containerd made them" % (len(stores.NAMES), freed)
+    return "%d scripts answered, also with all labels and from meta.db alone, %d removals as containerd made them" % (len(stores.NAMES), freed)
+
+
+def otherwise(name, work, metad):
+    """The same plan with all labels; and the same rows from meta.db alone, without the backends."""
+    root = os.path.join(work, name)
+    planned = json.loads(stores.read(name, "report").splitlines()[0].decode())["report"]
+    for words in (["--labels", root], [os.path.join(root, "io.containerd.metadata.v1.bolt", "meta.db")]):
+        script = stores.host("export", "--at", stores.facts(name)["at"], *words).stdout
+        replies = subprocess.run([metad, "run"], input=script, stdout=subprocess.PIPE).stdout.splitlines()
+        assert all(b'"ok":true' in reply for reply in replies), "%s: %s" % (name, words)
+        report = json.loads(replies[-1].decode())["report"]
+        parts = ("removed", "kept", "scanned") if len(words) == 1 else planned
+        assert all(report[part] == planned[part] for part in parts), "%s: another plan with %s" % (name, words)
 
 
 def impact(name, work, metad):

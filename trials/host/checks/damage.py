@@ -1,7 +1,5 @@
 """Damaged copies of a daemon's file: each is exported, or refused with one line and nothing on standard output, within two seconds."""
-import contextlib
 import gzip
-import io
 import os
 import random
 import time
@@ -28,23 +26,6 @@ def damaged(data, kind, dice):
     return bytes(data)
 
 
-class Output(io.StringIO):
-    """Standard output of an export in this process."""
-
-    def __init__(self):
-        super().__init__()
-        self.buffer = io.BytesIO()
-
-
-def export(path):
-    """The status, the output and the remarks of an export in this process."""
-    from metad_host import words
-    out, told = Output(), io.StringIO()
-    with contextlib.redirect_stdout(out), contextlib.redirect_stderr(told):
-        status = words.main(["export", "--at", "2024-03-02T00:00:00Z", path])
-    return status, out.buffer.getvalue(), told.getvalue()
-
-
 def run(work, count):
     path = os.path.join(work, "damaged.db")
     dice = random.Random(count)
@@ -54,7 +35,7 @@ def run(work, count):
         kind = KINDS[place % len(KINDS)]
         stores.put(path, damaged(sources[place // len(KINDS) % 2], kind, dice))
         start = time.time()
-        status, output, told = export(path)
+        status, output, told = stores.exported("--at", "2024-03-02T00:00:00Z", path)
         slowest = max(slowest, time.time() - start)
         assert status in (0, 1, 3), "copy %d, %s: status %d" % (place, kind, status)
         if status == 1:

@@ -3,8 +3,10 @@
     stores.py FOLDER         writes each store's script there, with the replies that its report expects beside it
     stores.py NAME METAD     writes NAME.script and NAME.report anew
 """
+import contextlib
 import gzip
 import hashlib
+import io
 import json
 import os
 import subprocess
@@ -56,6 +58,23 @@ def make_root(name, root):
 def host(*words, **more):
     """A run of tools/host."""
     return subprocess.run([HOST] + list(words), stdout=subprocess.PIPE, stderr=subprocess.PIPE, **more)
+
+
+class Output(io.StringIO):
+    """Standard output of an export in this process."""
+
+    def __init__(self):
+        super().__init__()
+        self.buffer = io.BytesIO()
+
+
+def exported(*words):
+    """The status, the output and the remarks of an export in this process: a run of its own takes as long to start as many small exports."""
+    from metad_host import words as command
+    out, told = Output(), io.StringIO()
+    with contextlib.redirect_stdout(out), contextlib.redirect_stderr(told):
+        status = command.main(["export"] + list(words))
+    return status, out.buffer.getvalue(), told.getvalue()
 
 
 def facts(name):

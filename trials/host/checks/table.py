@@ -104,9 +104,9 @@ def run(work):
 
 def check(what, path, namespace, words, status, remark, texts):
     bolt_file.write(path, {b"v1": {b"version": b"\x06", b"ns": namespace}})
-    found = stores.host("export", "--at", "2024-03-02T00:00:00Z", *words, path)
-    told, script = found.stderr.decode(), found.stdout.decode()
-    assert found.returncode == status, "%s: status %d, %s" % (what, found.returncode, told)
+    found, output, told = stores.exported("--at", "2024-03-02T00:00:00Z", *words, path)
+    script = output.decode()
+    assert found == status, "%s: status %d, %s" % (what, found, told)
     assert remark is None or any(line.startswith("host: ") and remark in line for line in told.splitlines()), "%s: %s" % (what, told)
     assert (LATER in told) == (status == 3), "%s: %s" % (what, told)
     for text in texts:
