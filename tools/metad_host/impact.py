@@ -59,6 +59,8 @@ def script_rows(path):
         asked = [json.loads(line.decode()) for line in lines]
         for line, request in zip(lines, asked):
             kind, verb = request["op"].split(".")
+            if "lease" in request:
+                rows["lease", request["ns"], request["lease"]].append(hold(kind, request))
             if kind not in NAMES:
                 continue
             key = (kind, request["ns"], request[NAMES[kind]])
@@ -73,6 +75,15 @@ def script_rows(path):
     except (ValueError, KeyError, TypeError, IndexError, AttributeError, RecursionError):
         raise BadInput("%s: no script of export, which ends in gc.plan" % path)
     return lines, rows
+
+
+def hold(kind, request):
+    """The line that gives a lease what a request made under it."""
+    if kind == "snap":
+        resource = ("snapshots/" + request["snapshotter"], request.get("name", request["key"]))
+    else:
+        resource = ("content", request["digest"]) if "digest" in request else ("ingests", request["ref"])
+    return json.dumps({"op": "lease.hold", "ns": request["ns"], "id": request["lease"], "type": resource[0], "resource": resource[1]}).encode()
 
 
 def answers(command, asked, before, rows):

@@ -9,11 +9,11 @@ JSON = json.JSONEncoder(ensure_ascii=False, separators=(",", ":")).encode
 
 
 class Lines:
-    """The lines of one script, as bytes in `written`; `between` are the digests of rows that only carry references."""
+    """The lines of one script, as bytes in `written`; `between` has the digests of rows that only carry references."""
 
     def __init__(self):
         self.written = []
-        self.between = []
+        self.between = {}
 
     def say(self, op, **members):
         """A request of these members, in their order."""
@@ -43,7 +43,7 @@ class Lines:
         """A row of content with these references alone, and the label that references it."""
         digest = "sha512:" + hashlib.sha512(json.dumps([ns, labels]).encode()).hexdigest()
         if digest not in self.between:
-            self.between.append(digest)
+            self.between[digest] = True
             self.add("content.add", labels, ("content.label", {"ns": ns, "digest": digest}), ns=ns, digest=digest)
         return "containerd.io/gc.ref.content/between.%s" % digest[7:39], digest
 

@@ -57,7 +57,7 @@ class Script:
         self.without_rows()
         self.lines.say("gc.plan", at=at)
         self.sizes["renamed"] = self.texts.renamed
-        self.sizes["between"] = self.lines.between
+        self.sizes["between"] = list(self.lines.between)
 
     def next_number(self, kind, backend, row):
         """The number of the next object of the backend, kept with what it is."""

@@ -17,7 +17,23 @@ def run(work, metad):
         if stores.facts(name)["without"]:
             impact(name, work, metad)
             freed += 1
+    held(work, metad)
     return "%d scripts answered, also with all labels and from meta.db alone, %d removals as containerd made them" % (len(stores.NAMES), freed)
+
+
+def held(work, metad):
+    """A lease gets back what the script made under it: of a script that is ours, in which each thing is held by its lease alone."""
+    script, sizes_file = os.path.join(work, "held.script"), os.path.join(work, "held.sizes")
+    digest, other = "sha256:" + "1" * 64, "sha256:" + "2" * 64
+    lines = ['{"op":"ns.add","ns":"x"}', '{"op":"lease.add","ns":"x","id":"l"}', '{"op":"content.add","ns":"x","digest":"%s","lease":"l"}' % digest,
+             '{"op":"ingest.begin","ns":"x","ref":"r","at":"2024-03-01T00:00:00Z","lease":"l"}', '{"op":"ingest.commit","ns":"x","ref":"r","digest":"%s","lease":"l"}' % other,
+             '{"op":"snap.prepare","ns":"x","snapshotter":"native","key":"k","lease":"l"}', '{"op":"snap.commit","ns":"x","snapshotter":"native","key":"k","name":"s","lease":"l"}',
+             '{"op":"gc.plan","at":"2024-03-01T00:00:00Z"}']
+    stores.put(script, ("\n".join(lines) + "\n").encode())
+    from metad_host import sizes
+    sizes.write(sizes_file, dict(sizes.empty(), blobs={digest: 5, other: 7}))
+    found = stores.host("impact", "--metad", metad, script, sizes_file)
+    assert found.stdout.decode().split() == "0 bytes go before any removal 12 bytes 2 blobs 1 snapshots lease x/l (1 of unknown size)".split(), found
 
 
 def otherwise(name, work, metad):
