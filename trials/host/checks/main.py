@@ -34,9 +34,9 @@ def main(whole, metad):
             start = time.time()
             try:
                 print("host: %s: %s (%.1f s)" % (name, check(work), time.time() - start))
-            except AssertionError as fault:
+            except Exception as fault:  # what a check did not expect fails it too
                 failed += 1
-                print("host: %s: FAILED: %s" % (name, fault or traceback.format_exc()))
+                print("host: %s: FAILED: %s" % (name, fault if isinstance(fault, AssertionError) and str(fault) else traceback.format_exc()))
             sys.stdout.flush()
     return 1 if failed else 0
 
