@@ -70,6 +70,8 @@ def reason(op, request, reply, names):
         found = ["%s: not there" % member for member in names.missing(op, request)]
     elif fault == 3 and op in MADE:
         found = ["%s: there already" % MADE[op]]
+    elif fault == 4 and op in ("snap.prepare", "snap.view") and "parent" not in request:
+        found = ["key: no number is left for it"]
     elif fault == 4 and op in FORBIDDEN:
         found = [FORBIDDEN[op]]
     elif fault in OTHER:

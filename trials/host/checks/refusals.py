@@ -21,9 +21,10 @@ MORE = [
      "line 1: image.add: target: not sha256: with 64 lower-case digits; labels: the key \"k\" is over 4,096 bytes with its value"),
     (b'{"op":"image.label","ns":"x","name":"i","key":"k","value":"v"}', 1, "line 1: image.label: key: new, and the row has 256 labels"),
     (b'{"op":"gc.run","at":"2024-03-01T00:00:00Z"}', 8, "line 1: gc.run: a thread couldn't be started"),
+    (b'{"op":"snap.view","ns":"x","snapshotter":"s","key":"k"}', 4, "line 1: snap.view: key: no number is left for it"),
     (b'{"op":"ns.list"}', 7, "line 1: ns.list: memory was refused"),
 ]
-NAMES = {1: "InvalidArgument", 5: "BadLine", 6: "TooLong", 7: "OutOfMemory", 8: "NoWorker"}
+NAMES = {1: "InvalidArgument", 4: "FailedPrecondition", 5: "BadLine", 6: "TooLong", 7: "OutOfMemory", 8: "NoWorker"}
 
 
 def run(work):
