@@ -28,13 +28,13 @@ def run(words):
             asked.write(b"\n".join([remove, plan] + own) + b"\n")
         asked.write(plan + b"\n")
         asked.seek(0)
-        base, plans = answers(program(words.metad), asked, len(lines), rows)
-    try:
-        found = sorted((difference(measure, base, plan) + key for key, plan in zip(rows, plans)), key=lambda item: (-item[0],) + item[4:])
-        before = "%d bytes go before any removal" % freed(measure, base)[0]
-    except (KeyError, TypeError, ValueError, AttributeError):
-        raise BadInput("%s: not the sizes of this script" % words.sizes)
-    sys.stdout.write(before + "\n")
+        try:
+            base, plans = answers(program(words.metad), asked, len(lines), rows, measure)
+        except (KeyError, TypeError, AttributeError):
+            raise BadInput("%s: not the sizes of this script" % words.sizes)
+    found = [tuple(new - old for new, old in zip(plan, base)) + key for key, plan in zip(rows, plans)]
+    found.sort(key=lambda item: (-item[0],) + item[4:])
+    sys.stdout.write("%d bytes go before any removal\n" % base[0])
     for size, blobs, snapshots, unsized, kind, ns, name in found:
         more = " (%d of unknown size)" % unsized if unsized else ""
         sys.stdout.write("%14d bytes  %3d blobs  %3d snapshots  %s %s%s\n" % (size, blobs, snapshots, kind, printable(ns + "/" + measure.name(name)), more))
@@ -86,8 +86,8 @@ def hold(kind, request):
     return json.dumps({"op": "lease.hold", "ns": request["ns"], "id": request["lease"], "type": resource[0], "resource": resource[1]}).encode()
 
 
-def answers(command, asked, before, rows):
-    """The report of the script itself, and that of the plan without each row; the store is at the end as it was."""
+def answers(command, asked, before, rows, measure):
+    """What the script's own plan frees, and what the plan without each row does; the store is at the end as it was."""
     with subprocess.Popen(command, stdin=asked, stdout=subprocess.PIPE) as metad:
         replies = reports(metad.stdout)
         try:
@@ -96,7 +96,7 @@ def answers(command, asked, before, rows):
             plans = []
             for own in rows.values():
                 next(replies)
-                plans.append(next(replies))
+                plans.append(freed(measure, next(replies)))
                 for _ in own:
                     next(replies)
             last = next(replies)
@@ -105,7 +105,7 @@ def answers(command, asked, before, rows):
             raise BadInput("metad ended before the last plan: is it built? (./metad build)")
     if last != base:
         raise BadInput("the last plan isn't the first: the store didn't come back to what it was")
-    return base, plans
+    return freed(measure, base), plans
 
 
 def reports(replies):
@@ -127,8 +127,3 @@ def freed(measure, report):
     ingests = [size for _, size in measure.ingests(report)]
     every = blobs + snapshots + ingests
     return known(every), len(blobs), len(snapshots), unknown(every)
-
-
-def difference(measure, base, plan):
-    """What one plan frees beyond another."""
-    return tuple(new - old for new, old in zip(freed(measure, plan), freed(measure, base)))
