@@ -1,17 +1,20 @@
 /* Refuses the growth whose number is in REFUSE, counting from 1: a malloc, a realloc, a calloc, or the start of a
-   thread. At the end how many were asked for is written to standard error. */
-#define _GNU_SOURCE
-#include <dlfcn.h>
-#include <errno.h>
-#include <pthread.h>
-#include <stdio.h>
-#include <stdlib.h>
-#include <sys/syscall.h>
-#include <unistd.h>
+   thread. At the end how many were asked for is written to standard error. It needs no header, so that the
+   toolchain's own clang compiles it. */
+typedef __SIZE_TYPE__ size_t;
+typedef int start_function(void *thread, const void *attributes, void *(*start)(void *), void *given);
 
 extern void *__libc_malloc(size_t size);
 extern void *__libc_calloc(size_t count, size_t size);
 extern void *__libc_realloc(void *block, size_t size);
+extern int *__errno_location(void);
+extern char *getenv(const char *name);
+extern long atol(const char *text);
+extern void *dlsym(void *handle, const char *name);
+extern int dprintf(int descriptor, const char *format, ...);
+extern long syscall(long number, ...);
+
+enum { OUT_OF_MEMORY = 12, TRY_AGAIN = 11, EXIT_GROUP = 231 };
 
 static long asked;
 
@@ -20,26 +23,26 @@ static int is_due(void) {
     const char *text = getenv("REFUSE");
     long number = __sync_add_and_fetch(&asked, 1);
     if (!text || number != atol(text)) return 0;
-    errno = ENOMEM;
+    *__errno_location() = OUT_OF_MEMORY;
     return 1;
 }
 
-void *malloc(size_t size) { return is_due() ? NULL : __libc_malloc(size); }
+void *malloc(size_t size) { return is_due() ? 0 : __libc_malloc(size); }
 
-void *calloc(size_t count, size_t size) { return is_due() ? NULL : __libc_calloc(count, size); }
+void *calloc(size_t count, size_t size) { return is_due() ? 0 : __libc_calloc(count, size); }
 
-void *realloc(void *block, size_t size) { return is_due() ? NULL : __libc_realloc(block, size); }
+void *realloc(void *block, size_t size) { return is_due() ? 0 : __libc_realloc(block, size); }
 
-int pthread_create(pthread_t *thread, const pthread_attr_t *attributes, void *(*start)(void *), void *given) {
-    static int (*real)(pthread_t *, const pthread_attr_t *, void *(*)(void *), void *);
-    if (!real) real = (int (*)(pthread_t *, const pthread_attr_t *, void *(*)(void *), void *))dlsym(RTLD_NEXT, "pthread_create");
-    return is_due() ? EAGAIN : real(thread, attributes, start, given);
+int pthread_create(void *thread, const void *attributes, void *(*start)(void *), void *given) {
+    static start_function *real;
+    if (!real) real = (start_function *)dlsym((void *)-1L, "pthread_create");
+    return is_due() ? TRY_AGAIN : real(thread, attributes, start, given);
 }
 
-__attribute__((destructor)) static void tell(void) { fprintf(stderr, "%ld\n", asked); }
+__attribute__((destructor)) static void tell(void) { dprintf(2, "%ld\n", asked); }
 
 /* A program that may start threads ends so, without its destructors. */
 void _exit(int status) {
     tell();
-    for (;;) syscall(SYS_exit_group, status);
+    for (;;) syscall(EXIT_GROUP, status);
 }
