@@ -1,0 +1,4 @@
+pub mod Nearest
+pub mod Seeing
+pub mod Forests
+pub mod Firsts
