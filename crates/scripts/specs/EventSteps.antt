@@ -7,7 +7,7 @@ use Rattle.meta_types.specs.Backends.{no_objects}
 use Rattle.meta_types.specs.Collected.{collected}
 use Rattle.meta_types.specs.Reports.{Report, report_of}
 use Rattle.meta_types.specs.Requests.{removal_outcome}
-use Rattle.meta_types.specs.Steps.{Answer, reported, refused, Event, requested, collect, remove_collect, line_outcome, after, collect_fault, remove_collect_fault}
+use Rattle.meta_types.specs.Steps.{Answer, reported, refused, Event, requested, collect, remove_collect, answer_to, after, collect_fault, remove_collect_fault}
 
 abbrev pub collection_report : State → ℤ → Bool → Report
 collection_report state at dry = report_of state at (reached_in state.records at) no_objects dry
@@ -25,7 +25,7 @@ plans state at = (reported (collection_report state at true), state)
 
 -- what an event answers, and the store after it; a removal with a collection collects the store without the row
 abbrev pub event_step : State → Event → Answer × State
-event_step state (requested request) = (line_outcome state request, after state request)
+event_step state (requested request) = (answer_to state request, after state request)
 event_step state (collect at dry workers) =
     option_map_or (λ fault. (refused fault, state)) (collect_fault state.records workers)
     (if dry then plans state at else collects state at)

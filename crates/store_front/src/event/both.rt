@@ -11,7 +11,7 @@ use meta_types::{Fault, Instant, Removal, Reply, Request};
 use std::alloc::Global;
 use std::marker::Model;
 
-/// An event twice.
+/// Two equal copies of an event: one for the log, one for the session's list.
 #[derive(Drop)]
 pub(crate) struct Events {
     pub(crate) log: Event,
@@ -69,7 +69,7 @@ impl Events {
     }
 }
 
-/// An answer twice.
+/// Two equal copies of an answer: one for the log, one for the session's list.
 #[derive(Drop)]
 pub(crate) struct Answers {
     pub(crate) log: Answer,

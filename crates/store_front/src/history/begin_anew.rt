@@ -1,4 +1,4 @@
-//! A history begun anew.
+//! Begins a new history over the present state.
 ghost use Rattle.std.specs.Prelude.{◌≡◌, ◌↔◌, Err, [], IfOk, IfErr, OnOk, OnErr, All, map};
 ghost use Rattle.meta_types.specs.Histories.{IsLegal};
 ghost use Rattle.meta_types.specs.declared.fault.Fault.TheVariants.{InvalidArgument};
