@@ -59,7 +59,7 @@ impl Gate for AllAtOnce {
             return;
         }
         self.begun.fetch_or(bit(worker), Ordering::SeqCst);
-        for _ in 0..10_000_000u32 {
+        for _ in 0..1_000_000u32 {
             if self.have_begun() || self.is_late() {
                 return;
             }

@@ -19,6 +19,7 @@ use meta_types::{Fault, is_worker_count};
 use std::alloc::Global;
 use std::io::{Read, Write};
 use std::marker::Brand;
+use std::mem::ManuallyDrop;
 use std::sync::Wait;
 use std::sync::ledger::{Blank, Ledger};
 use std::thread::Threads;
@@ -197,6 +198,11 @@ fn take_block<T: Threads + Wait + Sync, L: Ledger, R: Read, W: Write>(
     }
 }
 
+// Leaves the store as it is: its memory goes with the process, without a pass over its objects.
+fn leave<L: Ledger>(store: ScriptStore<L>) {
+    let _store = ManuallyDrop::new(store);
+}
+
 // Runs a script over the store that `L` names. The blank has 65,536 parts.
 fn run_named<L: Ledger, T: Threads + Wait + Sync, R: Read, W: Write>(
     rt: &T,
@@ -224,8 +230,14 @@ fn run_named<L: Ledger, T: Threads + Wait + Sync, R: Read, W: Write>(
     'reads: for _ in 1..READ_LIMIT {
         match take_block(rt, alloc, &mut store, &mut buffer, reader, writer) {
             Ok(Run::GoesOn) => {}
-            Ok(Run::HasEnded) => return Ok(()),
-            Err(fault) => return Err(fault),
+            Ok(Run::HasEnded) => {
+                leave(store);
+                return Ok(());
+            }
+            Err(fault) => {
+                leave(store);
+                return Err(fault);
+            }
         }
     }
     Err(Fault::ReadFailed)
@@ -233,7 +245,8 @@ fn run_named<L: Ledger, T: Threads + Wait + Sync, R: Read, W: Write>(
 
 /// The headline: whatever the script, with 1 to 16 workers that steal and whatever their schedule,
 /// what is written is the output of what was read, in which a collection removes just what no path
-/// of references reaches. A line is refused with 7 or 8 only for want of memory or of a thread.
+/// of references reaches. A line may also be refused with 7 or 8, for memory or for a thread; then it
+/// changes nothing. The store's memory isn't freed: it goes with the process.
 pub fn run_script<T: Threads + Wait + Sync, R: Read, W: Write>(
     rt: &T,
     alloc: Global,
