@@ -1,11 +1,13 @@
 //! The program: runs a script of requests on standard input and output.
 #![tactic(auto)]
 
+mod blocks;
 #[cfg(test)]
 mod tests;
 #[cfg(test)]
 mod tests_flush;
 
+use crate::blocks::Blocks;
 use command_line::{ArgFault, parse_args};
 use meta_types::Fault;
 use scripts::run_script;
@@ -15,10 +17,21 @@ use std::sync::Wait;
 use std::thread::Threads;
 use std::{env, io};
 
+// Why the program's words can't be had: one of them isn't UTF-8, so they ask for no run, or memory
+// is wanting.
+fn word_fault(error: &io::Error) -> ArgFault {
+    if error.kind() == io::ErrorKind::InvalidData {
+        ArgFault::Usage
+    } else {
+        ArgFault::OutOfMemory
+    }
+}
+
 // The number of workers that the program's words ask for.
 fn workers(rt: &HostRuntime, alloc: Global) -> Result<usize, ArgFault> {
-    let Ok(args) = env::args(rt) else {
-        return Err(ArgFault::OutOfMemory);
+    let args = match env::args(rt) {
+        Ok(args) => args,
+        Err(error) => return Err(word_fault(&error)),
     };
     let texts: Vec<String> = args.collect(alloc)?;
     let mut words: Vec<&str> = Vec::new(alloc);
@@ -39,7 +52,7 @@ fn run<T: Threads + Wait + Sync, R: io::Read + Drop, W: io::Write + Drop>(
     let Ok(mut reader) = io::BufReader::new(alloc, reader) else {
         return Err(Fault::OutOfMemory);
     };
-    let Ok(mut writer) = io::BufWriter::new(alloc, writer) else {
+    let Ok(mut writer) = Blocks::new(alloc, writer) else {
         return Err(Fault::OutOfMemory);
     };
     run_script(rt, alloc, &mut reader, &mut writer, workers)
