@@ -38,7 +38,7 @@ is_named name snap = bytes_eq snap.snapshotter name.0 && snap.number == name.1
 abbrev pub object_name : BackSnap → Text × ℕ
 object_name snap = (snap.snapshotter, snap.number)
 
--- the parent, its parent and so on, at most so many (containerd snapshots service, parents)
+-- the parent, its parent and so on, as many as asked (containerd snapshots service, parents)
 abbrev pub ancestors : ℕ → List BackSnap → BackSnap → List BackSnap
 ancestors zero snapshots snap = []
 ancestors (suc most) snapshots snap =
@@ -56,7 +56,7 @@ abbrev pub is_ancestor_of_one : List BackSnap → List (Text × ℕ) → BackSna
 is_ancestor_of_one snapshots names snap =
     list_any (λ one. list_any (λ name. is_named name one) names && list_any (is_named (object_name snap)) (ancestors_of snapshots one)) snapshots
 
--- ---- what stays, and what goes
+-- ---- which objects stay, and which are removed
 
 -- a blob stays where these tables own it, or its removal failed
 abbrev pub blob_stays : Tables → BackNames → Text → Bool
@@ -78,13 +78,13 @@ collected_backends tables failed back = record {
   ingests = filter (ingest_object_stays tables failed) back.ingests;
 }
 
--- snapshots go by snapshotter, then the deepest first, then by number (children before parents: containerd snapshots service)
+-- snapshots are removed by snapshotter, then the deepest first, then by number (children before parents: containerd snapshots service)
 abbrev pub goes_before : List BackSnap → BackSnap → BackSnap → Bool
 goes_before snapshots a b = is_lt (text_cmp a.snapshotter b.snapshotter)
     || bytes_eq a.snapshotter b.snapshotter && (nat_lt (depth_of snapshots b) (depth_of snapshots a)
     || depth_of snapshots a == depth_of snapshots b && nat_lt a.number b.number)
 
--- what the backend gives up, in the order of a report
+-- the removed objects, in the order of a report
 abbrev pub removed_objects : Tables → BackNames → BackLists → BackNames
 removed_objects tables failed back = record {
   blobs = filter (λ digest. not (blob_stays tables failed digest)) back.blobs;

@@ -13,15 +13,15 @@ module _ (reached : Thing → Bool) where
   abbrev pub content_stays : ContentRow → Bool
   content_stays row = reached (content Full row) || reached (content Flat row)
 
-  -- so does a snapshot
+  -- a snapshot stays where a path ends in it, in either mode
   abbrev pub snapshot_stays : SnapRow → Bool
   snapshot_stays row = reached (snapshot Full row) || reached (snapshot Flat row)
 
-  -- an ingest has one mode
+  -- an ingest, which has one mode, stays where a path ends in it
   abbrev pub ingest_stays : IngestRow → Bool
   ingest_stays row = reached (ingest row)
 
-  -- namespaces and containers stay; of images, content, ingests and snapshots those that stay
+  -- all namespaces and containers; of images, content, ingests and snapshots, the rows that stay
   abbrev pub collected_tables : ℕ → ℤ → Tables → Tables
   collected_tables profile at tables = record tables {
     images = filter (image_stays profile at) tables.images;

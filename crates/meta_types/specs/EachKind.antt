@@ -1,4 +1,4 @@
--- What a collection does to each kind of rows and objects, as an operator reads it: what stays, what goes and is named, and what is counted. Each statement is the contract of a function of the module `laws`. Ours, unless a source stands beside.
+-- What a collection does to each kind of rows and objects, as an operator reads it: which stay, which are removed and named, and what the report counts. Each statement is the contract of a function of the module `laws`. Ours, unless a source stands beside.
 use Rattle.std.specs.Prelude.{◌≡◌, ◌↔◌, ℕ, Bool, true, false, List, ℤ, Contains, IsTrue}
 use Rattle.meta_types.specs.Text.{Text}
 use Rattle.meta_types.specs.Rows.{LeaseRow, State, BackSnap}
@@ -12,14 +12,15 @@ use Rattle.meta_types.specs.declared.rows.IngestRow.{IngestRow}
 use Rattle.meta_types.specs.declared.rows.SnapRow.{SnapRow}
 use Rattle.meta_types.specs.declared.resource.Mode.{Mode}
 
--- Of the old rows exactly those are left that stay. The names are exactly those of the others, and none that is left has such a name.
+-- Exactly the old rows that stay are left. The names are exactly those of the other old rows;
+-- no row that is left has one of them.
 pub record Divides {Row Name : Type 0} (name_of : Row → Name) (Stays : Row → Type 0) (old left : List Row) (gone : List Name) : Type 0 where
   pub kept : (row : Row) → Contains left row ↔ (Contains old row × Stays row)
   pub named : (name : Name) → Contains gone name ↔ ((row : Row) × Contains old row × (Stays row → ⊥) × (name_of row ≡ name))
   pub apart : (row : Row) → Contains left row → Contains gone (name_of row) → ⊥
 
 -- Content, snapshots and ingests stay exactly where a path of references leads to them (containerd garbage-collection.md).
--- Images and leases stay up to their expiry (images in profile 2), containers and namespaces always. The report names what goes, and counts what stays and what paths lead to.
+-- Images and leases stay up to their expiry (images in profile 2), containers and namespaces always. The report names the removed rows, and counts those that stay and those that paths lead to.
 pub record CollectsRows (state : State) (at : ℤ) (report : Report) (left : State) : Type 0 where
   pub content : Divides (λ (row : ContentRow). (row.ns, row.digest)) (λ (row : ContentRow). (mode : Mode) × IsReached state.records at (content mode row)) state.records.tables.content left.records.tables.content report.removed.content
   pub snapshots : Divides (λ (row : SnapRow). (row.key.ns, row.key.snapshotter, row.key.name)) (λ (row : SnapRow). (mode : Mode) × IsReached state.records at (snapshot mode row)) state.records.tables.snapshots left.records.tables.snapshots report.removed.snapshots

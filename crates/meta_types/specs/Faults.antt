@@ -39,18 +39,18 @@ least_of invalid missing there forbidden =
     if invalid then Some InvalidArgument
     else (if missing then Some NotFound else (if there then Some AlreadyExists else (if forbidden then Some FailedPrecondition else None)))
 
--- the fault, where the test fails
+-- no fault where the test holds, else this one
 abbrev pub unless : Bool → Fault → Option Fault
 unless true fault = None
 unless false fault = Some fault
 
--- a call is refused with the fault, where there is one; else it succeeds, or memory was wanting
+-- a call is refused with the fault, where there is one; else it succeeds, or memory ran out
 abbrev pub Refuses : {X : Type 0} → Result X Fault → Option Fault → Type 0
 Refuses (Ok x) least = least ≡ None
 Refuses (Err answer) (Some fault) = answer ≡ fault
 Refuses (Err answer) None = answer ≡ OutOfMemory
 
--- the same of a call that takes no memory
+-- the same for a call that takes no memory: it is never refused for memory
 abbrev pub OnlyRefuses : {X : Type 0} → Result X Fault → Option Fault → Type 0
 OnlyRefuses (Ok x) least = least ≡ None
 OnlyRefuses (Err answer) least = least ≡ Some answer

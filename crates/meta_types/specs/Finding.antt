@@ -8,7 +8,7 @@ use Rattle.meta_types.specs.Paths.{Thing, things, is_root, has_edge}
 abbrev pub is_found : Records → ℤ → List Thing → Thing → Bool
 is_found records at found thing = is_root records.profile at thing || list_any (λ before. has_edge before thing) found
 
--- the things of the store that paths of at most so many things end in
+-- the things of the store in which a path ends that has at most the given number of things
 abbrev pub found_in : ℕ → Records → ℤ → List Thing
 found_in zero records at = []
 found_in (suc most) records at = filter (is_found records at (found_in most records at)) (things records)

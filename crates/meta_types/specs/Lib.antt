@@ -8,7 +8,7 @@ pub mod Collected
 pub mod Backends
 pub mod Reports
 pub mod Promises
--- II. What requests do: what each of them comes to, what each event answers and leaves, and which stores are sound.
+-- II. What requests do: what each of them comes to, what each event answers and leaves, which stores are sound, and how it is explained that a row is kept.
 pub mod Ops
 pub mod Changes
 pub mod Requests
@@ -17,6 +17,8 @@ pub mod Histories
 pub mod Sound
 pub mod Finding
 pub mod EachKind
+pub mod Reasons
+pub mod Explanations
 -- III. The words that the others use.
 pub mod Text
 pub mod Time

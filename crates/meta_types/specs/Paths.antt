@@ -16,7 +16,7 @@ use Rattle.meta_types.specs.declared.resource.Mode.TheVariants.{Full, Flat}
 use Rattle.meta_types.specs.declared.resource.Resource.{Resource}
 use Rattle.meta_types.specs.declared.resource.Resource.TheVariants.{Content, Snapshot, Ingest}
 
--- what a path goes over: content and snapshots come in two modes, with their labels followed or without (compare flat leases, containerd garbage-collection.md)
+-- the things of a path: content and snapshots come in two modes, with their labels followed or without (compare flat leases, containerd garbage-collection.md)
 pub data Thing : Type 0 where
   image : ImageRow → Thing
   container : ContainerRow → Thing

@@ -33,7 +33,7 @@ ADryRunHasOneReport = (state : State) (at : ℤ) (r s : Report) → Plans state 
 
 -- ---- safety: nothing that an image, a container, an unexpired lease or ingest or a root label leads to is removed
 
--- What a path leads to remains, and isn't reported as removed. A blob stays while content of any namespace that remains has its digest.
+-- A row that a path leads to remains, and isn't reported as removed. A blob stays while a remaining content row, of any namespace, has its digest.
 pub record KeepsWhatIsReached (state : State) (at : ℤ) (report : Report) (new : State) : Type 0 where
   pub content_rows : (mode : Mode) (row : ContentRow) → Contains state.records.tables.content row → IsReached state.records at (content mode row)
       → Contains new.records.tables.content row × (Contains report.removed.content (row.ns, row.digest) → ⊥)
@@ -50,7 +50,7 @@ NothingReachedIsRemoved = (state : State) (at : ℤ) (failed : BackNames) (repor
 
 -- ---- liveness: what no path leads to is removed
 
--- What no path leads to goes, and is reported as removed. A blob goes when content of no namespace that remains has its digest, unless its removal failed.
+-- A row that no path leads to is removed, and reported so. A blob is removed when no remaining content row, of any namespace, has its digest, unless its removal failed.
 pub record RemovesWhatIsNotReached (state : State) (at : ℤ) (report : Report) (new : State) : Type 0 where
   pub content_rows : (row : ContentRow) → Contains state.records.tables.content row → ((mode : Mode) → IsReached state.records at (content mode row) → ⊥)
       → (Contains new.records.tables.content row → ⊥) × Contains report.removed.content (row.ns, row.digest)
@@ -80,7 +80,8 @@ OwnedObjectsStay = (state : State) (at : ℤ) (failed : BackNames) (report : Rep
 
 -- ---- liveness: what no row that remains owns is removed
 
--- they go, and are reported as removed, where none owns them, unless their removal failed or, of a snapshot, that of a descendant
+-- A backend snapshot and an ingest's object that no remaining row owns are removed, and reported so,
+-- unless their removal failed or, of a snapshot, that of a descendant.
 pub record RemovesUnownedObjects (state : State) (report : Report) (new : State) : Type 0 where
   pub snapshots : (snap : BackSnap) → Contains state.backends.snapshots snap → owns_snapshot new.records.tables snap ≡ false
       → list_any (λ name. is_named name snap) report.failed.snapshots ≡ false → is_ancestor_of_one state.backends.snapshots report.failed.snapshots snap ≡ false
@@ -108,25 +109,25 @@ abbrev pub RemovedSnapshotsAreChildfirst : Type 0
 RemovedSnapshotsAreChildfirst = (state : State) (at : ℤ) (failed : BackNames) (report : Report) (new : State) (snapshotter : Text) → IsSound state → Collects state at failed report new
     → IsChildfirst (numbers_of snapshotter report.backend.snapshots) (shard_of snapshotter state.backends.snapshots)
 
--- so does that of a dry run
+-- the same of the report of a dry run
 abbrev pub PlannedSnapshotsAreChildfirst : Type 0
 PlannedSnapshotsAreChildfirst = (state : State) (at : ℤ) (report : Report) (snapshotter : Text) → IsSound state → Plans state at report
     → IsChildfirst (numbers_of snapshotter report.backend.snapshots) (shard_of snapshotter state.backends.snapshots)
 
 -- ---- a second collection
 
--- no row goes
+-- no row is removed
 abbrev pub no_rows : Removed
 no_rows = record { content = []; images = []; ingests = []; leases = []; snapshots = [] }
 
--- A second collection with this report, after a first with that one, leaves the store as it was. No row and no object of the backend goes, and what the first kept is kept.
+-- A second collection with this report, after a first with that one, leaves the store as it was. It removes no row and no object of the backend, and keeps as many rows as the first.
 pub record ChangesNothing (first second : Report) (mid new : State) : Type 0 where
   pub same_store : new ≡ mid
   pub no_row_goes : second.removed ≡ no_rows
   pub no_object_goes : second.backend ≡ no_objects
   pub same_kept : second.kept ≡ first.kept
 
--- where no removal of a first collection failed, a second one at the same moment changes nothing; nothing goes in it, so none of its removals can fail
+-- where no removal of a first collection failed, a second one at the same moment changes nothing; it removes nothing, so none of its removals can fail
 abbrev pub ASecondCollectionChangesNothing : Type 0
 ASecondCollectionChangesNothing = (state : State) (at : ℤ) (failed : BackNames) (first second : Report) (mid new : State) → Collects state at no_objects first mid → Collects mid at failed second new → ChangesNothing first second mid new
 

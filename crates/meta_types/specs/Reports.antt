@@ -17,7 +17,7 @@ pub record Kept : Type 0 where
   pub namespaces : ℕ
   pub snapshots : ℕ
 
--- the names of the rows that go, by namespace; images go in profile 2 alone
+-- the names of the removed rows, by namespace; images are removed in profile 2 alone
 pub record Removed : Type 0 where
   pub content : List (Text × Text)
   pub images : List (Text × Text)
@@ -75,7 +75,7 @@ is_scanned (snapshot mode row) = true
 is_scanned (ingest row) = true
 is_scanned _ = false
 
--- how many of these a path ends in
+-- in how many scanned things a path ends
 abbrev pub scanned_of : (Thing → Bool) → Records → ℕ
 scanned_of reached records = length (filter (λ thing. is_scanned thing && reached thing) (things records))
 

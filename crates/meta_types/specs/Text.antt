@@ -57,7 +57,7 @@ is_name text = nat_le 1 (length text) && nat_le (length text) 1024 && list_all i
 abbrev pub is_hexadecimal : ℕ → Bool
 is_hexadecimal byte = is_digit byte || is_between 97 102 byte
 
--- the algorithm, then so many lower-case hexadecimal digits (OCI image specification, descriptor.md, digests)
+-- the algorithm, then the given number of lower-case hexadecimal digits (OCI image specification, descriptor.md, digests)
 abbrev pub is_hash : Text → ℕ → Text → Bool
 is_hash prefix digits text = bytes_eq (take (length prefix) text) prefix
     && length (drop (length prefix) text) == digits

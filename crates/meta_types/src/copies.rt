@@ -1,4 +1,4 @@
-//! Requests and replies once more.
+//! Copies of requests, and of replies, which share names.
 ghost use Rattle.std.specs.Prelude.{◌≡◌, None, Ok, IfOk};
 ghost use Rattle.meta_types.specs.Faults.{Refuses};
 ghost use Rattle.meta_types.specs.declared.reply.Reply.TheVariants as P;
@@ -443,7 +443,7 @@ impl Clone for Request {
 }
 
 impl Request {
-    /// Another of the same texts.
+    /// A copy, whose texts have bytes of their own.
     pub fn copy(&self, _alloc: Global) -> Result<Request, Fault>
         ensures fault { Refuses result None }
         ensures ok { IfOk result (λ request. request ≡ self.now) }
@@ -453,7 +453,7 @@ impl Request {
 }
 
 impl Removal {
-    /// Another of the same texts.
+    /// A copy, whose texts have bytes of their own.
     pub fn copy(&self) -> Result<Removal, Fault>
         ensures fault { Refuses result None }
         ensures ok { IfOk result (λ removal. removal ≡ self.now) }
@@ -463,7 +463,7 @@ impl Removal {
 }
 
 impl ReplyRow {
-    /// Another of the same row.
+    /// A copy, which shares its names; its labels have bytes of their own.
     pub fn copy(&self, _alloc: Global) -> Result<ReplyRow, Fault>
         ensures fault { Refuses result None }
         ensures ok { IfOk result (λ row. row ≡ self.now) }
@@ -473,7 +473,7 @@ impl ReplyRow {
 }
 
 impl Reply {
-    /// Another of the same reply. That of `Done` takes no memory, so it is always there.
+    /// A copy, which shares names. One of `Done` takes no memory, so it is never refused.
     pub fn copy(&self, _alloc: Global) -> Result<Reply, Fault>
         ensures fault { Refuses result None }
         ensures ok { IfOk result (λ reply. reply ≡ self.now) }

@@ -1,4 +1,4 @@
-//! Digests of content.
+//! Digests: an algorithm and a hash, which name a blob by its bytes.
 ghost use Rattle.std.specs.Prelude.{◌≡◌, IfOk, Some, None, bytes_eq, refl};
 ghost use Rattle.std.specs.Arc.{arc_str_bytes};
 ghost use Rattle.std.specs.Ordering.{nat_cmp};
@@ -118,7 +118,7 @@ impl Digest {
         Ok(Digest { text })
     }
 
-    /// Another of the same text. No bytes are copied.
+    /// A copy, which shares its text: no bytes are copied.
     pub fn copy(&self) -> Result<Digest, AllocError>
         ensures ok { IfOk result (λ n. n ≡ self.now) }
     {

@@ -88,7 +88,7 @@ impl Fault {
     }
 }
 
-/// A refused growth is want of memory, and nothing else is.
+/// A refused growth becomes OutOfMemory.
 impl From<AllocError> for Fault {
     ghost use Rattle.meta_types.specs.declared.fault.Fault.TheVariants.{OutOfMemory};
 

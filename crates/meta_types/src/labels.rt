@@ -1,4 +1,4 @@
-//! Labels of an object.
+//! Labels of an object: values by key, both of limited length.
 ghost use Rattle.std.specs.Prelude.{◌≡◌, ◌≤◌, ◌<◌, ◌==◌, ◌||◌, ◌&&◌, ◌∷◌, [], Some, None, bytes_eq, nat_lt, vec_len, position, length, is_ok, slice_set, slice_index_or, option_map, string_bytes, IfOk, IfErr, OnOk, OnErr, IsTrue};
 ghost use Rattle.std.specs.Cmp.{partial_equiv_from_equiv};
 ghost use Rattle.std.specs.Cmp.Lexicographic.{pointwise};

@@ -109,7 +109,7 @@ pub fn a_lease_goes_with_a_collection()
     ensures { ALeaseGoesWithACollection }
 {}
 
-/// A chain of snapshots that nothing holds, over a device that passes so many calls and fails one.
+/// A chain of snapshots that nothing holds, on a device that passes some calls and then fails one.
 pub fn a_failed_removal_keeps_what_is_above()
     ensures the_first_removal_fails { TheFirstRemovalFails }
     ensures the_second_removal_fails { TheSecondRemovalFails }

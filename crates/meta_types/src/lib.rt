@@ -3,30 +3,36 @@
 
 mod copies;
 mod digest;
+mod explanation;
 mod fault;
 mod instant;
 mod labels;
 pub mod laws;
 mod limits;
 mod name;
+mod object;
 mod raw;
 mod reply;
 mod request;
 mod resource;
 mod rows;
 mod same;
+mod shared;
 mod short_name;
 mod text;
 
 pub use digest::Digest;
+pub use explanation::{By, Explanation, PathStep};
 pub use fault::Fault;
 pub use instant::Instant;
 pub use labels::Labels;
 pub use limits::{MAX_NODES, MAX_NUMBER, MAX_WORKERS, is_worker_count};
 pub use name::Name;
+pub use object::Object;
 pub use raw::{RawLabels, RawText};
 pub use reply::{Holdings, Listing, Reply, ReplyRow};
 pub use request::{Removal, Request};
 pub use resource::{Kind, Mode, Resource};
 pub use rows::{ContainerRow, ContentRow, ImageRow, IngestRow, SnapKey, SnapKind, SnapRow};
+pub use shared::Shared;
 pub use short_name::ShortName;

@@ -1,4 +1,4 @@
-//! All other names.
+//! Names of images, containers, ingests, snapshots and leases.
 ghost use Rattle.std.specs.Prelude.{◌≡◌, IfOk, Some, None, bytes_eq, refl};
 ghost use Rattle.std.specs.Arc.{arc_str_bytes};
 ghost use Rattle.std.specs.Ordering.{nat_cmp};
@@ -118,7 +118,7 @@ impl Name {
         Ok(Name { text })
     }
 
-    /// Another of the same text. No bytes are copied.
+    /// A copy, which shares its text: no bytes are copied.
     pub fn copy(&self) -> Result<Name, AllocError>
         ensures ok { IfOk result (λ n. n ≡ self.now) }
     {

@@ -58,7 +58,7 @@ impl RawText {
         self.text.as_str()
     }
 
-    /// Another of the same text.
+    /// A copy, with bytes of its own.
     pub fn copy(&self) -> Result<RawText, Fault>
         ensures fault { Refuses result None }
         ensures ok { IfOk result (λ words. words ≡ self.now) }

@@ -1,4 +1,4 @@
-//! What requests answer.
+//! Replies to requests: done, names, a row, or the resources of a lease.
 ghost use Rattle.std.specs.Prelude.{◌≡◌, ◌++◌, ◌∷◌, [], map, None, OnOk, OnErr, IfOk, bytes_eq};
 ghost use Rattle.std.specs.Cmp.{partial_equiv_from_equiv};
 ghost use Rattle.std.specs.Cmp.Lexicographic.{pointwise};
@@ -68,7 +68,7 @@ impl Listing {
         &self.names
     }
 
-    /// Another of the same names, which share their texts.
+    /// A copy, which shares its texts.
     pub fn copy(&self, _alloc: Global) -> Result<Listing, Fault>
         ensures fault { Refuses result None }
         ensures ok { IfOk result (λ names. names ≡ self.now) }
@@ -139,7 +139,7 @@ impl Holdings {
         Holdings { resources }
     }
 
-    /// Another of the same resources.
+    /// A copy, which shares its texts.
     pub fn copy(&self, _alloc: Global) -> Result<Holdings, Fault>
         ensures fault { Refuses result None }
         ensures ok { IfOk result (λ holdings. holdings ≡ self.now) }

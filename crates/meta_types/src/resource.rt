@@ -56,7 +56,7 @@ impl Resource {
         }
     }
 
-    /// Another of the same resource.
+    /// A copy, which shares its texts.
     pub fn copy(&self) -> Result<Resource, Fault>
         ensures fault { Refuses result None }
         ensures ok { IfOk result (λ resource. resource ≡ self.now) }

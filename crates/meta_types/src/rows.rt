@@ -20,7 +20,7 @@ pub struct ImageRow {
 }
 
 impl ImageRow {
-    /// Another of the same row.
+    /// A copy, which shares its names; its labels have bytes of their own.
     pub fn copy(&self, _alloc: Global) -> Result<ImageRow, Fault>
         ensures fault { Refuses result None }
         ensures ok { IfOk result (λ row. row ≡ self.now) }
@@ -39,7 +39,7 @@ pub struct ContainerRow {
 }
 
 impl ContainerRow {
-    /// Another of the same row.
+    /// A copy, which shares its names; its labels have bytes of their own.
     pub fn copy(&self, _alloc: Global) -> Result<ContainerRow, Fault>
         ensures fault { Refuses result None }
         ensures ok { IfOk result (λ row. row ≡ self.now) }
@@ -57,7 +57,7 @@ pub struct ContentRow {
 }
 
 impl ContentRow {
-    /// Another of the same row.
+    /// A copy, which shares its names; its labels have bytes of their own.
     pub fn copy(&self, _alloc: Global) -> Result<ContentRow, Fault>
         ensures fault { Refuses result None }
         ensures ok { IfOk result (λ row. row ≡ self.now) }
@@ -78,7 +78,7 @@ pub struct IngestRow {
 }
 
 impl IngestRow {
-    /// Another of the same row.
+    /// A copy, which shares its texts.
     pub fn copy(&self) -> Result<IngestRow, Fault>
         ensures fault { Refuses result None }
         ensures ok { IfOk result (λ row. row ≡ self.now) }
@@ -96,7 +96,7 @@ pub struct SnapKey {
 }
 
 impl SnapKey {
-    /// Another of the same key.
+    /// A copy, which shares its texts.
     pub fn copy(&self) -> Result<SnapKey, Fault>
         ensures fault { Refuses result None }
         ensures ok { IfOk result (λ key. key ≡ self.now) }
@@ -125,7 +125,7 @@ pub struct SnapRow {
 }
 
 impl SnapRow {
-    /// Another of the same row.
+    /// A copy, which shares its names; its labels have bytes of their own.
     pub fn copy(&self, _alloc: Global) -> Result<SnapRow, Fault>
         ensures fault { Refuses result None }
         ensures ok { IfOk result (λ row. row ≡ self.now) }

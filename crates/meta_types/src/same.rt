@@ -1,4 +1,4 @@
-//! Requests and replies compared.
+//! Equality of requests and replies, text by text.
 ghost use Rattle.std.specs.Prelude.{◌≡◌, ◌↔◌, IsTrue};
 
 use crate::labels::Labels;

@@ -118,7 +118,7 @@ impl ShortName {
         Ok(ShortName { text })
     }
 
-    /// Another of the same text. No bytes are copied.
+    /// A copy, which shares its text: no bytes are copied.
     pub fn copy(&self) -> Result<ShortName, AllocError>
         ensures ok { IfOk result (λ n. n ≡ self.now) }
     {

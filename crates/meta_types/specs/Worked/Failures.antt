@@ -1,4 +1,4 @@
--- A whole script with a device that fails: a chain of four snapshots that nothing holds, whose device passes so many calls and then fails one. Ours, unless a source stands beside.
+-- A whole script with a device that fails: a chain of four snapshots that nothing holds, whose device passes some calls and then fails one. Ours, unless a source stands beside.
 use Rattle.std.specs.Prelude.{ℕ, List, [], ◌∷◌, Some, None}
 use Rattle.meta_types.specs.Text.{Text}
 use Rattle.meta_types.specs.Rows.{State, BackSnap, empty_store}

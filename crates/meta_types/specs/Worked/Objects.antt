@@ -58,7 +58,7 @@ AFlatLeaseKeepsParents = Collects chain_and_content first_of_march no_objects
 abbrev pub two_chains : State
 two_chains = after_all empty_store (NsAdd x ∷ chain overlayfs [] ++ chain native [])
 
--- a namespace with nothing in it, where so many numbers were used
+-- an empty namespace, in a store that has used all numbers below the given one
 abbrev pub used_up_to : ℕ → State
 used_up_to next = record namespace_alone { records = record namespace_alone.records { next = next } }
 

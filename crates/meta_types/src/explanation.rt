@@ -1,0 +1,36 @@
+//! Explanations: the path of references that keeps a row.
+
+use crate::object::Object;
+use crate::raw::RawText;
+use crate::resource::Mode;
+
+/// By what a thing stands on a path: as its root, or by what the thing before names.
+#[derive(Drop)]
+pub enum By {
+    Root,
+    Ended,
+    Target,
+    Snapshot,
+    Resource,
+    Expected,
+    Parent,
+    Label(RawText),
+}
+
+/// A thing of a path. `mode` is that of content and of snapshots; `expire` is the expiry label of a
+/// root that may end, as it is stored.
+#[derive(Drop)]
+pub struct PathStep {
+    pub by: By,
+    pub object: Object,
+    pub mode: Option<Mode>,
+    pub expire: Option<RawText>,
+}
+
+/// What keeps a row, from the root on. Where nothing does, `kept` is false, and the path is the one
+/// that kept it until its root ended; it is empty where there never was one.
+#[derive(Drop)]
+pub struct Explanation {
+    pub kept: bool,
+    pub path: Vec<PathStep>,
+}
