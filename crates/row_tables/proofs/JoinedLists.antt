@@ -193,7 +193,7 @@ module _ {Row : Type 0} (key_of : Row → Key) where
     added_head [] h = refl
     added_head (x ∷ c) h = rw (All-head (λ other. is_before (key_of row) (key_of other) ≡ true) x c h) refl
 
-    added_back : (b c : List Row) → AreBehind (key_of row) c → add_row key_of row (b ++ c) ≡ add_row key_of row b ++ c
+    pub added_back : (b c : List Row) → AreBehind (key_of row) c → add_row key_of row (b ++ c) ≡ add_row key_of row b ++ c
     added_back [] c h = added_head c h
     added_back (x ∷ b) c h = elim (cases_Bool (is_before (key_of row) (key_of x))) [
       | inl t ↦ rw t refl

@@ -2,7 +2,7 @@
 use Rattle.std.proofs.Common.{◌≡◌, ℕ, ◌+◌, ◌<◌, ◌≤◌, zero, suc, Bool, true, false, List, [], ◌∷◌, ◌++◌, length, get_or, take, drop, map, refl, sym, ap, ◌∙◌, subst, arith, append_assoc, append-nil, length-append}
 use Rattle.std.specs.Prelude.{slice_set, not, if◌then◌else◌}
 use Rattle.std.proofs.lemmas.Grind.{common_steps}
-use Rattle.std.proofs.lemmas.List.{take_more, take_more_set, take_all, take-map, drop_more, drop_all, drop-map, length-map, get_or_default, get_or-map}
+use Rattle.std.proofs.lemmas.List.{take_more, take_more_set, take_all, take-map, drop_more, drop_all, drop-map, length-map}
 use Rattle.row_tables.specs.Arrived.{kept}
 use Rattle.row_tables.specs.Visiting.{gone, all_visited}
 use Rattle.row_tables.specs.Namespaces.{joined}
@@ -81,7 +81,6 @@ module _ {P X : Type 0} (after_visit : P → X → P) where
   visited_append [] ys visited = refl
   visited_append (x ∷ xs) ys visited = visited_append xs ys (after_visit visited x)
 
-  -- one row more
   visited_next : (marks : List Bool) (rows : List X) (i : ℕ) (visited : P) (d : X) → i < length marks → i < length rows
       → all_visited after_visit (gone (drop (suc i) marks) (drop (suc i) rows)) (if get_or marks i false then visited else after_visit visited (get_or rows i d)) ≡ all_visited after_visit (gone (drop i marks) (drop i rows)) visited
   visited_next [] rows i visited d lm lr = absurd (omega (arith, lm))
@@ -90,19 +89,14 @@ module _ {P X : Type 0} (after_visit : P → X → P) where
   visited_next (false ∷ marks) (x ∷ rows) zero visited d lm lr = refl
   visited_next (m ∷ marks) (x ∷ rows) (suc i) visited d lm lr = visited_next marks rows i visited d (omega (arith, lm)) (omega (arith, lr))
 
-  -- one row more, found by its place
-  pub visited_at : (rows : List X) (places : List ℕ) (marks : List Bool) (i : ℕ) (visited next : P) (row any : X) → i < length marks → length places ≡ length marks → get_or places i 0 < length rows
-      → row ≡ get_or rows (get_or places i 0) row → next ≡ (if get_or marks i false then visited else after_visit visited row)
-      → all_visited after_visit (gone (drop (i + 1) marks) (drop (i + 1) (map (λ place. get_or rows place any) places))) next ≡ all_visited after_visit (gone (drop i marks) (drop i (map (λ place. get_or rows place any) places))) visited
-  visited_at rows places marks i visited next row any lm len within is made =
+  -- one row more
+  pub visited_row : (rows : List X) (marks : List Bool) (i : ℕ) (visited next : P) (row : X) → i < length marks → length marks ≡ length rows → row ≡ get_or rows i row → next ≡ (if get_or marks i false then visited else after_visit visited row)
+      → all_visited after_visit (gone (drop (i + 1) marks) (drop (i + 1) rows)) next ≡ all_visited after_visit (gone (drop i marks) (drop i rows)) visited
+  visited_row rows marks i visited next row lm len is made =
       let onward : suc i ≡ i + 1 = omega arith in
-      let at : ℕ → X = λ place. get_or rows place any in
-      let listed : List X = map at places in
-      let lr : i < length listed = omega (arith, lm, len, length-map places at) in
-      let same : row ≡ get_or listed i any = is ∙ get_or_default rows (get_or places i 0) row any within ∙ sym (get_or-map at places i 0 any (omega (arith, lm, len))) in
-      subst (λ k. all_visited after_visit (gone (drop k marks) (drop k listed)) next ≡ all_visited after_visit (gone (drop i marks) (drop i listed)) visited) onward
-      (ap (all_visited after_visit (gone (drop (suc i) marks) (drop (suc i) listed))) (made ∙ ap (λ r. if get_or marks i false then visited else after_visit visited r) same)
-      ∙ visited_next marks listed i visited any lm lr)
+      subst (λ k. all_visited after_visit (gone (drop k marks) (drop k rows)) next ≡ all_visited after_visit (gone (drop i marks) (drop i rows)) visited) onward
+      (ap (all_visited after_visit (gone (drop (suc i) marks) (drop (suc i) rows))) (made ∙ ap (λ r. if get_or marks i false then visited else after_visit visited r) is)
+      ∙ visited_next marks rows i visited row lm (omega (arith, lm, len)))
 
   -- behind the last mark nothing is told
   pub visited_out : (marks : List Bool) (rows : List X) (i : ℕ) (visited : P) → length marks ≤ i → visited ≡ all_visited after_visit (gone (drop i marks) (drop i rows)) visited
@@ -142,11 +136,6 @@ module _ {P X : Type 0} (after_visit : P → X → P) where
   pub visits_all : (end : P) (lists : List (List X)) (i : ℕ) (rest : List Bool) (now : P) → Visits end lists i rest now → length lists ≤ i → now ≡ end
   visits_all end lists i rest now so past =
       sym (ap (λ cs. all_visited after_visit (gone rest (joined cs)) now) (drop_all i lists past) ∙ ap (λ l. all_visited after_visit l now) (none_kept (map not rest))) ∙ so.visited
-
--- the first of some
-pub first : {X : Type 0} (xs : List X) → 0 < length xs → X
-first [] h = absurd (omega (arith, h))
-first (x ∷ xs) h = x
 
 -- what is borrowed at a place
 pub at_map : {X Y : Type 0} (f : X → Y) (xs : List X) (i : ℕ) (d : X) → d ≡ get_or xs i d → f d ≡ get_or (map f xs) i (f d)

@@ -24,7 +24,7 @@ use Rattle.meta_types.proofs.RowAtPlace.{put_at_place}
 use Rattle.row_tables.specs.Arrived.{by_name, Becomes}
 use Rattle.row_tables.specs.Namespaces.{joined, full_key, group_key, all_rows, AreGroups, IsHome}
 use Rattle.row_tables.proofs.JoinedLists.{not_it, IsPlace, row_there, removed_there, changed_in_place, added_there}
-use Rattle.row_tables.proofs.PlacesSorted.{length_map}
+use Rattle.row_tables.proofs.MappedLists.{length_map}
 use Rattle.row_tables.proofs.NamespaceLists.{place_within, there_now, lead_before, at_found, in_order_becomes, list_at, lists_set, names_set, order_of_names, opened_rows}
 
 module _ {K Row : Type 0} (texts_of : K → Key) (name_of : Row → K) (ns_of : Row → Text) where
@@ -40,7 +40,7 @@ module _ {K Row : Type 0} (texts_of : K → Key) (name_of : Row → K) (ns_of : 
   -- ---- in one namespace
 
   module _ (ns : Text) where
-    key_there : (t : Key) (row : Row) → ns_of row ≡ ns → is_key (ns ∷ t) (full row) ≡ is_key t (own row)
+    pub key_there : (t : Key) (row : Row) → ns_of row ≡ ns → is_key (ns ∷ t) (full row) ≡ is_key t (own row)
     key_there t row e = ap (λ m. bytes_eq ns m && is_key t (own row)) e ∙ ap (λ b. b && is_key t (own row)) (nat_list_eq_equiv.refl ns)
 
     order_there : (a b : Row) → ns_of a ≡ ns → ns_of b ≡ ns → is_before (full a) (full b) ≡ is_before (own a) (own b)
@@ -66,7 +66,7 @@ module _ {K Row : Type 0} (texts_of : K → Key) (name_of : Row → K) (ns_of : 
         ap (λ b. if b then change row ∷ rows else row ∷ change_row full (ns ∷ t) change rows) (key_there t row (All-head (λ row. ns_of row ≡ ns) row rows all))
         ∙ ap (λ rest. if is_key t (own row) then change row ∷ rows else row ∷ rest) (changed_own t change rows (All-tail (λ row. ns_of row ≡ ns) row rows all))
 
-    added_own : (row : Row) → ns_of row ≡ ns → (rows : List Row) → All (λ row. ns_of row ≡ ns) rows → add_row full row rows ≡ add_row own row rows
+    pub added_own : (row : Row) → ns_of row ≡ ns → (rows : List Row) → All (λ row. ns_of row ≡ ns) rows → add_row full row rows ≡ add_row own row rows
     added_own row e [] all = refl
     added_own row e (x ∷ rows) all =
         ap (λ b. if b then row ∷ x ∷ rows else x ∷ add_row full row rows) (order_there row x e (All-head (λ row. ns_of row ≡ ns) x rows all))
@@ -81,13 +81,13 @@ module _ {K Row : Type 0} (texts_of : K → Key) (name_of : Row → K) (ns_of : 
       behind_group : (g : Text × List Row) → is_before (ns ∷ []) (group_key g) ≡ true → IsOwn g → All (λ row. is_before (ns ∷ t) (full row) ≡ true) g.1
       behind_group g b all i d lt = subst (λ m. is_before (ns ∷ t) (m ∷ own (get_or g.1 i d)) ≡ true) (sym (all i d lt)) (lead_before ns g.0 t (own (get_or g.1 i d)) b)
 
-      all_behind : (gs : List (Text × List Row)) → All (λ other. is_before (ns ∷ []) (group_key other) ≡ true) gs → All IsOwn gs → All (λ row. is_before (ns ∷ t) (full row) ≡ true) (all_rows gs)
+      pub all_behind : (gs : List (Text × List Row)) → All (λ other. is_before (ns ∷ []) (group_key other) ≡ true) gs → All IsOwn gs → All (λ row. is_before (ns ∷ t) (full row) ≡ true) (all_rows gs)
       all_behind [] later all = All-nil (λ row. is_before (ns ∷ t) (full row) ≡ true)
       all_behind (g ∷ gs) later all = All-append (λ row. is_before (ns ∷ t) (full row) ≡ true) g.1 (all_rows gs)
           (behind_group g (All-head (λ other. is_before (ns ∷ []) (group_key other) ≡ true) g gs later) (All-head IsOwn g gs all))
           (all_behind gs (All-tail (λ other. is_before (ns ∷ []) (group_key other) ≡ true) g gs later) (All-tail IsOwn g gs all))
 
-      front : (gs : List (Text × List Row)) (i : ℕ) (rows : List Row) → are_in_order group_key gs ≡ true → All IsOwn gs → slice_get gs i ≡ Some (ns, rows) → All (λ row. is_before (full row) (ns ∷ t) ≡ true) (joined (take i (map (λ group. group.1) gs)))
+      pub front : (gs : List (Text × List Row)) (i : ℕ) (rows : List Row) → are_in_order group_key gs ≡ true → All IsOwn gs → slice_get gs i ≡ Some (ns, rows) → All (λ row. is_before (full row) (ns ∷ t) ≡ true) (joined (take i (map (λ group. group.1) gs)))
       front [] i rows o all at = no_none (ns, rows) at
       front (g ∷ gs) zero rows o all at = All-nil (λ row. is_before (full row) (ns ∷ t) ≡ true)
       front (g ∷ gs) (suc i) rows o all at =
@@ -97,7 +97,7 @@ module _ {K Row : Type 0} (texts_of : K → Key) (name_of : Row → K) (ns_of : 
           All-append (λ row. is_before (full row) (ns ∷ t) ≡ true) g.1 (joined (take i (map (λ group. group.1) gs)))
           (before_group g first (All-head IsOwn g gs all)) (front gs i rows parts.1 (All-tail IsOwn g gs all) at)
 
-      behind : (gs : List (Text × List Row)) (i : ℕ) (rows : List Row) → are_in_order group_key gs ≡ true → All IsOwn gs → slice_get gs i ≡ Some (ns, rows) → All (λ row. is_before (ns ∷ t) (full row) ≡ true) (joined (drop (suc i) (map (λ group. group.1) gs)))
+      pub behind : (gs : List (Text × List Row)) (i : ℕ) (rows : List Row) → are_in_order group_key gs ≡ true → All IsOwn gs → slice_get gs i ≡ Some (ns, rows) → All (λ row. is_before (ns ∷ t) (full row) ≡ true) (joined (drop (suc i) (map (λ group. group.1) gs)))
       behind [] i rows o all at = no_none (ns, rows) at
       behind (g ∷ gs) zero rows o all at =
           let parts = and_parts (is_first group_key g gs) (are_in_order group_key gs) o in

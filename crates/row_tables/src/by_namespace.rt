@@ -4,14 +4,12 @@ ghost use Rattle.std.specs.Bool.{OnFalse};
 ghost use Rattle.std.specs.List.{list_any, list_all};
 ghost use Rattle.meta_types.specs.Keys.{are_in_order, row_at, has_row, add_row, remove_row};
 ghost use Rattle.meta_types.specs.Faults.{Refuses, least_of};
-ghost use Rattle.row_tables.specs.Arrived.{kept, Becomes};
-ghost use Rattle.row_tables.specs.Visiting.{gone, all_visited};
+ghost use Rattle.row_tables.specs.Arrived.{sorted, Becomes};
 ghost use Rattle.row_tables.specs.Namespaces.{full_key};
 
-use crate::group::Group;
-use crate::groups;
+use crate::arrived_by_namespace::ArrivedByNamespace;
 use crate::named::Named;
-use crate::row::{Change, GroupedRow, RemovedRows, Test};
+use crate::row::{Change, GroupedRow, Test};
 use meta_types::{Fault, ShortName};
 use std::alloc::Global;
 use std::marker::Model;
@@ -20,19 +18,17 @@ use std::marker::Model;
 /// its namespace by a hash of its name.
 #[derive(Drop)]
 pub struct ByNamespace<K: Named, R: GroupedRow<K>> {
-    groups: Vec<Group<K, R>>,
+    came: ArrivedByNamespace<K, R>,
 }
 
 impl<K: Named, R: GroupedRow<K>> Model for ByNamespace<K, R> {
     ghost use Rattle.std.specs.Prelude.{List};
-    ghost use Rattle.row_tables.specs.Namespaces.{full_key, all_rows, AreGroups};
+    ghost use Rattle.row_tables.specs.Arrived.{sorted};
+    ghost use Rattle.row_tables.specs.Namespaces.{full_key};
 
     ghost Value = { List R };
 
-    ghost view = { λ t. all_rows t.groups.items };
-
-    ghost invariant = { λ t. AreGroups (full_key K.texts_of R.name_of R.group_of) R.group_of
-        t.groups.items };
+    ghost view = { λ t. sorted (full_key K.texts_of R.name_of R.group_of) t.came };
 }
 
 impl<K: Named, R: GroupedRow<K>> ByNamespace<K, R> {
@@ -41,15 +37,36 @@ impl<K: Named, R: GroupedRow<K>> ByNamespace<K, R> {
         ensures { result ≡ [] }
     {
         ByNamespace {
-            groups: Vec::new(alloc),
+            came: ArrivedByNamespace::new(alloc),
         }
+    }
+
+    /// The rows as they came.
+    pub fn came(&self) -> &ArrivedByNamespace<K, R>
+        ensures { sorted (full_key K.texts_of R.name_of R.group_of) result.now ≡ self.now }
+    {
+        &self.came
+    }
+
+    /// The rows as they came. It takes no memory.
+    pub fn into_came(self) -> ArrivedByNamespace<K, R>
+        ensures { sorted (full_key K.texts_of R.name_of R.group_of) result ≡ self }
+    {
+        self.came
+    }
+
+    /// The rows that came, seen in the order of their keys. It takes no memory.
+    pub fn from_came(came: ArrivedByNamespace<K, R>) -> ByNamespace<K, R>
+        ensures { result ≡ sorted (full_key K.texts_of R.name_of R.group_of) came }
+    {
+        ByNamespace { came }
     }
 
     /// How many rows there are.
     pub fn len(&self) -> u128
         ensures { result ≡ length self.now }
     {
-        groups::count_rows(&self.groups)
+        self.came.len() as u128
     }
 
     /// Whether the row is there. Each caller learns here that keys stand in their order.
@@ -58,7 +75,8 @@ impl<K: Named, R: GroupedRow<K>> ByNamespace<K, R> {
             (ns.now ∷ K.texts_of name.now) self.now }
         ensures order { IsTrue (are_in_order (full_key K.texts_of R.name_of R.group_of) self.now) }
     {
-        groups::has_row(&self.groups, ns, name)
+        let _count = self.came.len();
+        self.came.has(ns, name)
     }
 
     /// The row of a namespace and a name.
@@ -67,7 +85,8 @@ impl<K: Named, R: GroupedRow<K>> ByNamespace<K, R> {
             (ns.now ∷ K.texts_of name.now) self.now }
         ensures order { IsTrue (are_in_order (full_key K.texts_of R.name_of R.group_of) self.now) }
     {
-        groups::row_in(&self.groups, ns, name)
+        let _count = self.came.len();
+        self.came.get(ns, name)
     }
 
     /// A row more, where none has its key. It takes the text of its namespace that is there.
@@ -79,7 +98,7 @@ impl<K: Named, R: GroupedRow<K>> ByNamespace<K, R> {
             ≡ add_row (full_key K.texts_of R.name_of R.group_of) row self.old) }
         ensures err { OnErr result (self.new ≡ self.old) }
     {
-        groups::add_row(&mut self.groups, alloc, row)
+        self.came.add_new(alloc, row)
     }
 
     /// A row more, where none has its key: one look finds whether one has. It takes the text of its
@@ -92,7 +111,7 @@ impl<K: Named, R: GroupedRow<K>> ByNamespace<K, R> {
             ≡ add_row (full_key K.texts_of R.name_of R.group_of) row self.old) }
         ensures err { OnErr result (self.new ≡ self.old) }
     {
-        groups::add_new_row(&mut self.groups, alloc, row)
+        self.came.add_new(alloc, row)
     }
 
     /// The row of a namespace and a name goes, to the caller. It takes no memory.
@@ -102,7 +121,7 @@ impl<K: Named, R: GroupedRow<K>> ByNamespace<K, R> {
         ensures left { self.new ≡ remove_row (full_key K.texts_of R.name_of R.group_of)
             (ns.now ∷ K.texts_of name.now) self.old }
     {
-        groups::take_row(&mut self.groups, ns, name)
+        self.came.take(ns, name)
     }
 
     /// The row of a namespace and a name goes; says whether it was there. It takes no memory.
@@ -136,21 +155,21 @@ impl<K: Named, R: GroupedRow<K>> ByNamespace<K, R> {
             × C.changes change row answer after × Becomes (full_key K.texts_of R.name_of R.group_of)
             (ns.now ∷ K.texts_of name.now) row after self.old self.new) }
     {
-        groups::change_row(&mut self.groups, ns, name, change)
+        self.came.change(ns, name, change)
     }
 
     /// Whether all rows pass the test. It takes no memory.
     pub fn all<T: Test<R>>(&self, test: &T) -> bool
         ensures { result ≡ list_all (T.passes test.now) self.now }
     {
-        groups::all_pass(&self.groups, test)
+        self.came.all(test)
     }
 
     /// Whether some row is in the namespace.
     pub fn any_in(&self, ns: &ShortName) -> bool
         ensures { result ≡ list_any (λ row. bytes_eq ns.now (R.group_of row)) self.now }
     {
-        groups::any_in(&self.groups, ns)
+        self.came.any_in(ns)
     }
 
     /// The rows of a namespace, in the order of their keys.
@@ -159,7 +178,7 @@ impl<K: Named, R: GroupedRow<K>> ByNamespace<K, R> {
         ensures ok { IfOk result (λ list. map (λ row. row.now) list.items
             ≡ filter (λ row. bytes_eq ns.now (R.group_of row)) self.now) }
     {
-        groups::rows_in(&self.groups, alloc, ns)
+        self.came.list_in(alloc, ns)
     }
 
     /// The rows, in the order of their keys.
@@ -168,7 +187,8 @@ impl<K: Named, R: GroupedRow<K>> ByNamespace<K, R> {
         ensures ok { IfOk result (λ list. map (λ row. row.now) list.items ≡ self.now) }
         ensures order { IsTrue (are_in_order (full_key K.texts_of R.name_of R.group_of) self.now) }
     {
-        groups::borrow_rows(&self.groups, alloc)
+        let _count = self.came.len();
+        self.came.list(alloc)
     }
 
     /// The same rows once more. They share their texts.
@@ -176,25 +196,7 @@ impl<K: Named, R: GroupedRow<K>> ByNamespace<K, R> {
         ensures fault { Refuses result None }
         ensures ok { IfOk result (λ table. table ≡ self.now) }
     {
-        let groups = groups::copy_groups(&self.groups, alloc)?;
-        Ok(ByNamespace { groups })
-    }
-
-    /// Shows the visitor each row whose mark is unset, in the order of keys. It takes no memory.
-    pub(crate) fn visit_removed<P: RemovedRows<R>>(&mut self, marks: &[bool], visitor: &mut P)
-        requires { length marks.now ≡ length self.old }
-        ensures same { self.new ≡ self.old }
-        ensures visited { visitor.new
-            ≡ all_visited P.after_visit (gone marks.now self.old) visitor.old }
-    {
-        groups::visit_removed_rows(&mut self.groups, marks, visitor);
-    }
-
-    /// Keeps the rows whose places in the order of keys are marked. It takes no memory.
-    pub fn retain(&mut self, marks: &[bool])
-        requires { length marks.now ≡ length self.old }
-        ensures { self.new ≡ kept marks.now self.old }
-    {
-        groups::retain_rows(&mut self.groups, marks);
+        let came = self.came.copy(alloc)?;
+        Ok(ByNamespace { came })
     }
 }

@@ -1,17 +1,15 @@
 //! Rows of all namespaces, by snapshotter.
-ghost use Rattle.std.specs.Prelude.{◌≡◌, ◌∷◌, [], map, false, None, IfOk, IfSome, IfNone, OnOk, OnErr, IsTrue, length, filter, count_by, bytes_eq, ◌&&◌, option_copied};
+ghost use Rattle.std.specs.Prelude.{◌≡◌, ◌∷◌, [], map, false, None, IfOk, IfSome, IfNone, OnOk, OnErr, IsTrue, length, filter, bytes_eq, ◌&&◌, option_copied};
 ghost use Rattle.std.specs.Bool.{OnFalse};
 ghost use Rattle.std.specs.List.{list_any, list_all};
 ghost use Rattle.meta_types.specs.Keys.{are_in_order, row_at, has_row, add_row, remove_row};
 ghost use Rattle.meta_types.specs.Faults.{Refuses};
-ghost use Rattle.row_tables.specs.Arrived.{kept, Becomes};
-ghost use Rattle.row_tables.specs.Visiting.{gone, all_visited};
+ghost use Rattle.row_tables.specs.Arrived.{sorted, Becomes};
 ghost use Rattle.row_tables.specs.Namespaces.{layered_key};
 
-use crate::layer::Layer;
-use crate::layers;
+use crate::arrived_by_snapshotter::ArrivedBySnapshotter;
 use crate::named::Named;
-use crate::row::{Change, RemovedRows, SnapshotterRow, Test};
+use crate::row::{Change, SnapshotterRow, Test};
 use meta_types::{Fault, ShortName};
 use std::alloc::Global;
 use std::marker::Model;
@@ -20,20 +18,17 @@ use std::marker::Model;
 /// is found by a hash of its name.
 #[derive(Drop)]
 pub struct BySnapshotter<K: Named, R: SnapshotterRow<K>> {
-    layers: Vec<Layer<K, R>>,
-    count: u128,
+    came: ArrivedBySnapshotter<K, R>,
 }
 
 impl<K: Named, R: SnapshotterRow<K>> Model for BySnapshotter<K, R> {
     ghost use Rattle.std.specs.Prelude.{List};
-    ghost use Rattle.row_tables.specs.Namespaces.{layered_key, all_rows, AreLayers};
+    ghost use Rattle.row_tables.specs.Arrived.{sorted};
+    ghost use Rattle.row_tables.specs.Namespaces.{layered_key};
 
     ghost Value = { List R };
 
-    ghost view = { λ t. all_rows t.layers.items };
-
-    ghost invariant = { λ t. AreLayers (layered_key K.texts_of R.name_of R.group_of R.ns_of) R.ns_of
-        t.layers.items t.count };
+    ghost view = { λ t. sorted (layered_key K.texts_of R.name_of R.group_of R.ns_of) t.came };
 }
 
 impl<K: Named, R: SnapshotterRow<K>> BySnapshotter<K, R> {
@@ -42,9 +37,29 @@ impl<K: Named, R: SnapshotterRow<K>> BySnapshotter<K, R> {
         ensures { result ≡ [] }
     {
         BySnapshotter {
-            layers: Vec::new(alloc),
-            count: 0,
+            came: ArrivedBySnapshotter::new(alloc),
         }
+    }
+
+    /// The rows as they came.
+    pub fn came(&self) -> &ArrivedBySnapshotter<K, R>
+        ensures { sorted (layered_key K.texts_of R.name_of R.group_of R.ns_of) result.now ≡ self.now }
+    {
+        &self.came
+    }
+
+    /// The rows as they came. It takes no memory.
+    pub fn into_came(self) -> ArrivedBySnapshotter<K, R>
+        ensures { sorted (layered_key K.texts_of R.name_of R.group_of R.ns_of) result ≡ self }
+    {
+        self.came
+    }
+
+    /// The rows that came, seen in the order of their keys. It takes no memory.
+    pub fn from_came(came: ArrivedBySnapshotter<K, R>) -> BySnapshotter<K, R>
+        ensures { result ≡ sorted (layered_key K.texts_of R.name_of R.group_of R.ns_of) came }
+    {
+        BySnapshotter { came }
     }
 
     /// How many rows there are. Each caller learns here that keys stand in their order.
@@ -53,7 +68,7 @@ impl<K: Named, R: SnapshotterRow<K>> BySnapshotter<K, R> {
         ensures order { IsTrue (are_in_order (layered_key K.texts_of R.name_of R.group_of R.ns_of)
             self.now) }
     {
-        self.count
+        self.came.len() as u128
     }
 
     /// Whether the row is there.
@@ -63,7 +78,8 @@ impl<K: Named, R: SnapshotterRow<K>> BySnapshotter<K, R> {
         ensures order { IsTrue (are_in_order (layered_key K.texts_of R.name_of R.group_of R.ns_of)
             self.now) }
     {
-        layers::has_row(&self.layers, ns, snapshotter, name)
+        let _count = self.came.len();
+        self.came.has(ns, snapshotter, name)
     }
 
     /// The row of a namespace, a snapshotter and a name.
@@ -74,7 +90,8 @@ impl<K: Named, R: SnapshotterRow<K>> BySnapshotter<K, R> {
         ensures order { IsTrue (are_in_order (layered_key K.texts_of R.name_of R.group_of R.ns_of)
             self.now) }
     {
-        layers::row_in(&self.layers, ns, snapshotter, name)
+        let _count = self.came.len();
+        self.came.get(ns, snapshotter, name)
     }
 
     /// A row more, where none has its key. It takes the texts of its namespace and its
@@ -87,12 +104,7 @@ impl<K: Named, R: SnapshotterRow<K>> BySnapshotter<K, R> {
             ≡ add_row (layered_key K.texts_of R.name_of R.group_of R.ns_of) row self.old) }
         ensures err { OnErr result (self.new ≡ self.old) }
     {
-        if self.count == u128::MAX {
-            return Err(Fault::OutOfMemory);
-        }
-        layers::add_row(&mut self.layers, alloc, row)?;
-        self.count += 1;
-        Ok(())
+        self.came.add_new(alloc, row)
     }
 
     /// The row of a namespace, a snapshotter and a name goes, to the caller. It takes no memory.
@@ -102,9 +114,7 @@ impl<K: Named, R: SnapshotterRow<K>> BySnapshotter<K, R> {
         ensures left { self.new ≡ remove_row (layered_key K.texts_of R.name_of R.group_of R.ns_of)
             (ns.now ∷ snapshotter.now ∷ K.texts_of name.now) self.old }
     {
-        let row = layers::take_row(&mut self.layers, ns, snapshotter, name)?;
-        self.count -= 1;
-        Some(row)
+        self.came.take(ns, snapshotter, name)
     }
 
     /// The row of a namespace, a snapshotter and a name goes; says whether it was there. It takes
@@ -144,21 +154,21 @@ impl<K: Named, R: SnapshotterRow<K>> BySnapshotter<K, R> {
             × Becomes (layered_key K.texts_of R.name_of R.group_of R.ns_of)
             (ns.now ∷ snapshotter.now ∷ K.texts_of name.now) row after self.old self.new) }
     {
-        layers::change_row(&mut self.layers, ns, snapshotter, name, change)
+        self.came.change(ns, snapshotter, name, change)
     }
 
     /// Whether all rows pass the test. It takes no memory.
     pub fn all<T: Test<R>>(&self, test: &T) -> bool
         ensures { result ≡ list_all (T.passes test.now) self.now }
     {
-        layers::all_pass(&self.layers, test)
+        self.came.all(test)
     }
 
     /// Whether some row is in the namespace.
     pub fn any_in(&self, ns: &ShortName) -> bool
         ensures { result ≡ list_any (λ row. bytes_eq ns.now (R.ns_of row)) self.now }
     {
-        layers::any_in(&self.layers, ns)
+        self.came.any_in(ns)
     }
 
     /// The rows of a namespace, in the order of their keys.
@@ -167,7 +177,7 @@ impl<K: Named, R: SnapshotterRow<K>> BySnapshotter<K, R> {
         ensures ok { IfOk result (λ list. map (λ row. row.now) list.items
             ≡ filter (λ row. bytes_eq ns.now (R.ns_of row)) self.now) }
     {
-        layers::rows_in(&self.layers, alloc, ns)
+        self.came.list_in(alloc, ns)
     }
 
     /// The rows of a snapshotter in a namespace, in the order of their keys.
@@ -182,7 +192,7 @@ impl<K: Named, R: SnapshotterRow<K>> BySnapshotter<K, R> {
             (λ row. bytes_eq ns.now (R.ns_of row) && bytes_eq snapshotter.now (R.group_of row))
             self.now) }
     {
-        layers::rows_of(&self.layers, alloc, ns, snapshotter)
+        self.came.list_of(alloc, ns, snapshotter)
     }
 
     /// The rows, in the order of their keys.
@@ -192,7 +202,8 @@ impl<K: Named, R: SnapshotterRow<K>> BySnapshotter<K, R> {
         ensures order { IsTrue (are_in_order (layered_key K.texts_of R.name_of R.group_of R.ns_of)
             self.now) }
     {
-        layers::borrow_rows(&self.layers, alloc)
+        let _count = self.came.len();
+        self.came.list(alloc)
     }
 
     /// The same rows once more. They share their texts.
@@ -200,36 +211,7 @@ impl<K: Named, R: SnapshotterRow<K>> BySnapshotter<K, R> {
         ensures fault { Refuses result None }
         ensures ok { IfOk result (λ table. table ≡ self.now) }
     {
-        let layers = layers::copy_layers(&self.layers, alloc)?;
-        Ok(BySnapshotter {
-            layers,
-            count: self.count,
-        })
+        let came = self.came.copy(alloc)?;
+        Ok(BySnapshotter { came })
     }
-
-    /// Shows the visitor each row whose mark is unset, in the order of keys. It takes no memory.
-    pub fn visit_removed<P: RemovedRows<R>>(&mut self, marks: &[bool], visitor: &mut P)
-        requires { length marks.now ≡ length self.old }
-        ensures same { self.new ≡ self.old }
-        ensures visited { visitor.new
-            ≡ all_visited P.after_visit (gone marks.now self.old) visitor.old }
-    {
-        layers::visit_removed_rows(&mut self.layers, marks, visitor);
-    }
-
-    /// Keeps the rows whose places in the order of keys are marked. It takes no memory.
-    pub fn retain(&mut self, marks: &[bool])
-        requires { length marks.now ≡ length self.old }
-        ensures { self.new ≡ kept marks.now self.old }
-    {
-        layers::retain_rows(&mut self.layers, marks);
-        self.count = count_marks(marks);
-    }
-}
-
-// How many marks are set.
-fn count_marks(marks: &[bool]) -> u128
-    ensures { result ≡ count_by (λ mark. mark) marks.now }
-{
-    marks.iter().filter(|mark| **mark).count() as u128
 }

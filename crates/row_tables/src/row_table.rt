@@ -1,14 +1,16 @@
 //! Rows as they came.
 ghost use Rattle.std.specs.Prelude.{◌≡◌, ◌<◌, ◌≤◌, ◌^◌, ◌++◌, ◌∷◌, [], Bool, map, filter, false, None, Some, IfOk, IfErr, IfSome, IfNone, OnOk, OnErr, IsTrue, length, is_some, option_copied};
 ghost use Rattle.std.specs.Bool.{OnFalse};
-ghost use Rattle.std.specs.List.{IsDistinct, list_all};
-ghost use Rattle.meta_types.specs.Keys.{are_in_order, row_at, has_row, add_row, remove_row, change_row};
+ghost use Rattle.std.specs.List.{IsDistinct, list_all, position};
+ghost use Rattle.meta_types.specs.Keys.{is_key, are_in_order, row_at, has_row, add_row, remove_row, change_row};
 ghost use Rattle.meta_types.specs.Faults.{Refuses, least_of};
 ghost use Rattle.indexmap.specs.IndexMap.{IsUnique, get, insert_entry};
 ghost use Rattle.row_tables.specs.Arrived.{sorted, by_name, same_key, kept, without_memory, Becomes};
+ghost use Rattle.row_tables.specs.Visiting.{gone, all_visited};
 
 use crate::named::Named;
-use crate::row::{Change, NamedRow, Test};
+use crate::row::{Change, NamedRow, RemovedRows, Test};
+use crate::visiting::visit_removed;
 use indexmap::IndexMap;
 use indexmap::map::Entry;
 use meta_types::Fault;
@@ -66,6 +68,15 @@ impl<K: Named, R: NamedRow<K>> RowTable<K, R> {
             (K.texts_of name.now) (sorted (by_name K.texts_of R.name_of) self.now) }
     {
         self.rows.get(name)
+    }
+
+    /// The place of the row of a name.
+    pub fn place(&self, name: &K) -> Option<usize>
+        ensures place { result ≡ position (λ row. is_key (K.texts_of name.now)
+            (by_name K.texts_of R.name_of row)) self.now }
+        ensures within { IfSome result (λ place. place < length self.now) }
+    {
+        self.rows.get_index_of(name)
     }
 
     /// The rows, in the order of their places.
@@ -178,6 +189,15 @@ impl<K: Named, R: NamedRow<K>> RowTable<K, R> {
         ensures ok { IfOk result (λ table. table ≡ self.now) }
     {
         copy_rows(self.rows(), alloc)
+    }
+
+    /// Shows the visitor each row whose place isn't marked, from the first to the last. It takes no
+    /// memory.
+    pub(crate) fn visit_removed<P: RemovedRows<R>>(&self, marks: &[bool], visitor: &mut P)
+        requires { length marks.now ≡ length self.now }
+        ensures { visitor.new ≡ all_visited P.after_visit (gone marks.now self.now) visitor.old }
+    {
+        visit_removed(self.rows(), marks, visitor);
     }
 
     /// Keeps the rows whose places are marked, in the order in which they came. It takes no memory.

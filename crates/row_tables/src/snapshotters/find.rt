@@ -1,0 +1,174 @@
+//! Namespaces, their rows, and the places of these.
+ghost use Rattle.std.specs.Prelude.{◌≡◌, ◌<◌, ◌≤◌, ◌^◌, ◌∷◌, [], false, IfOk, IfErr, IsTrue, IfSome, IfNone, length, take, filter, bytes_eq, ◌&&◌, option_copied};
+ghost use Rattle.std.specs.List.{position, position_or_len, list_any, list_all};
+ghost use Rattle.std.specs.Cmp.Lexicographic.{slice_cmp};
+ghost use Rattle.meta_types.specs.Text.{text_cmp};
+ghost use Rattle.meta_types.specs.Keys.{is_key, are_in_order, is_before, row_at, has_row};
+ghost use Rattle.row_tables.specs.Arrived.{sorted};
+ghost use Rattle.row_tables.specs.Namespaces.{full_key, layered_key, group_key, all_rows, IsHome};
+ghost use Rattle.row_tables.specs.Came.{AreCame};
+
+use crate::arrived_by_namespace::ArrivedByNamespace;
+use crate::named::Named;
+use crate::row::{SnapshotterRow, Test};
+use meta_types::ShortName;
+use std::cmp::Ordering;
+
+fn compare<K: Named, R: SnapshotterRow<K>>(
+    group: &(ShortName, ArrivedByNamespace<K, R>),
+    ns: &ShortName,
+) -> Ordering
+    ensures { result ≡ slice_cmp text_cmp (group_key group.now) (ns.now ∷ []) }
+{
+    match group.0.text().cmp(ns.text()) {
+        Ordering::Less => Ordering::Less,
+        Ordering::Equal => Ordering::Equal,
+        Ordering::Greater => Ordering::Greater,
+    }
+}
+
+/// Where the namespace is, or where it would go.
+pub(crate) fn search<K: Named, R: SnapshotterRow<K>>(
+    groups: &[(ShortName, ArrivedByNamespace<K, R>)],
+    ns: &ShortName,
+) -> Result<usize, usize>
+    requires { IsTrue (are_in_order group_key groups.now) }
+    ensures found { IfOk result (λ place. IsHome ns.now place groups.now) }
+    ensures absent { IfErr result (λ place. place
+        ≡ position_or_len (λ group. is_before (ns.now ∷ []) (group_key group)) groups.now) }
+    ensures none { IfErr result (λ place. has_row group_key (ns.now ∷ []) groups.now ≡ false) }
+{
+    groups.binary_search_by(
+        |group: &(ShortName, ArrivedByNamespace<K, R>)| -> Ordering
+            ensures { result ≡ slice_cmp text_cmp (group_key group.now) (ns.entry.now ∷ []) }
+        { compare(group, ns) },
+    )
+}
+
+/// How many rows the namespaces before a place have.
+pub(crate) fn first_of<K: Named, R: SnapshotterRow<K>>(
+    groups: &[(ShortName, ArrivedByNamespace<K, R>)],
+    home: usize,
+) -> usize
+    requires within { home ≤ length groups.now }
+    requires fits { length (all_rows groups.now) < 2 ^ 64 }
+    ensures { result ≡ length (all_rows (take home groups.now)) }
+{
+    let mut first = 0;
+    for at in 0..home {
+        first += groups[at].1.len();
+    }
+    first
+}
+
+/// The place of the row of a namespace, a snapshotter and a name.
+pub(crate) fn place_of<K: Named, R: SnapshotterRow<K>>(
+    groups: &[(ShortName, ArrivedByNamespace<K, R>)],
+    ns: &ShortName,
+    snapshotter: &ShortName,
+    name: &K,
+) -> Option<usize>
+    requires are { AreCame (layered_key K.texts_of R.name_of R.group_of R.ns_of)
+        (full_key K.texts_of R.name_of R.group_of)
+        R.ns_of groups.now }
+    requires fits { length (all_rows groups.now) < 2 ^ 64 }
+    ensures { result ≡ position (λ row. is_key (ns.now ∷ snapshotter.now ∷ K.texts_of name.now)
+        (layered_key K.texts_of R.name_of R.group_of R.ns_of row)) (all_rows groups.now) }
+{
+    match search(groups, ns) {
+        Ok(home) => match groups[home].1.place(snapshotter, name) {
+            Some(place) => Some(first_of(groups, home) + place),
+            None => None,
+        },
+        Err(_) => None,
+    }
+}
+
+/// The row of a namespace, a snapshotter and a name.
+pub(crate) fn row_in<'a, K: Named, R: SnapshotterRow<K>>(
+    groups: &'a [(ShortName, ArrivedByNamespace<K, R>)],
+    ns: &ShortName,
+    snapshotter: &ShortName,
+    name: &K,
+) -> Option<&'a R>
+    requires { AreCame (layered_key K.texts_of R.name_of R.group_of R.ns_of)
+        (full_key K.texts_of R.name_of R.group_of)
+        R.ns_of groups.now }
+    ensures { option_copied result ≡ row_at (layered_key K.texts_of R.name_of R.group_of R.ns_of)
+        (ns.now ∷ snapshotter.now ∷ K.texts_of name.now)
+        (sorted (layered_key K.texts_of R.name_of R.group_of R.ns_of) (all_rows groups.now)) }
+{
+    match search(groups, ns) {
+        Ok(home) => groups[home].1.get(snapshotter, name),
+        Err(_) => None,
+    }
+}
+
+/// Whether the row is there.
+pub(crate) fn has_row<K: Named, R: SnapshotterRow<K>>(
+    groups: &[(ShortName, ArrivedByNamespace<K, R>)],
+    ns: &ShortName,
+    snapshotter: &ShortName,
+    name: &K,
+) -> bool
+    requires { AreCame (layered_key K.texts_of R.name_of R.group_of R.ns_of)
+        (full_key K.texts_of R.name_of R.group_of)
+        R.ns_of groups.now }
+    ensures { result ≡ has_row (layered_key K.texts_of R.name_of R.group_of R.ns_of)
+        (ns.now ∷ snapshotter.now ∷ K.texts_of name.now)
+        (sorted (layered_key K.texts_of R.name_of R.group_of R.ns_of) (all_rows groups.now)) }
+{
+    match search(groups, ns) {
+        Ok(home) => groups[home].1.has(snapshotter, name),
+        Err(_) => false,
+    }
+}
+
+/// The rows of a snapshotter in a namespace, as they came.
+pub(crate) fn rows_of<'a, K: Named, R: SnapshotterRow<K>>(
+    groups: &'a [(ShortName, ArrivedByNamespace<K, R>)],
+    ns: &ShortName,
+    snapshotter: &ShortName,
+) -> Option<&'a [R]>
+    requires { AreCame (layered_key K.texts_of R.name_of R.group_of R.ns_of)
+        (full_key K.texts_of R.name_of R.group_of) R.ns_of groups.now }
+    ensures rows { IfSome result (λ rows. rows.now ≡ filter
+        (λ row. bytes_eq ns.now (R.ns_of row) && bytes_eq snapshotter.now (R.group_of row))
+        (all_rows groups.now)) }
+    ensures none { IfNone result (filter
+        (λ row. bytes_eq ns.now (R.ns_of row) && bytes_eq snapshotter.now (R.group_of row))
+        (all_rows groups.now) ≡ []) }
+{
+    match search(groups, ns) {
+        Ok(home) => groups[home].1.rows(snapshotter),
+        Err(_) => None,
+    }
+}
+
+/// Whether some row is in the namespace.
+pub(crate) fn any_in<K: Named, R: SnapshotterRow<K>>(
+    groups: &[(ShortName, ArrivedByNamespace<K, R>)],
+    ns: &ShortName,
+) -> bool
+    requires { AreCame (layered_key K.texts_of R.name_of R.group_of R.ns_of)
+        (full_key K.texts_of R.name_of R.group_of)
+        R.ns_of groups.now }
+    ensures { result ≡ list_any (λ row. bytes_eq ns.now (R.ns_of row)) (sorted
+        (layered_key K.texts_of R.name_of R.group_of R.ns_of) (all_rows groups.now)) }
+{
+    match search(groups, ns) {
+        Ok(home) => groups[home].1.len() != 0,
+        Err(_) => false,
+    }
+}
+
+/// Whether the rows of all namespaces pass the test.
+pub(crate) fn all_pass<K: Named, R: SnapshotterRow<K>, T: Test<R>>(
+    groups: &[(ShortName, ArrivedByNamespace<K, R>)],
+    test: &T,
+) -> bool
+    ensures { result ≡ list_all (λ group. list_all (T.passes test.now) (sorted
+        (full_key K.texts_of R.name_of R.group_of) group.1)) groups.now }
+{
+    groups.iter().all(|group| group.1.all(test))
+}
