@@ -5,12 +5,13 @@ ghost use Rattle.meta_types.specs.Labels.{put_label};
 ghost use Rattle.meta_types.specs.Rows.{lease_key};
 ghost use Rattle.meta_types.specs.Changes.{lease_holds, hold_in_lease, release_in_lease, has_lease_in};
 ghost use Rattle.meta_types.specs.Faults.{Refuses, OnlyRefuses};
-ghost use Rattle.lease_book.specs.Calls.{creating_fault, missing_fault, labelling_fault, ids_in, kept};
+ghost use Rattle.row_tables.specs.Arrived.{sorted};
+ghost use Rattle.lease_book.specs.Calls.{creating_fault, missing_fault, labelling_fault, ids_in};
 
 use crate::edits::{Hold, OneLabel, Release};
 use crate::lease::Lease;
 use meta_types::{Fault, Labels, Name, Resource, ShortName};
-use row_tables::ByNamespace;
+use row_tables::{ArrivedByNamespace, ByNamespace};
 use std::alloc::Global;
 use std::marker::Model;
 
@@ -225,12 +226,27 @@ impl Leases {
         Ok(Leases { rows })
     }
 
-    /// Keeps the leases whose places are marked, in their order. It takes no memory.
-    pub fn retain(&mut self, marks: &[bool])
-        requires { length marks.now ≡ length self.old }
-        ensures { self.new ≡ kept marks.now self.old }
+    /// The leases as they came.
+    pub fn came(&self) -> &ArrivedByNamespace<Name, Lease>
+        ensures { sorted lease_key result.now ≡ self.now }
     {
-        self.rows.retain(marks);
+        self.rows.came()
+    }
+
+    /// The leases as they came. It takes no memory.
+    pub fn into_came(self) -> ArrivedByNamespace<Name, Lease>
+        ensures { sorted lease_key result ≡ self }
+    {
+        self.rows.into_came()
+    }
+
+    /// The leases that came, seen in the order of namespaces and ids. It takes no memory.
+    pub fn from_came(came: ArrivedByNamespace<Name, Lease>) -> Leases
+        ensures { result ≡ sorted lease_key came }
+    {
+        Leases {
+            rows: ByNamespace::from_came(came),
+        }
     }
 }
 

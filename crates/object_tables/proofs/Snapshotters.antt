@@ -9,7 +9,7 @@ use mathlib.Core.List.{map-append}
 use Rattle.meta_types.specs.Text.{Text}
 use Rattle.meta_types.specs.declared.rows.SnapRow.{SnapRow}
 use Rattle.row_tables.proofs.ListLoops.{at_map}
-use Rattle.row_tables.proofs.PlacesSorted.{length_map}
+use Rattle.row_tables.proofs.MappedLists.{length_map}
 
 module _ {X : Type 0} (same : X → X → Bool) where
   -- one item in front doesn't change which is the last

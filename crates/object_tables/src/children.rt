@@ -1,5 +1,5 @@
 //! The snapshots, and the names of each one's children.
-ghost use Rattle.std.specs.Prelude.{◌≡◌, ◌∷◌, [], map, false, None, IfOk, OnOk, OnErr, length};
+ghost use Rattle.std.specs.Prelude.{◌≡◌, ◌∷◌, [], Bool, map, filter, false, None, IfOk, OnOk, OnErr, length};
 ghost use Rattle.std.specs.Bool.{OnFalse};
 ghost use Rattle.std.specs.List.{list_any};
 ghost use Rattle.meta_types.specs.Keys.{has_row, row_at, add_row, remove_row, change_row};
@@ -7,13 +7,15 @@ ghost use Rattle.meta_types.specs.Labels.{put_label};
 ghost use Rattle.meta_types.specs.Rows.{snap_key};
 ghost use Rattle.meta_types.specs.Faults.{Refuses};
 ghost use Rattle.meta_types.specs.Ops.Snapshots.{is_child_of};
+ghost use Rattle.meta_types.specs.declared.rows.SnapRow.{SnapRow};
+ghost use Rattle.row_tables.specs.Arrived.{sorted};
 ghost use Rattle.object_tables.specs.Calls.{children_of, labelling_fault, kept};
 ghost use Rattle.object_tables.specs.Children.{child_named, families_visited};
 
 use crate::families::Families;
 use crate::stored::relabel_snap;
 use meta_types::{Fault, Name, SnapKey, SnapRow};
-use row_tables::{BySnapshotter, RemovedRows};
+use row_tables::{ArrivedBySnapshotter, BySnapshotter, RemovedRows};
 use std::alloc::Global;
 use std::marker::Model;
 
@@ -60,6 +62,26 @@ impl Snapshots {
         ensures { result.now ≡ self.now }
     {
         &self.rows
+    }
+
+    /// The snapshots as they came. It takes no memory.
+    pub(crate) fn into_came(self) -> ArrivedSnapshots
+        ensures { sorted snap_key result ≡ self }
+    {
+        ArrivedSnapshots {
+            rows: self.rows.into_came(),
+            families: self.families,
+        }
+    }
+
+    /// The snapshots that came, seen in the order of their keys. It takes no memory.
+    pub(crate) fn from_came(came: ArrivedSnapshots) -> Snapshots
+        ensures { result ≡ sorted snap_key came }
+    {
+        Snapshots {
+            rows: BySnapshotter::from_came(came.rows),
+            families: came.families,
+        }
     }
 
     /// Where memory is refused, its name is taken out again.
@@ -119,17 +141,6 @@ impl Snapshots {
         relabel_snap(&mut self.rows, alloc, at, key, value)
     }
 
-    /// Leaves the rows whose places are marked.
-    pub(crate) fn retain(&mut self, keep: &[bool])
-        requires { length keep.now ≡ length self.old }
-        ensures { self.new ≡ kept keep.now self.old }
-    {
-        let _ = self.rows.len();
-        let _ = self.families.len();
-        self.rows.visit_removed(keep, &mut self.families);
-        self.rows.retain(keep);
-    }
-
     pub(crate) fn is_parent(&self, key: &SnapKey) -> bool
         ensures { result ≡ list_any (is_child_of key.now.ns key.now.snapshotter key.now.name)
             self.now }
@@ -145,6 +156,49 @@ impl Snapshots {
     {
         let names = self.families.names(alloc, key)?;
         keys_of(alloc, key, &names)
+    }
+}
+
+/// The snapshots as they came, with the names of each one's children.
+#[derive(Drop)]
+pub(crate) struct ArrivedSnapshots {
+    rows: ArrivedBySnapshotter<Name, SnapRow>,
+    families: Families,
+}
+
+impl Model for ArrivedSnapshots {
+    ghost use Rattle.std.specs.Prelude.{◌≡◌, List};
+    ghost use Rattle.meta_types.specs.Rows.{snap_key};
+    ghost use Rattle.meta_types.specs.declared.rows.SnapRow.{SnapRow};
+    ghost use Rattle.row_tables.specs.Arrived.{sorted};
+    ghost use Rattle.object_tables.specs.Children.{family_names, names_under};
+
+    ghost Value = { List SnapRow };
+
+    ghost view = { λ t. t.rows };
+
+    ghost invariant = { λ t. family_names t.families ≡ names_under (sorted snap_key t.rows) };
+}
+
+impl ArrivedSnapshots {
+    /// The rows themselves, for what needs no index.
+    pub(crate) fn table(&self) -> &ArrivedBySnapshotter<Name, SnapRow>
+        ensures { result.now ≡ self.now }
+    {
+        &self.rows
+    }
+
+    /// Keeps the rows whose places are marked. It takes no memory.
+    pub(crate) fn retain(&mut self, marks: &[bool])
+        requires { length marks.now ≡ length self.old }
+        ensures left { self.new ≡ kept marks.now self.old }
+        ensures stays { (stays : SnapRow → Bool) → marks.now ≡ map stays self.old
+            → sorted snap_key self.new ≡ filter stays (sorted snap_key self.old) }
+    {
+        let _ = self.rows.len();
+        let _ = self.families.len();
+        self.rows.visit_removed(marks, &mut self.families);
+        self.rows.retain(marks);
     }
 }
 

@@ -86,12 +86,4 @@ impl Tables {
     {
         relabel(&mut self.content, alloc, ns, digest, key, value)
     }
-
-    /// Leaves the rows whose places are marked. It takes no memory.
-    pub fn retain_content(&mut self, keep: &[bool])
-        requires { length keep.now ≡ length self.old.content }
-        ensures { self.new ≡ record self.old { content = kept keep.now self.old.content } }
-    {
-        self.content.retain(keep);
-    }
 }

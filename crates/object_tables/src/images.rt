@@ -122,14 +122,6 @@ impl Tables {
     {
         relabel(&mut self.images, alloc, ns, name, key, value)
     }
-
-    /// Leaves the rows whose places are marked. It takes no memory.
-    pub fn retain_images(&mut self, keep: &[bool])
-        requires { length keep.now ≡ length self.old.images }
-        ensures { self.new ≡ record self.old { images = kept keep.now self.old.images } }
-    {
-        self.images.retain(keep);
-    }
 }
 
 fn set_target(

@@ -83,12 +83,4 @@ impl Tables {
             Err(Fault::NotFound)
         }
     }
-
-    /// Leaves the rows whose places are marked. It takes no memory.
-    pub fn retain_ingests(&mut self, keep: &[bool])
-        requires { length keep.now ≡ length self.old.ingests }
-        ensures { self.new ≡ record self.old { ingests = kept keep.now self.old.ingests } }
-    {
-        self.ingests.retain(keep);
-    }
 }

@@ -1,6 +1,7 @@
 //! Rows of images, containers, content, ingests and snapshots, by namespace.
 #![tactic(auto)]
 
+mod arrived;
 mod children;
 mod containers;
 mod content;
@@ -14,4 +15,5 @@ mod snapshots;
 mod stored;
 mod tables;
 
+pub use arrived::{ArrivedRows, ArrivedTables};
 pub use tables::{Counts, Tables};

@@ -246,15 +246,6 @@ impl Tables {
         let rows = self.snapshots.table().rows_in(alloc, ns)?;
         snapshotters_of(alloc, &rows)
     }
-
-    /// Leaves the rows whose places are marked, the parent of each with it. It takes no memory.
-    pub fn retain_snapshots(&mut self, keep: &[bool])
-        requires length { length keep.now ≡ length self.old.snapshots }
-        requires numbered { AreNumbered (kept keep.now self.old.snapshots) self.old.ingests }
-        ensures { self.new ≡ record self.old { snapshots = kept keep.now self.old.snapshots } }
-    {
-        self.snapshots.retain(keep);
-    }
 }
 
 fn snapshotters_of(alloc: Global, rows: &[&SnapRow]) -> Result<Listing, Fault>
