@@ -2,6 +2,7 @@ pub mod BitLemmas
 pub mod Counts
 pub mod ClaimLemmas
 pub mod Walks
+pub mod ListEnds
 pub mod Explores
 pub mod Workers
 pub mod Keeping

@@ -48,8 +48,7 @@ Reached-target g a b r c =
 pub target_in_range : (g : Graph) (a b : ℕ) → IsInRange g → a < node_count g
     → Contains (targets g a) b → b < node_count g
 target_in_range g a b range inside c =
-    let here : a < length (rows g) = omega (arith, length-map g.edges.items (λ v. v.items)) in
-    All-contains (λ b. b < node_count g) (targets g a) b (range.0 a [] here) c
+    All-contains (λ b. b < node_count g) (targets g a) b (range.0 a [] inside) c
 
 -- so all that is reached is a node
 pub reached_in_range : (g : Graph) (n : ℕ) → IsInRange g → Reached g n → n < node_count g
@@ -73,7 +72,7 @@ within_get {X = X} xs k x is =
 
 -- there is a row for each node
 pub length-rows : (g : Graph) → length (rows g) ≡ node_count g
-length-rows g = length-map g.edges.items (λ v. v.items)
+length-rows g = refl
 
 -- a number that is no node has no target
 targets_none : (g : Graph) (a : ℕ) → node_count g ≤ a → length (targets g a) ≡ 0

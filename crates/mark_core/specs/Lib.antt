@@ -1,3 +1,4 @@
+pub mod TargetLists
 pub mod Reach
 pub mod Bits
 pub mod Claims

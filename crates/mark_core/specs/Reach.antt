@@ -1,11 +1,11 @@
 -- Which nodes of a graph are reached. Ours, unless a source stands beside.
-use Rattle.std.specs.Prelude.{ℕ, ◌<◌, List, map, length, All}
+use Rattle.std.specs.Prelude.{ℕ, ◌<◌, List, length, All}
 use Rattle.meta_types.specs.Walks.{targets_in, IsReached}
 use Rattle.mark_core.specs.declared.graph.Graph.{Graph}
 
 -- the targets of each node, in order
 abbrev pub rows : Graph → List (List ℕ)
-rows g = map (λ v. v.items) g.edges.items
+rows g = g.edges
 
 -- the targets of a node. A number that is no node has none
 abbrev pub targets : Graph → ℕ → List ℕ
@@ -13,7 +13,7 @@ targets g a = targets_in (rows g) a
 
 -- how many nodes there are
 abbrev pub node_count : Graph → ℕ
-node_count g = length g.edges.items
+node_count g = length g.edges
 
 -- each number of the graph names a node
 abbrev pub IsInRange : Graph → Type 0

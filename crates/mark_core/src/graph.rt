@@ -2,11 +2,13 @@
 ghost use Rattle.std.specs.Prelude.{◌≡◌, ◌<◌, ◌↔◌, IsTrue, All};
 ghost use Rattle.mark_core.specs.Reach.{IsInRange, targets};
 
+use crate::target_lists::TargetLists;
+
 /// Nodes are numbered from 0. A number may stand in `roots` more than once.
 #[derive(Drop)]
 pub struct Graph {
     /// The targets of each node, in order.
-    pub edges: Vec<Vec<u32>>,
+    pub edges: TargetLists,
     /// Where the walks begin.
     pub roots: Vec<u32>,
 }
@@ -16,10 +18,10 @@ impl Graph {
     pub fn targets(&self, node: u32) -> &[u32]
         ensures { result.now ≡ targets self.now node }
     {
-        match self.edges.get(node as usize) {
-            Some(row) => row,
-            None => &[],
+        if (node as usize) < self.edges.len() {
+            return self.edges.list(node as usize);
         }
+        &[]
     }
 
     /// The test of what a marking asks of its caller: each number of the graph names a node.
@@ -27,8 +29,8 @@ impl Graph {
         ensures { IsTrue result ↔ IsInRange self.now }
     {
         let count = self.edges.len();
-        for row in &self.edges {
-            if !are_below(row, count) {
+        for node in 0..count {
+            if !are_below(self.edges.list(node), count) {
                 return false;
             }
         }

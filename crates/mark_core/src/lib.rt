@@ -12,6 +12,7 @@ mod plain;
 mod replay_fault;
 mod state;
 mod steps;
+mod target_lists;
 mod worker_state;
 
 pub use event::MarkEvent;
@@ -22,3 +23,4 @@ pub use marks::Marks;
 pub use plain::mark_plain;
 pub use replay_fault::ReplayFault;
 pub use state::MarkState;
+pub use target_lists::TargetLists;

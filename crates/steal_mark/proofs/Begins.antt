@@ -1,4 +1,4 @@
--- A marking begins.
+-- A marking begins: each root is claimed once, and just the claimed nodes are pushed.
 use Rattle.std.proofs.Common.{◌≡◌, ℕ, ◌<◌, List, [], ◌∷◌, ◌++◌, length, get_or, refl, sym, ap, ◌∙◌, subst, arith}
 use Rattle.std.specs.Prelude.{All, Contains, sum_by}
 use Rattle.std.specs.Arc.{arc_value}

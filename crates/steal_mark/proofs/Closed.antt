@@ -20,7 +20,7 @@ use Rattle.steal_mark.specs.Stealing.{IsOther, IsPlaced, pass_views, parts_of}
 use Rattle.steal_mark.specs.Closing.{Id, IsRow, taken_in}
 use Rattle.steal_mark.specs.Parts.{Deque, PassRow}
 
--- so many rows are closed: their pass on this deque is gone, and its view is part of the owner's
+-- the rows before `at` are closed: their pass on this deque is gone, its view is the owner's part
 pub record Closes (g : Graph) (ids : List Id) (at : ℕ) (old new : Deque) (before after : List PassRow) : Type 0 where
   pub done : (k : ℕ) (d : PassRow) → k < at → IsRow g ids k (get_or after k d)
   pub ahead : (k : ℕ) (d : PassRow) → at ≤ k → k < length after → IsRow g (ids ++ worker_deque old ∷ []) k (get_or after k d)

@@ -40,7 +40,7 @@ same_power a b e =
     dite (dec_lt a b) (λ (l : a < b). absurd (let p : 2 ^ a < 2 ^ b = pow-lt l in omega arith))
     (λ (nl : ¬ (a < b)). dite (dec_lt b a) (λ (l : b < a). absurd (let p : 2 ^ b < 2 ^ a = pow-lt l in omega arith)) (λ (nl' : ¬ (b < a)). omega arith))
 
--- what the caller of a look is told
+-- what the caller of a look learns
 module _ (n mask found slots : ℕ) (me me' : Me (Unit {0}) Claims) (is : mask ≡ 2 ^ (n % 64)) (t : Looks (step slots (n / 64) mask 0 none) me found me') where
   -- the word and the bit name one node
   same_node : t.0 ≡ n

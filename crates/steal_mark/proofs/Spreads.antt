@@ -19,7 +19,7 @@ use Rattle.steal_mark.specs.Closing.{Id, ids_of}
 use Rattle.steal_mark.specs.Starting.{IsCut, IsNewRow, AreNewRows, IsSpread, part_of, pushes_of}
 use Rattle.steal_mark.specs.Parts.{Deque, PassRow}
 
--- so many rows have a pass on this deque as their last
+-- the rows before `at` have a pass on this deque as their last
 pub record Opens (g : Graph) (ids : List Id) (at : ℕ) (old new : Deque) (before after : List PassRow) : Type 0 where
   pub done : (k : ℕ) (d : PassRow) → k < at → IsNewRow g (ids ++ worker_deque old ∷ []) k (get_or after k d)
   pub ahead : (k : ℕ) (d : PassRow) → at ≤ k → k < length after → IsNewRow g ids k (get_or after k d)
@@ -110,7 +110,7 @@ at_most : (b : Bool) → part_of b ≤ 1
 at_most true = omega arith
 at_most false = omega arith
 
--- so many parts are there
+-- a part is at most m
 pub part_small : (k n m : ℕ) → 1 < m → part_of (nat_eq k n) ≤ m
 part_small k n m h = let a = at_most (nat_eq k n) in omega arith
 
@@ -136,7 +136,7 @@ opens_more g ids i part old mid new before rows row row' o p named own others in
       long = length-set rows i row' ∙ p.long;
     }
 
--- so many deques are spread
+-- the deques are spread, each over all rows
 pub record SpreadsAll (g : Graph) (ds opened : List Deque) (before after : List PassRow) : Type 0 where
   pub rows : AreNewRows g (ids_of opened) after
   pub spread : All (IsSpread g (length before)) opened

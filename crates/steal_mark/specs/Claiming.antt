@@ -37,7 +37,7 @@ claimed_after n (suc bit) xs = xs
 abbrev pub looked : ℕ → ℕ → Claims → Claims
 looked n bit v = claims v.parts (claimed_after n bit v.claimed) (v.seen ++ n ∷ [])
 
--- the step sets the bit of some node, and the seat is told what it was
+-- the step sets the bit of some node, and the seat learns what it was
 abbrev pub Looks : Step (Unit {0}) → Me (Unit {0}) Claims → ℕ → Me (Unit {0}) Claims → Type 0
 Looks s me found me' = (n : ℕ) × (n / 64 ≡ s.word) × (2 ^ (n % 64) ≡ s.first) × (me' ≡ (looked n (bit_at found (n % 64)) me.0, me.1))
 

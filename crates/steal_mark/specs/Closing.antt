@@ -33,7 +33,7 @@ AreRows g ids rows = (k : ℕ) (d : PassRow) → k < length rows → IsRow g ids
 abbrev pub taken_in : ℕ → List PassRow → ℕ
 taken_in n rows = sum_by (λ row. sum_by (λ h. times n h.taken) (pass_views row.items)) rows
 
--- a deque that is still open, while each of so many workers has a pass on it, of which its owner's has no part
+-- a deque that is still open, while `many` workers have a pass on it, of which its owner's has no part
 pub record IsOpen (g : Graph) (many : ℕ) (d : Deque) : Type 0 where
   pub fifo : worker_flavor d ≡ 0
   pub graph : (worker_view d).graph ≡ Some g

@@ -52,7 +52,7 @@ pub record IsNewRow (g : Graph) (ids : List Id) (number : ℕ) (r : PassRow) : T
 abbrev pub AreNewRows : Graph → List Id → List PassRow → Type 0
 AreNewRows g ids rows = (k : ℕ) (d : PassRow) → k < length rows → IsNewRow g ids k (slice_index_or rows k d)
 
--- a deque of which nothing was taken, on which so many workers have a pass
+-- a deque of which nothing was taken, on which `many` workers have a pass
 pub record IsSpread (g : Graph) (many : ℕ) (d : Deque) : Type 0 where
   pub is_open : IsOpen g many d
   pub untaken : (worker_view d).taken ≡ []
@@ -79,7 +79,7 @@ pub record DealsOnce (g : Graph) (ms : List Marker) : Type 0 where
   pub pushed : (n : ℕ) → sum_by (λ m. times n (own_pass_view m).pushed) ms ≡ sum_by (λ m. times n (claims_of m).claimed) ms
   pub only : (n : ℕ) → 0 < sum_by (λ m. times n (claims_of m).claimed) ms → Contains g.roots.items n
 
--- a marking of the graph by so many workers, none of which has taken a turn
+-- a marking of the graph by `workers` workers, none of which has taken a turn
 pub record Begins (g : Graph) (workers : ℕ) (r : Rest) (ms : List Marker) : Type 0 where
   pub rest : IsRest g r
   pub team : IsTeam r ms

@@ -1,4 +1,4 @@
-//! The threads of a marking.
+//! The threads of a marking: how they start, and what they give back.
 
 pub(crate) mod mark_workers;
 pub(crate) mod start;

@@ -1,4 +1,4 @@
-//! One turn of a marker.
+//! A worker's turn: its marker, its own deque, and those that it steals from.
 
 pub(crate) mod ahead;
 pub(crate) mod marker;

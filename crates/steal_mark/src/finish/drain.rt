@@ -66,7 +66,7 @@ pub fn drain(
             return Ok(());
         };
         ahead.took(node, graph);
-        let targets = graph.edges[node as usize].as_slice();
+        let targets = graph.targets(node);
         scan(claim_table, seat, deque, &mut ahead, targets)?;
         list.push_reserved(node);
     }

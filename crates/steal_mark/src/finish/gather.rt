@@ -1,4 +1,4 @@
-//! The end of a marking.
+//! The end of a marking: the deques are drained, and the marks gathered.
 ghost use Rattle.std.specs.Prelude.{◌==◌, ◌↔◌, All, IsTrue, IfOk, OnOk, length};
 ghost use Rattle.mark_core.specs.Reach.{IsInRange};
 ghost use Rattle.meta_types.specs.declared.fault.Fault.TheVariants.{InvalidArgument};

@@ -1,4 +1,4 @@
-//! Markers are taken apart.
+//! Markers are taken apart into their seats, deques, passes and lists.
 ghost use Rattle.std.specs.Prelude.{◌≡◌, ◌<◌, All, IfOk};
 ghost use Rattle.steal_mark.specs.Team.{Apart, IsLoose};
 

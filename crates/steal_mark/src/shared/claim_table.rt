@@ -1,4 +1,4 @@
-//! One look, put and take.
+//! One look at a node's claim, and one put, take or steal at a deque.
 ghost use Rattle.std.specs.Prelude.{◌≡◌, ◌<◌, ◌/◌, ◌+◌, ◌∷◌, [], MatchBool, OnOk, IfSome, IfNone};
 ghost use Rattle.crossbeam_deque.specs.Handles.{view, IsPassOf, SamePass, stealer_deque, stealer_flavor, worker_flavor, worker_view};
 ghost use Rattle.mark_core.specs.Reach.{Reached, node_count};

@@ -1,4 +1,4 @@
-//! The rule of the deques.
+//! The rule of the deques: what each pass may put and take.
 ghost use Rattle.std.specs.Prelude.{◌-◌, [], None, Option};
 ghost use Rattle.mark_core.specs.declared.graph.Graph.{Graph};
 ghost use Rattle.steal_mark.specs.Dealing.{pass_view, IsDealt, Pushed, Taken, Emptied, cut_left, cut_right, joined, NoMore};

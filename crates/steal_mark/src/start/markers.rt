@@ -1,4 +1,4 @@
-//! The start of a marking.
+//! The start of a marking: the roots are dealt out to the workers.
 ghost use Rattle.std.specs.Prelude.{◌≡◌, ◌≢◌, ◌<◌, ◌≤◌, ◌+◌, ◌-◌, ℕ, [], All, IfOk, length};
 ghost use Rattle.std.specs.Arc.{arc_value};
 ghost use Rattle.crossbeam_deque.specs.Handles.{worker_view};
@@ -93,7 +93,7 @@ fn assemble(
     Ok(markers)
 }
 
-/// Deals out the distinct roots of the graph to so many workers.
+/// Deals out the distinct roots of the graph to this number of workers.
 pub fn marking(alloc: Global, graph: &Graph, workers: usize) -> Result<(Rest, Vec<Marker>), Fault>
     requires range { IsInRange graph.now }
     ensures fault { Refuses result (unless (is_worker_count workers) InvalidArgument) }

@@ -17,8 +17,8 @@ use std::alloc::Global;
 use std::sync::Wait;
 use std::thread::Threads;
 
-/// Marks what the roots reference, directly or not, by so many threads that steal from one another.
-/// All of them have ended when it returns, also after a refusal.
+/// Marks what the roots reference, directly or not, by `workers` threads that steal from one
+/// another. All of them have ended when it returns, also after a refusal.
 pub fn mark_workers<R: Threads + Wait + Sync, G: Gate>(
     rt: &R,
     alloc: Global,

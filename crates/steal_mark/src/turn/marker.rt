@@ -1,4 +1,4 @@
-//! One worker of a marking.
+//! One worker of a marking: a seat, a deque, and passes on the others.
 ghost use Rattle.std.specs.Prelude.{◌≡◌};
 
 use crate::shared::claim_table::{ClaimSeat, ClaimTable};

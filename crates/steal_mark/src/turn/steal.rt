@@ -1,4 +1,4 @@
-//! Stealing from the others.
+//! Stealing a node from the other workers' deques.
 ghost use Rattle.std.specs.Prelude.{◌≡◌, All, map, IfSome, IfNone};
 ghost use Rattle.mark_core.specs.Reach.{Reached};
 ghost use Rattle.steal_mark.specs.Stealing.{IsOther, IsPlaced, pass_views, parts_of, TookOne};

@@ -1,4 +1,4 @@
-//! One turn of a worker.
+//! One turn of a worker: it takes a node and scans it, or finds none.
 ghost use Rattle.std.specs.Prelude.{◌≡◌, ◌↔◌, true, IfOk, IsErr, IfSome, IfNone, None};
 ghost use Rattle.mark_core.specs.Reach.{IsInRange, Reached};
 ghost use Rattle.meta_types.specs.Faults.{Refuses};
@@ -74,7 +74,7 @@ impl Marker {
         };
         self.ahead.took(node, graph);
         gate.before_scan(self.number, node);
-        let targets = graph.edges[node as usize].as_slice();
+        let targets = graph.targets(node);
         if scan(
             &self.claim_table,
             &mut self.seat,

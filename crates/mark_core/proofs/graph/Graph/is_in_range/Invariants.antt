@@ -3,7 +3,7 @@ use Rattle.std.specs.Prelude.{All}
 use Rattle.mark_core.specs.Reach.{node_count, targets}
 use Rattle.mark_core.proofs.graph.Graph.is_in_range.Given as goal
 
--- the rows before the place have passed the test
-abbrev pub invariant-loop-row : goal.invariant-loop-row
-invariant-loop-row l =
-    (k : ℕ) → k < l.row-index → All (λ b. b < node_count l.self) (targets l.self k)
+-- the nodes before the place have passed the test
+abbrev pub invariant-loop-node : goal.invariant-loop-node
+invariant-loop-node l =
+    (k : ℕ) → k < l.node → All (λ b. b < node_count l.self) (targets l.self k)

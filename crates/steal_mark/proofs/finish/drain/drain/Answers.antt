@@ -1,7 +1,7 @@
 use Rattle.std.proofs.Common.{◌≡◌, ◌<◌, ◌≤◌, ◌∷◌, [], ◌++◌, sym, ap, ◌∙◌, subst, arith}
 use Rattle.crossbeam_deque.specs.Handles.{worker_view}
 use Rattle.mark_core.specs.Reach.{Reached, node_count, targets}
-use Rattle.mark_core.proofs.Walks.{reached_in_range, row_is}
+use Rattle.mark_core.proofs.Walks.{reached_in_range}
 use Rattle.steal_mark.specs.Claiming.{Knows}
 use Rattle.steal_mark.specs.Growing.{MayClaim}
 use Rattle.steal_mark.proofs.Stolen.{taken_reached}
@@ -15,35 +15,25 @@ returns-in_default-clause-drains c =
     let n = c.in_default.ensures.none in
     drains_dry _ _ _ _ _ _ _ _ c.loop-count.invariant.3 _ _ c.requires.whole.1 n.0 n.1 c.in_ok-reserve.ensures.items
 
--- the taken node is reached, and so in range
-pub index-requires : goal.index-requires
-index-requires c =
-    let d = c.loop-count.invariant.3 in
-    let here : Reached c.args.graph.now c.in-Some.node = taken_reached c.args.graph.now c.in-Some.node (worker_view c.loop-count.deque) (worker_view c.take.new.deque) (same_graph _ _ _ _ _ _ _ _ d ∙ c.requires.named) c.in-Some.ensures.some in
-    let in' : c.in-Some.node < node_count c.args.graph.now = reached_in_range c.args.graph.now c.in-Some.node c.requires.range here in
-    omega arith
-
 -- its targets are reached
 pub scan-requires-clause-targets : goal.scan-requires-clause-targets
 scan-requires-clause-targets c =
     let d = c.loop-count.invariant.3 in
     let here : Reached c.args.graph.now c.in-Some.node = taken_reached c.args.graph.now c.in-Some.node (worker_view c.loop-count.deque) (worker_view c.take.new.deque) (same_graph _ _ _ _ _ _ _ _ d ∙ c.requires.named) c.in-Some.ensures.some in
-    let in' : c.in-Some.node < node_count c.args.graph.now = reached_in_range c.args.graph.now c.in-Some.node c.requires.range here in
-    let is : c.as_slice-targets.result.now ≡ targets c.args.graph.now c.in-Some.node = c.as_slice-targets.ensures.value ∙ row_is (λ v. v.items) c.args.graph.now.edges.items c.in-Some.node c.index.result.now in' c.index.ensures in
-    subst (λ x. MayClaim x c.as_slice-targets.result.now) c.requires.graph (subst (MayClaim c.args.graph.now) (sym is) (may_claim c.args.graph.now c.in-Some.node c.requires.range here))
+    let is : c.targets-targets.result.now ≡ targets c.args.graph.now c.in-Some.node = c.targets-targets.ensures in
+    subst (λ x. MayClaim x c.targets-targets.result.now) c.requires.graph (subst (MayClaim c.args.graph.now) (sym is) (may_claim c.args.graph.now c.in-Some.node c.requires.range here))
 
 -- one node more is drained
 pub loop-count-preserved : goal.loop-count-preserved
 loop-count-preserved c =
     let d = c.loop-count.invariant.3 in
     let here : Reached c.args.graph.now c.in-Some.node = taken_reached c.args.graph.now c.in-Some.node (worker_view c.loop-count.deque) (worker_view c.take.new.deque) (same_graph _ _ _ _ _ _ _ _ d ∙ c.requires.named) c.in-Some.ensures.some in
-    let in' : c.in-Some.node < node_count c.args.graph.now = reached_in_range c.args.graph.now c.in-Some.node c.requires.range here in
-    let is : c.as_slice-targets.result.now ≡ targets c.args.graph.now c.in-Some.node = c.as_slice-targets.ensures.value ∙ row_is (λ v. v.items) c.args.graph.now.edges.items c.in-Some.node c.index.result.now in' c.index.ensures in
+    let is : c.targets-targets.result.now ≡ targets c.args.graph.now c.in-Some.node = c.targets-targets.ensures in
     let s = c.in_ok-scan.ensures.same in (
       s.0 ∙ c.loop-count.invariant.0,
       s.1 ∙ c.loop-count.invariant.1,
       s.2.1 ∙ (c.take.ensures.same.1 ∙ c.loop-count.invariant.2),
-      drains_more _ _ _ _ _ _ _ _ d c.in-Some.node c.as_slice-targets.result.now _ _ _ _ c.in-Some.ensures.some c.in_ok-scan.ensures.grows is (c.push_reserved.ensures.items ∙ ap (λ x. x ++ c.in-Some.node ∷ []) c.in_ok-reserve.ensures.items),
+      drains_more _ _ _ _ _ _ _ _ d c.in-Some.node c.targets-targets.result.now _ _ _ _ c.in-Some.ensures.some c.in_ok-scan.ensures.grows is (c.push_reserved.ensures.items ∙ ap (λ x. x ++ c.in-Some.node ∷ []) c.in_ok-reserve.ensures.items),
     )
 
 -- more nodes than the graph has can't have been drained

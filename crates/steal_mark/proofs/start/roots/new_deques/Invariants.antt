@@ -3,7 +3,7 @@ use Rattle.std.specs.Prelude.{All, Some}
 use Rattle.steal_mark.specs.Starting.{IsFresh}
 use Rattle.steal_mark.proofs.start.roots.new_deques.Given as goal
 
--- so many deques are made, all new
+-- the counted deques are made, all new
 abbrev pub invariant-loop-count : goal.invariant-loop-count
 invariant-loop-count l = (length l.deques.items ≡ l.count) × All (IsFresh l.fn.graph) l.deques.items
 
