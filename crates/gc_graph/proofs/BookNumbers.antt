@@ -16,7 +16,7 @@ use Rattle.meta_types.specs.declared.fault.Fault.{Fault}
 use Rattle.meta_types.specs.declared.fault.Fault.TheVariants.{InvalidArgument}
 use Rattle.gc_graph.specs.declared.node.Node.{Node}
 use Rattle.gc_graph.specs.Nodes.{is_node, is_allowed, AreAllowed}
-use Rattle.gc_graph.specs.Built.{number_of, numbers_in, put_node}
+use Rattle.gc_graph.specs.Built.{number_of, numbers_in}
 use Rattle.gc_graph.proofs.Same.{node_known}
 use Rattle.gc_graph.proofs.NodesApart.{All-append}
 
@@ -35,21 +35,6 @@ nothing_more book n numbers allowed h = sym (ap (λ o. numbers ++ cons_option o 
 pub refused_unless : (X : Type 0) (b : Bool) (fault : Fault) → fault ≡ InvalidArgument → Refuses {X = X} (Err fault) (unless b InvalidArgument) → b ≡ false
 refused_unless X true fault is h = absurd cc
 refused_unless X false fault is h = refl
-
-one_allowed : (n : Node) → is_allowed n.resource ≡ true → AreAllowed (n ∷ [])
-one_allowed n h i d lt = let at : i ≡ 0 = omega arith in subst (λ k. is_allowed (get_or (n ∷ []) k d).resource ≡ true) (sym at) h
-
-pub put_allowed : (book : List Node) (n : Node) → AreAllowed book → is_allowed n.resource ≡ true → AreAllowed (put_node book n)
-put_allowed book n allowed h = elim (cases_Bool (list_any (is_node n) book)) [
-  | inl t ↦ rw t allowed
-  | inr f ↦ rw f (All-append (λ m. is_allowed m.resource ≡ true) book (n ∷ []) allowed (one_allowed n h))
-]
-
-pub put_length : (book : List Node) (n : Node) → length (put_node book n) ≤ length book + 1
-put_length book n = elim (cases_Bool (list_any (is_node n) book)) [
-  | inl t ↦ rw t (omega arith)
-  | inr f ↦ rw f (omega (arith, length-append book (n ∷ [])))
-]
 
 -- ---- loops
 

@@ -11,3 +11,5 @@ pub mod Tells
 pub mod RootPlaces
 pub mod Stores
 pub mod Orders
+pub mod NumberPlaces
+pub mod NodesAt

@@ -1,5 +1,5 @@
 -- Rows in the order of their keys have nodes of their own.
-use Rattle.std.proofs.Common.{◌≡◌, ◌≢◌, append-nil, ℕ, zero, suc, true, false, List, [], ◌∷◌, ◌++◌, map, get_or, refl, sym, ap, ◌∙◌, arith, fold, append_assoc, subst}
+use Rattle.std.proofs.Common.{◌≡◌, ◌≢◌, ℕ, zero, suc, true, false, List, [], ◌∷◌, ◌++◌, map, get_or, refl, sym, ap, ◌∙◌, arith, subst}
 use Rattle.std.specs.Prelude.{All, AllPairs}
 use Rattle.std.specs.List.{list_any}
 use Rattle.std.specs.Ordering.{is_lt, ordering_reverse}
@@ -25,7 +25,7 @@ use Rattle.meta_types.specs.declared.resource.Resource.TheVariants.{Content, Sna
 use Rattle.gc_graph.specs.declared.node.Node.{Node}
 use Rattle.gc_graph.specs.Nodes.{is_node}
 use Rattle.gc_graph.specs.Targets.{content_node, snapshot_node, ingest_node, nodes_in_both, nodes_of}
-use Rattle.gc_graph.specs.Built.{AreApart, put_node}
+use Rattle.gc_graph.specs.Built.{AreApart}
 use Rattle.gc_graph.proofs.Same.{node_known}
 
 -- ---- lists of pairs
@@ -164,24 +164,3 @@ module _ (records : Records) (apart : AreApart records) where
       (differ-right (map ingest_node ingest_rows) (nodes_in_both content_node content_rows) (nodes_in_both snapshot_node snapshot_rows)
       (kinds_apart ingest_node content_node (λ a m b. λ e. absurd (omega (arith, e))) ingest_rows content_rows)
       (kinds_apart ingest_node snapshot_node (λ a m b. λ e. absurd (omega (arith, e))) ingest_rows snapshot_rows))
-
--- ---- the book
-
--- each node is new to the book
-pub all_added : (book nodes : List Node) → AllPairs (λ a b. a ≢ b) nodes → Differ book nodes → fold put_node book nodes ≡ book ++ nodes
-all_added book [] h cross = sym (append-nil book)
-all_added book (node ∷ nodes) h cross =
-    let absent : list_any (is_node node) book ≡ false = list_any_none (is_node node) book (λ i d lt. false_from_ne_true (is_node node (get_or book i d)) (λ t. cross i d lt 0 d (omega arith) (sym (node_known node (get_or book i d) t)))) in
-    let added : put_node book node ≡ book ++ node ∷ [] = rw absent refl in
-    ap (λ b. fold put_node b nodes) added
-    ∙ all_added (book ++ node ∷ []) nodes (λ i j d lt within. h (suc i) (suc j) d (omega arith) (omega arith))
-    (differ-left book (node ∷ []) nodes (λ i d lt j e below. cross i d lt (suc j) e (omega arith)) (one_differs node nodes (λ j e below. h 0 (suc j) e (omega arith) (omega arith))))
-    ∙ append_assoc book (node ∷ []) nodes
-  where
-    one_differs : (node : Node) (nodes : List Node) → All (λ y. node ≢ y) nodes → Differ (node ∷ []) nodes
-    one_differs node nodes h zero d lt = h
-    one_differs node nodes h (suc i) d lt = absurd (omega arith)
-
--- the book of all nodes
-pub book_is : (records : Records) → AreApart records → fold put_node [] (nodes_of records) ≡ nodes_of records
-book_is records apart = all_added [] (nodes_of records) (nodes_apart records apart) (λ i d lt. absurd (omega arith))

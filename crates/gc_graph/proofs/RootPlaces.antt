@@ -1,10 +1,10 @@
 -- Places of rows, and what roots reference.
-use Rattle.std.proofs.Common.{◌≡◌, ℕ, suc, ◌+◌, ◌<◌, Bool, true, false, List, [], ◌∷◌, ◌++◌, map, length, filter, fold, get_or, take, refl, sym, ap, ◌∙◌, arith, ℤ, append_assoc, Bor, if◌then◌else◌}
+use Rattle.std.proofs.Common.{◌≡◌, ℕ, suc, ◌+◌, ◌<◌, Bool, true, false, List, [], ◌∷◌, ◌++◌, map, length, filter, get_or, take, refl, sym, ap, ◌∙◌, arith, ℤ, append_assoc, Bor, if◌then◌else◌}
 use Rattle.std.specs.List.{flat_map}
 use Rattle.std.proofs.lemmas.List.{length-take-le}
 use Rattle.meta_types.specs.Paths.{Thing, is_root}
 use Rattle.gc_graph.specs.declared.node.Node.{Node}
-use Rattle.gc_graph.specs.Built.{put_node, targets_in, root_targets, numbers_in, places, root_places}
+use Rattle.gc_graph.specs.Built.{targets_in, root_targets, numbers_in, places, root_places}
 use Rattle.std.proofs.lemmas.List.{map-append}
 use Rattle.meta_types.specs.Text.{Text}
 use Rattle.meta_types.specs.declared.resource.Mode.{Mode}
@@ -67,10 +67,6 @@ root_targets_of profile at book thing (row ∷ rows) = go (is_root profile at (t
         → (if b then targets_in book (thing row) else []) ++ flat_map (λ row. root_targets profile at book (thing row)) rows ≡ flat_map (targets_in book) (if b then thing row ∷ filter (is_root profile at) (map thing rows) else filter (is_root profile at) (map thing rows))
     go true e = ap (λ rest. targets_in book (thing row) ++ rest) e
     go false e = e
-
-pub fold-append : (book xs ys : List Node) → fold put_node (fold put_node book xs) ys ≡ fold put_node book (xs ++ ys)
-fold-append book [] ys = refl
-fold-append book (x ∷ xs) ys = fold-append (put_node book x) xs ys
 
 -- one resource more
 pub resource_step : (book : List Node) (ns : Text) (mode : Mode) (start now new : List ℕ) (resources : List (Bor Resource)) (i : ℕ) (r : Bor Resource) → i < length resources → r ≡ get_or resources i r

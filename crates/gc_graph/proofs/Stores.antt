@@ -1,5 +1,5 @@
 -- Whole stores, from the lists that the code made.
-use Rattle.std.proofs.Common.{◌≡◌, ℕ, ◌+◌, ◌*◌, false, List, [], ◌++◌, map, length, filter, fold, refl, sym, ap, ◌∙◌, arith, ℤ, append_assoc, append-nil, Bor, length-append}
+use Rattle.std.proofs.Common.{◌≡◌, ℕ, ◌+◌, ◌*◌, false, List, [], ◌++◌, map, length, filter, refl, sym, ap, ◌∙◌, arith, ℤ, append_assoc, append-nil, Bor, length-append}
 use Rattle.std.specs.List.{flat_map}
 use Rattle.std.proofs.lemmas.List.{map-append, length-map}
 use Rattle.std.proofs.lemmas.List.Elements.{filter-append}
@@ -18,12 +18,11 @@ use Rattle.mark_core.specs.Reach.{rows}
 use Rattle.gc_graph.specs.declared.node.Node.{Node}
 use Rattle.gc_graph.specs.declared.rows.StoreRows.{StoreRows}
 use Rattle.gc_graph.specs.Targets.{ingest_node, content_node, snapshot_node, nodes_of, node_things, root_things}
-use Rattle.gc_graph.specs.Built.{put_node, targets_in, root_targets, places, root_places, AreApart, IsBuilt}
+use Rattle.gc_graph.specs.Built.{targets_in, root_targets, places, root_places, AreApart, IsBuilt}
 use Rattle.gc_graph.specs.Stored.{records_of}
-use Rattle.gc_graph.proofs.NodesApart.{book_is}
 use Rattle.gc_graph.proofs.Things.{map_of_map}
 use Rattle.gc_graph.proofs.Walks.{is_built}
-use Rattle.gc_graph.proofs.RootPlaces.{fold-append, no_places, root_places_of, root_places-append, root_targets_of}
+use Rattle.gc_graph.proofs.RootPlaces.{no_places, root_places_of, root_places-append, root_targets_of}
 
 assoc5 : {X : Type 0} (a b c d e : List X) → (((a ++ b) ++ c) ++ d) ++ e ≡ a ++ ((b ++ c) ++ (d ++ e))
 assoc5 a b c d e = append_assoc ((a ++ b) ++ c) d e ∙ ap (λ l. l ++ (d ++ e)) (append_assoc a b c) ∙ append_assoc a (b ++ c) (d ++ e)
@@ -65,31 +64,6 @@ module _ (stored : StoreRows) (at : ℤ) (book : List Node) where
 
   abbrev snaps : List (Bor SnapRow)
   snaps = stored.snapshots.now
-
-  -- the book as it was filled
-  abbrev Filled : Type 0
-  Filled = book ≡ fold put_node (fold put_node (fold put_node (fold put_node (fold put_node [] (map (λ row. ingest_node row.now) ingests))
-      (map (λ row. content_node Full row.now) contents)) (map (λ row. content_node Flat row.now) contents))
-      (map (λ row. snapshot_node Full row.now) snaps)) (map (λ row. snapshot_node Flat row.now) snaps)
-
-  nodes_filled : AreApart records → Filled → book ≡ nodes_of records
-  nodes_filled apart filled =
-      let i = map (λ (row : Bor IngestRow). ingest_node row.now) ingests in
-      let cf = map (λ (row : Bor ContentRow). content_node Full row.now) contents in
-      let cl = map (λ (row : Bor ContentRow). content_node Flat row.now) contents in
-      let sf = map (λ (row : Bor SnapRow). snapshot_node Full row.now) snaps in
-      let sl = map (λ (row : Bor SnapRow). snapshot_node Flat row.now) snaps in
-      let nodes : i ++ ((cf ++ cl) ++ (sf ++ sl)) ≡ nodes_of records
-      = (λ j. sym (map_of_map ingest_node (λ (row : Bor IngestRow). row.now) ingests) j
-      ++ ((sym (map_of_map (content_node Full) (λ (row : Bor ContentRow). row.now) contents) j ++ sym (map_of_map (content_node Flat) (λ (row : Bor ContentRow). row.now) contents) j)
-      ++ (sym (map_of_map (snapshot_node Full) (λ (row : Bor SnapRow). row.now) snaps) j ++ sym (map_of_map (snapshot_node Flat) (λ (row : Bor SnapRow). row.now) snaps) j))) in
-      filled
-      ∙ ap (λ b. fold put_node (fold put_node (fold put_node b cl) sf) sl) (fold-append [] i cf)
-      ∙ ap (λ b. fold put_node (fold put_node b sf) sl) (fold-append [] (i ++ cf) cl)
-      ∙ ap (λ b. fold put_node b sl) (fold-append [] ((i ++ cf) ++ cl) sf)
-      ∙ fold-append [] (((i ++ cf) ++ cl) ++ sf) sl
-      ∙ ap (fold put_node []) (assoc5 i cf cl sf sl ∙ nodes)
-      ∙ book_is records apart
 
   -- one kind of borrowed rows
   edged : {Row X : Type 0} (thing : X → Thing) (now : Row → X) (rs : List Row) → map (λ row. targets_in book (thing (now row))) rs ≡ map (targets_in book) (map thing (map now rs))
@@ -173,9 +147,9 @@ module _ (stored : StoreRows) (at : ℤ) (book : List Node) where
     Rooted = graph.roots.items ≡ flat_map (targets_in book) (filter (is_root profile at) (root_things records)) ++ root_places profile at 0 (node_things records)
 
     -- what the code made is the graph of the store
-    pub built : AreApart records → Filled → Edged → Rooted → IsBuilt records at book graph
-    built apart filled made rooted_all =
-        is_built records at book graph apart (nodes_filled apart filled) (record {
+    pub built : AreApart records → book ≡ nodes_of records → Edged → Rooted → IsBuilt records at book graph
+    built apart numbered made rooted_all =
+        is_built records at book graph apart numbered (record {
           edges = edges_of_things made;
           roots = rooted_all;
         })

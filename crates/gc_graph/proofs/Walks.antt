@@ -148,7 +148,7 @@ module _ (records : Records) where
     -- ---- range
 
     count_is : node_count graph ≡ length book
-    count_is = sym (length-map graph.edges.items (λ v. v.items)) ∙ ap length g.edges ∙ length-map numbered_things (targets_in book) ∙ sym long
+    count_is = ap length g.edges ∙ length-map numbered_things (targets_in book) ∙ sym long
 
     numbers_below : (a : Thing) → All (λ k. k < node_count graph) (targets_in book a)
     numbers_below a i d lt = let edge = number_edge a (get_or (targets_in book a) i d) (Contains-get_or (targets_in book a) i d lt) in omega (arith, edge.0, count_is, long)

@@ -1,6 +1,6 @@
 -- The graph of a store. Ours, unless a source stands beside.
 use Rattle.std.specs.Prelude.{◌≡◌, Bool, ℕ, ◌≢◌, suc, AllPairs, List, [], ◌∷◌, ◌++◌, map, length, filter, position, Option, Some, if◌then◌else◌, ℤ, Contains, ◌↔◌}
-use Rattle.std.specs.List.{flat_map, filter_map, list_any}
+use Rattle.std.specs.List.{flat_map, filter_map}
 use Rattle.meta_types.specs.Rows.{content_key, ingest_key, snap_key}
 use Rattle.meta_types.specs.Rows.{Records}
 use Rattle.meta_types.specs.Paths.{Thing, things, is_root, IsReached}
@@ -59,7 +59,3 @@ pub record IsBuilt (records : Records) (at : ℤ) (book : List Node) (graph : Gr
   pub count : node_count graph ≡ length book
   -- a number is reached exactly where a path ends in its thing
   pub each : (thing : Thing) (node : Node) (n : ℕ) → Contains (things records) thing → node_of thing ≡ Some node → number_of book node ≡ Some n → Reached graph n ↔ IsReached records at thing
-
--- the book with one more node, unless it has it
-abbrev pub put_node : List Node → Node → List Node
-put_node book node = if list_any (is_node node) book then book else book ++ node ∷ []

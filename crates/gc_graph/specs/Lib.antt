@@ -2,5 +2,6 @@ pub mod Nodes
 pub mod Targets
 pub mod Built
 pub mod Marked
+pub mod Numbers
 pub mod Stored
 pub mod Laws

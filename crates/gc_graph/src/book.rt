@@ -1,73 +1,132 @@
 //! The numbers of nodes.
-ghost use Rattle.std.specs.Prelude.{◌≡◌, ◌+◌, ◌<◌, ◌≤◌, length, [], ◌∷◌, IsOk, IfOk, OnOk, OnErr, IfSome, is_some, slice_get, option_copied};
+ghost use Rattle.std.specs.Prelude.{◌≡◌, None, IfOk, slice_get};
+ghost use Rattle.meta_types.specs.Faults.{Refuses};
+ghost use Rattle.meta_types.specs.declared.resource.Mode.TheVariants.{Full, Flat};
+ghost use Rattle.meta_types.specs.declared.resource.Resource.TheVariants.{Content, Snapshot, Ingest};
 ghost use Rattle.gc_graph.specs.Nodes.{AreAllowed};
-ghost use Rattle.gc_graph.specs.Built.{number_of, put_node};
+ghost use Rattle.gc_graph.specs.Targets.{node, nodes_of, resource_mode};
+ghost use Rattle.gc_graph.specs.Built.{number_of};
+ghost use Rattle.gc_graph.specs.Stored.{records_of, IsSmall, AreLent};
 
 use crate::node::Node;
-use indexmap::IndexSet;
-use std::alloc::{AllocError, AllocFailed, Global};
+use crate::numbers::{content_number, flat_ingest_number, ingest_number, node_at, snapshot_number};
+use crate::rows::StoreRows;
+use crate::texts::tell_rows;
+use meta_types::{Digest, Fault, Mode, Name, Resource, ShortName};
 use std::marker::Model;
 
-/// Nodes, each with a number: contracts see the list of the nodes in the order of their numbers.
+/// The numbers of a store's nodes: contracts see the list of the nodes in the order of their
+/// numbers. It holds no node, since a number follows from the place of its row.
 #[derive(Drop)]
-pub struct NodeBook {
-    nodes: IndexSet<Node>,
+pub struct NodeBook<'a> {
+    rows: StoreRows<'a>,
 }
 
-impl Model for NodeBook {
-    ghost use Rattle.std.specs.Prelude.{List, length, ◌≤◌};
+impl<'a> Model for NodeBook<'a> {
+    ghost use Rattle.std.specs.Prelude.{List};
     ghost use Rattle.gc_graph.specs.declared.node.Node.{Node};
+    ghost use Rattle.gc_graph.specs.Targets.{nodes_of};
+    ghost use Rattle.gc_graph.specs.Stored.{records_of, HaveNumbers};
 
     ghost Value = { List Node };
 
-    ghost view = { λ b. b.nodes.keys };
+    ghost view = { λ b. nodes_of (records_of b.rows) };
 
-    ghost use Rattle.gc_graph.specs.Nodes.{AreAllowed};
-
-    ghost invariant = { λ b. (length b.nodes.keys ≤ 16777216) × AreAllowed b.nodes.keys };
+    ghost invariant = { λ b. HaveNumbers b.rows };
 }
 
-impl NodeBook {
-    /// No nodes, and room for as many.
-    pub(crate) fn with_room(alloc: Global, count: usize) -> Result<NodeBook, AllocError>
-        ensures { IfOk result (λ b. b ≡ []) }
+impl<'a> NodeBook<'a> {
+    // The numbers of the nodes of these rows.
+    pub(crate) fn new(rows: StoreRows<'a>) -> NodeBook<'a>
+        requires small { IsSmall rows }
+        requires lent { AreLent rows }
+        ensures { result ≡ nodes_of (records_of rows.entry) }
     {
-        Ok(NodeBook {
-            nodes: IndexSet::with_capacity(alloc, count)?,
-        })
-    }
-
-    /// Gives the node the next number, unless it has one.
-    pub(crate) fn add(&mut self, node: Node) -> Result<(), AllocFailed<Node>>
-        requires { length self.old < 16777216 }
-        ensures added { OnOk result (self.new ≡ put_node self.old node) }
-    {
-        node.tell();
-        self.nodes.insert(node)?;
-        Ok(())
+        tell_rows(&rows);
+        NodeBook { rows }
     }
 
     // Tells a proof that the texts of its nodes are allowed.
     pub(crate) fn tell(&self)
         ensures { AreAllowed self.now }
     {
-        let _nodes = &self.nodes;
+        let _rows = &self.rows;
     }
 
-    /// The number of a node.
+    /// The number of a node. It takes no memory.
     pub fn number(&self, node: &Node) -> Option<u32>
         ensures number { result ≡ number_of self.now node.now }
     {
-        match self.nodes.get_index_of(node) {
-            Some(place) => Some(place as u32),
-            None => None,
+        match &node.resource {
+            Resource::Content(digest) => self.content_number(&node.ns, digest, node.mode),
+            Resource::Snapshot(snapshotter, name) => {
+                self.snapshot_number(&node.ns, snapshotter, name, node.mode)
+            }
+            Resource::Ingest(name) => match node.mode {
+                Mode::Full => self.ingest_number(&node.ns, name),
+                Mode::Flat => self.flat_ingest_number(&node.ns, name),
+            },
         }
     }
 
-    /// The node of a number.
-    pub fn resource(&self, number: u32) -> Option<&Node>
-        ensures { option_copied result ≡ slice_get self.now number }
+    // The number of an ingest.
+    pub(crate) fn ingest_number(&self, ns: &ShortName, name: &Name) -> Option<u32>
+        ensures { result ≡ number_of self.now (node ns.now (Ingest name.now) Full) }
     {
-        self.nodes.get_index(number as usize)
+        ingest_number(&self.rows, ns, name)
+    }
+
+    // An ingest has no number in flat.
+    fn flat_ingest_number(&self, ns: &ShortName, name: &Name) -> Option<u32>
+        ensures { result ≡ number_of self.now (node ns.now (Ingest name.now) Flat) }
+    {
+        flat_ingest_number(&self.rows, ns, name)
+    }
+
+    // The number of content in a mode.
+    pub(crate) fn content_number(&self, ns: &ShortName, digest: &Digest, mode: Mode) -> Option<u32>
+        ensures { result ≡ number_of self.now (node ns.now (Content digest.now) mode) }
+    {
+        content_number(&self.rows, ns, digest, mode)
+    }
+
+    // The number of a snapshot in a mode.
+    pub(crate) fn snapshot_number(
+        &self,
+        ns: &ShortName,
+        snapshotter: &ShortName,
+        name: &Name,
+        mode: Mode,
+    ) -> Option<u32>
+        ensures { result ≡ number_of self.now (node ns.now (Snapshot snapshotter.now name.now) mode) }
+    {
+        snapshot_number(&self.rows, ns, snapshotter, name, mode)
+    }
+
+    // The number of a resource in a mode; an ingest has one mode.
+    pub(crate) fn resource_number(
+        &self,
+        ns: &ShortName,
+        resource: &Resource,
+        mode: Mode,
+    ) -> Option<u32>
+        ensures { result ≡ number_of self.now
+            (node ns.now resource.now (resource_mode mode resource.now)) }
+    {
+        match resource {
+            Resource::Content(digest) => self.content_number(ns, digest, mode),
+            Resource::Snapshot(snapshotter, name) => {
+                self.snapshot_number(ns, snapshotter, name, mode)
+            }
+            Resource::Ingest(name) => self.ingest_number(ns, name),
+        }
+    }
+
+    /// The node of a number, made from its row: it shares the row's texts.
+    pub fn resource(&self, number: u32) -> Result<Option<Node>, Fault>
+        ensures fault { Refuses result None }
+        ensures ok { IfOk result (λ node. node ≡ slice_get self.now number) }
+    {
+        node_at(&self.rows, number as usize)
     }
 }

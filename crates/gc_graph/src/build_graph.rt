@@ -1,5 +1,5 @@
 //! The whole graph.
-ghost use Rattle.std.specs.Prelude.{◌≡◌, ◌+◌, ◌*◌, ◌≤◌, ◌++◌, [], map, filter, fold, length, None, IfOk, not};
+ghost use Rattle.std.specs.Prelude.{◌≡◌, ◌+◌, ◌*◌, ◌≤◌, ◌++◌, map, filter, length, None, IfOk, not};
 ghost use Rattle.std.specs.List.{flat_map};
 ghost use Rattle.meta_types.specs.Faults.{Refuses, unless};
 ghost use Rattle.meta_types.specs.Limits.{is_too_large};
@@ -8,23 +8,22 @@ ghost use Rattle.meta_types.specs.Reports.{ignored_of, ignored_images_of};
 ghost use Rattle.meta_types.specs.Paths.{image, container, lease, ingest, content, snapshot, ingest_holds_itself, is_root};
 ghost use Rattle.meta_types.specs.declared.fault.Fault.TheVariants.{FailedPrecondition};
 ghost use Rattle.meta_types.specs.declared.resource.Mode.TheVariants.{Full, Flat};
-ghost use Rattle.gc_graph.specs.Targets.{ingest_node, content_node, snapshot_node, node_things, root_things};
-ghost use Rattle.gc_graph.specs.Built.{put_node, targets_in, root_targets, root_places, places, AreApart, IsBuilt};
-ghost use Rattle.gc_graph.specs.Stored.{records_of, IsSmall};
+ghost use Rattle.gc_graph.specs.Targets.{node_things, root_things};
+ghost use Rattle.gc_graph.specs.Built.{targets_in, root_targets, root_places, places, AreApart, IsBuilt};
+ghost use Rattle.gc_graph.specs.Stored.{records_of, IsSmall, AreLent};
 
 use crate::book::NodeBook;
 use crate::edges::{
     push_content, push_flat_content, push_flat_snapshots, push_ingests, push_snapshots,
 };
 use crate::ignored::{Ignored, ignored_images, ignored_leases};
-use crate::nodes::{add_content, add_ingests, add_snapshots};
 use crate::roots::{
     push_containers, push_images, push_leases, push_marked_content, push_marked_snapshots,
     push_own_ingests,
 };
 use crate::rows::StoreRows;
-use mark_core::Graph;
-use meta_types::{Fault, Instant, MAX_NODES, Mode};
+use mark_core::{Graph, TargetLists};
+use meta_types::{Fault, Instant, MAX_NODES};
 use std::alloc::Global;
 use std::thread::Threads;
 
@@ -37,35 +36,16 @@ fn is_too_large(rows: &StoreRows<'_>) -> bool
     (MAX_NODES as u128) < 2 * (content + snapshots) + ingests
 }
 
-fn book_of(alloc: Global, rows: &StoreRows<'_>) -> Result<NodeBook, Fault>
-    requires { IsSmall rows.now }
-    ensures fault { Refuses result None }
-    ensures ok { IfOk result (λ b. b ≡ fold put_node (fold put_node (fold put_node (fold put_node
-        (fold put_node [] (map (λ row. ingest_node row.now) rows.now.ingests.now))
-        (map (λ row. content_node Full row.now) rows.now.content.now))
-        (map (λ row. content_node Flat row.now) rows.now.content.now))
-        (map (λ row. snapshot_node Full row.now) rows.now.snapshots.now))
-        (map (λ row. snapshot_node Flat row.now) rows.now.snapshots.now)) }
-{
-    let count = 2 * (rows.content.len() + rows.snapshots.len()) + rows.ingests.len();
-    let mut book = NodeBook::with_room(alloc, count)?;
-    add_ingests(&mut book, rows.ingests)?;
-    add_content(&mut book, rows.content, Mode::Full)?;
-    add_content(&mut book, rows.content, Mode::Flat)?;
-    add_snapshots(&mut book, rows.snapshots, Mode::Full)?;
-    add_snapshots(&mut book, rows.snapshots, Mode::Flat)?;
-    Ok(book)
-}
-
 fn edges_of(
     rt: &(impl Threads + Sync),
     alloc: Global,
-    book: &NodeBook,
+    book: &NodeBook<'_>,
     rows: &StoreRows<'_>,
-) -> Result<Vec<Vec<u32>>, Fault>
+    workers: usize,
+) -> Result<TargetLists, Fault>
     requires { IsSmall rows.now }
     ensures fault { Refuses result None }
-    ensures ok { IfOk result (λ edges. map (λ v. v.items) edges.items
+    ensures ok { IfOk result (λ edges. edges
         ≡ map (λ row. targets_in book.now (ingest row.now)) rows.now.ingests.now
         ++ map (λ row. targets_in book.now (content Full row.now)) rows.now.content.now
         ++ map (λ row. targets_in book.now (content Flat row.now)) rows.now.content.now
@@ -73,11 +53,11 @@ fn edges_of(
         ++ map (λ row. targets_in book.now (snapshot Flat row.now)) rows.now.snapshots.now) }
 {
     let count = 2 * (rows.content.len() + rows.snapshots.len()) + rows.ingests.len();
-    let mut edges = Vec::with_capacity(alloc, count)?;
+    let mut edges = TargetLists::with_capacity(alloc, count)?;
     push_ingests(alloc, book, rows.ingests, &mut edges)?;
-    push_content(rt, alloc, book, rows.content, &mut edges)?;
+    push_content(rt, alloc, book, rows.content, workers, &mut edges)?;
     push_flat_content(alloc, book, rows.content, &mut edges)?;
-    push_snapshots(rt, alloc, book, rows.snapshots, &mut edges)?;
+    push_snapshots(rt, alloc, book, rows.snapshots, workers, &mut edges)?;
     push_flat_snapshots(alloc, book, rows.snapshots, &mut edges)?;
     Ok(edges)
 }
@@ -85,7 +65,7 @@ fn edges_of(
 // The numbers of what images, containers and leases reference that haven't ended.
 fn held_of(
     alloc: Global,
-    book: &NodeBook,
+    book: &NodeBook<'_>,
     rows: &StoreRows<'_>,
     at: Instant,
 ) -> Result<Vec<u32>, Fault>
@@ -136,7 +116,7 @@ pub struct Starts {
 /// Where the paths of a moment begin. No edge depends on the moment, so one graph serves many.
 pub fn find_starts(
     alloc: Global,
-    book: &NodeBook,
+    book: &NodeBook<'_>,
     rows: &StoreRows<'_>,
     at: Instant,
 ) -> Result<Starts, Fault>
@@ -156,7 +136,7 @@ pub fn find_starts(
 // are roots of their own.
 fn roots_of(
     alloc: Global,
-    book: &NodeBook,
+    book: &NodeBook<'_>,
     rows: &StoreRows<'_>,
     at: Instant,
 ) -> Result<Vec<u32>, Fault>
@@ -188,15 +168,17 @@ fn ignored_of(alloc: Global, rows: &StoreRows<'_>) -> Result<Ignored, Fault>
 
 /// Numbers each ingest, and each row of content and of snapshots in both modes; and makes the graph
 /// of their references. Images, containers and leases give roots. Refused where there are more than
-/// 16,777,216 nodes. Labels of content and of snapshots are read by as many threads as there are
-/// processors; of fewer than 2,048 rows by the calling thread.
-pub fn build(
+/// 16,777,216 nodes. Labels of content and of snapshots are read by at most `workers` threads; with
+/// one worker, or of fewer than 2,048 rows, by the calling thread alone.
+pub fn build<'a>(
     rt: &(impl Threads + Sync),
     alloc: Global,
-    rows: &StoreRows<'_>,
+    rows: &StoreRows<'a>,
     at: Instant,
-) -> Result<(NodeBook, Graph, Ignored), Fault>
-    requires { AreApart (records_of rows.now) }
+    workers: usize,
+) -> Result<(NodeBook<'a>, Graph, Ignored), Fault>
+    requires apart { AreApart (records_of rows.now) }
+    requires lent { AreLent rows.now }
     ensures fault { Refuses result
         (unless (not (is_too_large (records_of rows.now))) FailedPrecondition) }
     ensures ok { IfOk result (λ r. IsBuilt (records_of rows.now) at.0 r.0 r.1) }
@@ -207,8 +189,8 @@ pub fn build(
     if is_too_large(rows) {
         return Err(Fault::FailedPrecondition);
     }
-    let book = book_of(alloc, rows)?;
-    let edges = edges_of(rt, alloc, &book, rows)?;
+    let book = NodeBook::new(*rows);
+    let edges = edges_of(rt, alloc, &book, rows, workers)?;
     let roots = roots_of(alloc, &book, rows, at)?;
     let ignored = ignored_of(alloc, rows)?;
     Ok((book, Graph { edges, roots }, ignored))

@@ -7,48 +7,39 @@ ghost use Rattle.gc_graph.specs.Targets.{parent_target};
 ghost use Rattle.gc_graph.specs.Built.{numbers_in, targets_in};
 
 use crate::book::NodeBook;
-use crate::node::Node;
-use crate::nodes::{content_node, snapshot_node};
-use crate::parallel::{content_rows, snapshot_rows};
+use crate::parallel::{RowReader, read_rows};
 use crate::refs::{push_labels, push_number};
-use meta_types::{ContentRow, Fault, IngestRow, Mode, Resource, SnapRow};
+use mark_core::TargetLists;
+use meta_types::{ContentRow, Fault, IngestRow, Mode, SnapRow};
 use std::alloc::Global;
 use std::thread::Threads;
 
-fn ingest_targets(alloc: Global, book: &NodeBook, row: &IngestRow) -> Result<Vec<u32>, Fault>
+fn ingest_targets(alloc: Global, book: &NodeBook<'_>, row: &IngestRow) -> Result<Vec<u32>, Fault>
     ensures fault { Refuses result None }
     ensures ok { IfOk result (λ v. v.items ≡ targets_in book.now (ingest row.now)) }
 {
     let mut numbers = Vec::new(alloc);
     if let Some(digest) = &row.expected {
-        let ns = row.ns.copy()?;
-        let resource = Resource::Content(digest.copy()?);
-        let mode = Mode::Full;
-        push_number(book, &Node { ns, resource, mode }, &mut numbers)?;
+        push_number(
+            book.content_number(&row.ns, digest, Mode::Full),
+            &mut numbers,
+        )?;
     }
     Ok(numbers)
 }
 
-pub(crate) fn content_targets(
-    alloc: Global,
-    book: &NodeBook,
-    row: &ContentRow,
-) -> Result<Vec<u32>, Fault>
+fn content_targets(alloc: Global, book: &NodeBook<'_>, row: &ContentRow) -> Result<Vec<u32>, Fault>
     ensures fault { Refuses result None }
     ensures ok { IfOk result (λ v. v.items ≡ targets_in book.now (content Full row.now)) }
 {
     let mut numbers = Vec::new(alloc);
-    if row.labels.entries().is_empty() {
-        return Ok(numbers);
-    }
-    let mut probe = content_node(row, Mode::Full)?;
-    push_labels(alloc, book, &mut probe, &row.labels, &mut numbers)?;
+    push_labels(alloc, book, &row.ns, &row.labels, &mut numbers)?;
     Ok(numbers)
 }
 
 // Adds the number of a snapshot's parent, in the mode of the snapshot.
 fn push_parent(
-    book: &NodeBook,
+    book: &NodeBook<'_>,
     row: &SnapRow,
     mode: Mode,
     numbers: &mut Vec<u32>,
@@ -60,30 +51,28 @@ fn push_parent(
     match &row.parent {
         None => Ok(()),
         Some(name) => {
-            let ns = row.key.ns.copy()?;
-            let snapshotter = row.key.snapshotter.copy()?;
-            let resource = Resource::Snapshot(snapshotter, name.copy()?);
-            push_number(book, &Node { ns, resource, mode }, numbers)
+            let key = &row.key;
+            let number = book.snapshot_number(&key.ns, &key.snapshotter, name, mode);
+            push_number(number, numbers)
         }
     }
 }
 
-pub(crate) fn snapshot_targets(
-    alloc: Global,
-    book: &NodeBook,
-    row: &SnapRow,
-) -> Result<Vec<u32>, Fault>
+fn snapshot_targets(alloc: Global, book: &NodeBook<'_>, row: &SnapRow) -> Result<Vec<u32>, Fault>
     ensures fault { Refuses result None }
     ensures ok { IfOk result (λ v. v.items ≡ targets_in book.now (snapshot Full row.now)) }
 {
     let mut numbers = Vec::new(alloc);
     push_parent(book, row, Mode::Full, &mut numbers)?;
-    let mut probe = snapshot_node(row, Mode::Full)?;
-    push_labels(alloc, book, &mut probe, &row.labels, &mut numbers)?;
+    push_labels(alloc, book, &row.key.ns, &row.labels, &mut numbers)?;
     Ok(numbers)
 }
 
-fn flat_snapshot_targets(alloc: Global, book: &NodeBook, row: &SnapRow) -> Result<Vec<u32>, Fault>
+fn flat_snapshot_targets(
+    alloc: Global,
+    book: &NodeBook<'_>,
+    row: &SnapRow,
+) -> Result<Vec<u32>, Fault>
     ensures fault { Refuses result None }
     ensures ok { IfOk result (λ v. v.items ≡ targets_in book.now (snapshot Flat row.now)) }
 {
@@ -92,58 +81,95 @@ fn flat_snapshot_targets(alloc: Global, book: &NodeBook, row: &SnapRow) -> Resul
     Ok(numbers)
 }
 
+// Adds lists of targets.
+fn push_lists(lists: &[Vec<u32>], edges: &mut TargetLists) -> Result<(), Fault>
+    ensures fault { Refuses result None }
+    ensures ok { OnOk result (edges.new ≡ edges.old ++ map (λ v. v.items) lists.now) }
+{
+    for list in lists {
+        edges.push(list)?;
+    }
+    Ok(())
+}
+
 // Adds the rows of ingests.
 pub(crate) fn push_ingests(
     alloc: Global,
-    book: &NodeBook,
+    book: &NodeBook<'_>,
     rows: &[&IngestRow],
-    edges: &mut Vec<Vec<u32>>,
+    edges: &mut TargetLists,
 ) -> Result<(), Fault>
     ensures fault { Refuses result None }
-    ensures ok { OnOk result (map (λ v. v.items) edges.new.items
-        ≡ map (λ v. v.items) edges.old.items
+    ensures ok { OnOk result (edges.new ≡ edges.old
         ++ map (λ row. targets_in book.now (ingest row.now)) rows.now) }
 {
     for row in rows {
-        edges.push(ingest_targets(alloc, book, row)?)?;
+        edges.push(&ingest_targets(alloc, book, row)?)?;
     }
     Ok(())
+}
+
+/// Reads content in full.
+#[derive(Clone, Copy)]
+struct FullContent<'b, 'a> {
+    book: &'b NodeBook<'a>,
+}
+
+impl<'b, 'a, 'r> RowReader<&'r ContentRow> for FullContent<'b, 'a> {
+    ghost targets_of = { λ reader row. targets_in reader.book.now (content Full row.now) };
+
+    fn targets(&self, alloc: Global, row: &&'r ContentRow) -> Result<Vec<u32>, Fault> {
+        content_targets(alloc, self.book, row)
+    }
+}
+
+/// Reads snapshots in full.
+#[derive(Clone, Copy)]
+struct FullSnapshots<'b, 'a> {
+    book: &'b NodeBook<'a>,
+}
+
+impl<'b, 'a, 'r> RowReader<&'r SnapRow> for FullSnapshots<'b, 'a> {
+    ghost targets_of = { λ reader row. targets_in reader.book.now (snapshot Full row.now) };
+
+    fn targets(&self, alloc: Global, row: &&'r SnapRow) -> Result<Vec<u32>, Fault> {
+        snapshot_targets(alloc, self.book, row)
+    }
 }
 
 // Adds the rows of content in full.
 pub(crate) fn push_content(
     rt: &(impl Threads + Sync),
     alloc: Global,
-    book: &NodeBook,
+    book: &NodeBook<'_>,
     rows: &[&ContentRow],
-    edges: &mut Vec<Vec<u32>>,
+    workers: usize,
+    edges: &mut TargetLists,
 ) -> Result<(), Fault>
     ensures fault { Refuses result None }
-    ensures ok { OnOk result (map (λ v. v.items) edges.new.items
-        ≡ map (λ v. v.items) edges.old.items
+    ensures ok { OnOk result (edges.new ≡ edges.old
         ++ map (λ row. targets_in book.now (content Full row.now)) rows.now) }
 {
-    let mut made = content_rows(rt, alloc, book, rows)?;
-    edges.append(&mut made)?;
+    let made = read_rows(rt, alloc, &FullContent { book }, rows, workers)?;
+    push_lists(&made, edges)?;
     Ok(())
 }
 
 // Adds the rows of content in flat: they reference nothing.
 pub(crate) fn push_flat_content(
     alloc: Global,
-    book: &NodeBook,
+    book: &NodeBook<'_>,
     rows: &[&ContentRow],
-    edges: &mut Vec<Vec<u32>>,
+    edges: &mut TargetLists,
 ) -> Result<(), Fault>
     ensures fault { Refuses result None }
-    ensures ok { OnOk result (map (λ v. v.items) edges.new.items
-        ≡ map (λ v. v.items) edges.old.items
+    ensures ok { OnOk result (edges.new ≡ edges.old
         ++ map (λ row. targets_in book.now (content Flat row.now)) rows.now) }
 {
     // The book is named by the clauses alone.
     let _book = book;
     for _row in rows {
-        edges.push(Vec::new(alloc))?;
+        edges.push(&[])?;
     }
     Ok(())
 }
@@ -152,34 +178,33 @@ pub(crate) fn push_flat_content(
 pub(crate) fn push_snapshots(
     rt: &(impl Threads + Sync),
     alloc: Global,
-    book: &NodeBook,
+    book: &NodeBook<'_>,
     rows: &[&SnapRow],
-    edges: &mut Vec<Vec<u32>>,
+    workers: usize,
+    edges: &mut TargetLists,
 ) -> Result<(), Fault>
     ensures fault { Refuses result None }
-    ensures ok { OnOk result (map (λ v. v.items) edges.new.items
-        ≡ map (λ v. v.items) edges.old.items
+    ensures ok { OnOk result (edges.new ≡ edges.old
         ++ map (λ row. targets_in book.now (snapshot Full row.now)) rows.now) }
 {
-    let mut made = snapshot_rows(rt, alloc, book, rows)?;
-    edges.append(&mut made)?;
+    let made = read_rows(rt, alloc, &FullSnapshots { book }, rows, workers)?;
+    push_lists(&made, edges)?;
     Ok(())
 }
 
 // Adds the rows of snapshots in flat: each references its parent in flat.
 pub(crate) fn push_flat_snapshots(
     alloc: Global,
-    book: &NodeBook,
+    book: &NodeBook<'_>,
     rows: &[&SnapRow],
-    edges: &mut Vec<Vec<u32>>,
+    edges: &mut TargetLists,
 ) -> Result<(), Fault>
     ensures fault { Refuses result None }
-    ensures ok { OnOk result (map (λ v. v.items) edges.new.items
-        ≡ map (λ v. v.items) edges.old.items
+    ensures ok { OnOk result (edges.new ≡ edges.old
         ++ map (λ row. targets_in book.now (snapshot Flat row.now)) rows.now) }
 {
     for row in rows {
-        edges.push(flat_snapshot_targets(alloc, book, row)?)?;
+        edges.push(&flat_snapshot_targets(alloc, book, row)?)?;
     }
     Ok(())
 }

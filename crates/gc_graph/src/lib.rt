@@ -9,14 +9,16 @@ mod ignored;
 pub mod laws;
 mod node;
 mod nodes;
+mod numbers;
 mod parallel;
 mod refs;
 mod roots;
 mod rows;
+mod texts;
 
 pub use book::NodeBook;
 pub use build_graph::{Starts, build, find_starts};
 pub use ends::{image_stays, lease_stays};
 pub use ignored::Ignored;
 pub use node::Node;
-pub use rows::StoreRows;
+pub use rows::{RowPlaces, StoreRows};

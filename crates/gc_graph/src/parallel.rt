@@ -1,59 +1,51 @@
-//! Rows of the graph, read by as many threads as there are processors.
-ghost use Rattle.std.specs.Prelude.{◌≡◌, map, None, IfOk};
+//! Rows of the graph, read by several threads.
+ghost use Rattle.std.specs.Prelude.{◌≡◌, ℕ, List, map, None, IfOk};
 ghost use Rattle.meta_types.specs.Faults.{Refuses};
-ghost use Rattle.meta_types.specs.Paths.{content, snapshot};
-ghost use Rattle.meta_types.specs.declared.resource.Mode.TheVariants.{Full};
-ghost use Rattle.gc_graph.specs.Built.{targets_in};
 
-use crate::book::NodeBook;
-use crate::edges::{content_targets, snapshot_targets};
-use meta_types::{ContentRow, Fault, SnapRow};
+use meta_types::Fault;
+use rayon::iter::plumbing::LEAST_PIECE;
 use rayon::prelude::*;
 use std::alloc::Global;
 use std::thread::Threads;
 
-// The targets of each row of content in full. Fewer than 2,048 rows are read by the calling thread
-// alone, since rayon's least piece has 1,024.
-pub(crate) fn content_rows(
-    rt: &(impl Threads + Sync),
-    alloc: Global,
-    book: &NodeBook,
-    rows: &[&ContentRow],
-) -> Result<Vec<Vec<u32>>, Fault>
-    ensures fault { Refuses result None }
-    ensures ok { IfOk result (λ edges. map (λ v. v.items) edges.items
-        ≡ map (λ row. targets_in book.now (content Full row.now)) rows.now) }
-{
-    let made = rows
-        .par_iter()
-        .map(
-            |row: &&ContentRow| -> Result<Vec<u32>, Fault>
-                ensures { Refuses result None × IfOk result (λ v. v.items
-                    ≡ targets_in book.entry.now (content Full row.now.now)) }
-            { content_targets(alloc, book, row) },
-        )
-        .collect::<Result<Vec<Vec<u32>>, Fault>>(rt, alloc)?;
-    made
+/// A reader of what a row references.
+pub(crate) trait RowReader<T>: Sync {
+    /// The numbers of what the row references.
+    ghost targets_of: { Self → T → List ℕ };
+
+    /// The numbers of what the row references.
+    fn targets(&self, alloc: Global, row: &T) -> Result<Vec<u32>, Fault>
+        ensures fault { Refuses result None }
+        ensures ok { IfOk result (λ v. v.items ≡ targets_of self.now row.now) };
 }
 
-// The same of each snapshot in full.
-pub(crate) fn snapshot_rows(
+// The least length of a piece: pieces of that length are no more than the workers.
+fn least_piece(count: usize, workers: usize) -> usize {
+    count.div_ceil(workers.max(1)).max(LEAST_PIECE)
+}
+
+// The targets of each row, read in pieces by at most so many threads, and joined in order. One
+// worker is the calling thread, and so are several where there are fewer than 2,048 rows.
+pub(crate) fn read_rows<T: Sync, R: RowReader<T>>(
     rt: &(impl Threads + Sync),
     alloc: Global,
-    book: &NodeBook,
-    rows: &[&SnapRow],
+    reader: &R,
+    rows: &[T],
+    workers: usize,
 ) -> Result<Vec<Vec<u32>>, Fault>
     ensures fault { Refuses result None }
     ensures ok { IfOk result (λ edges. map (λ v. v.items) edges.items
-        ≡ map (λ row. targets_in book.now (snapshot Full row.now)) rows.now) }
+        ≡ map (R.targets_of reader.now) rows.now) }
 {
+    let least = least_piece(rows.len(), workers);
     let made = rows
         .par_iter()
+        .with_min_len(least)
         .map(
-            |row: &&SnapRow| -> Result<Vec<u32>, Fault>
+            |row: &T| -> Result<Vec<u32>, Fault>
                 ensures { Refuses result None × IfOk result (λ v. v.items
-                    ≡ targets_in book.entry.now (snapshot Full row.now.now)) }
-            { snapshot_targets(alloc, book, row) },
+                    ≡ R.targets_of reader.entry.now row.now) }
+            { reader.targets(alloc, row) },
         )
         .collect::<Result<Vec<Vec<u32>>, Fault>>(rt, alloc)?;
     made

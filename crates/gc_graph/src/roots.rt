@@ -9,7 +9,6 @@ ghost use Rattle.gc_graph.specs.Built.{numbers_in, targets_in, root_targets, pla
 
 use crate::book::NodeBook;
 use crate::ends::{image_stays, ingest_holds_itself, lease_stays};
-use crate::node::Node;
 use crate::refs::{push_labels, push_number};
 use gc_labels::{is_flat, is_root};
 use lease_book::Lease;
@@ -21,7 +20,7 @@ use std::alloc::Global;
 
 fn push_image(
     alloc: Global,
-    book: &NodeBook,
+    book: &NodeBook<'_>,
     row: &ImageRow,
     roots: &mut Vec<u32>,
 ) -> Result<(), Fault>
@@ -29,20 +28,13 @@ fn push_image(
     ensures ok { OnOk result (roots.new.items
         ≡ roots.old.items ++ targets_in book.now (image row.now)) }
 {
-    let ns = row.ns.copy()?;
-    let resource = Resource::Content(row.target.copy()?);
-    let mut target = Node {
-        ns,
-        resource,
-        mode: Mode::Full,
-    };
-    push_number(book, &target, roots)?;
-    push_labels(alloc, book, &mut target, &row.labels, roots)
+    push_number(book.content_number(&row.ns, &row.target, Mode::Full), roots)?;
+    push_labels(alloc, book, &row.ns, &row.labels, roots)
 }
 
 fn push_image_root(
     alloc: Global,
-    book: &NodeBook,
+    book: &NodeBook<'_>,
     row: &ImageRow,
     profile: u8,
     at: Instant,
@@ -62,7 +54,7 @@ fn push_image_root(
 // Adds the numbers of what images reference that haven't ended.
 pub(crate) fn push_images(
     alloc: Global,
-    book: &NodeBook,
+    book: &NodeBook<'_>,
     rows: &[&ImageRow],
     profile: u8,
     at: Instant,
@@ -80,7 +72,7 @@ pub(crate) fn push_images(
 
 fn push_container(
     alloc: Global,
-    book: &NodeBook,
+    book: &NodeBook<'_>,
     row: &ContainerRow,
     roots: &mut Vec<u32>,
 ) -> Result<(), Fault>
@@ -88,35 +80,20 @@ fn push_container(
     ensures ok { OnOk result (roots.new.items
         ≡ roots.old.items ++ targets_in book.now (container row.now)) }
 {
-    match &row.snapshot {
-        Some((snapshotter, key)) => {
-            let ns = row.ns.copy()?;
-            let resource = Resource::Snapshot(snapshotter.copy()?, key.copy()?);
-            let mut probe = Node {
-                ns,
-                resource,
-                mode: Mode::Full,
-            };
-            push_number(book, &probe, roots)?;
-            push_labels(alloc, book, &mut probe, &row.labels, roots)
-        }
-        None => {
-            let ns = row.ns.copy()?;
-            let resource = Resource::Ingest(row.name.copy()?);
-            let mut probe = Node {
-                ns,
-                resource,
-                mode: Mode::Full,
-            };
-            push_labels(alloc, book, &mut probe, &row.labels, roots)
-        }
+    let ns = &row.ns;
+    if let Some((snapshotter, key)) = &row.snapshot {
+        push_number(
+            book.snapshot_number(ns, snapshotter, key, Mode::Full),
+            roots,
+        )?;
     }
+    push_labels(alloc, book, ns, &row.labels, roots)
 }
 
 // Adds the numbers of what containers reference.
 pub(crate) fn push_containers(
     alloc: Global,
-    book: &NodeBook,
+    book: &NodeBook<'_>,
     rows: &[&ContainerRow],
     roots: &mut Vec<u32>,
 ) -> Result<(), Fault>
@@ -130,19 +107,8 @@ pub(crate) fn push_containers(
     Ok(())
 }
 
-// An ingest has one mode.
-fn resource_mode(mode: Mode, resource: &Resource) -> Mode
-    ensures { result ≡ resource_mode mode resource.now }
-{
-    match resource {
-        Resource::Content(_) => mode,
-        Resource::Snapshot(_, _) => mode,
-        Resource::Ingest(_) => Mode::Full,
-    }
-}
-
 fn push_resource(
-    book: &NodeBook,
+    book: &NodeBook<'_>,
     ns: &ShortName,
     mode: Mode,
     resource: &Resource,
@@ -152,14 +118,11 @@ fn push_resource(
     ensures ok { OnOk result (roots.new.items ≡ roots.old.items ++ numbers_in book.now
         (node ns.now resource.now (resource_mode mode resource.now) ∷ [])) }
 {
-    let ns = ns.copy()?;
-    let mode = resource_mode(mode, resource);
-    let resource = resource.copy()?;
-    push_number(book, &Node { ns, resource, mode }, roots)
+    push_number(book.resource_number(ns, resource, mode), roots)
 }
 
 fn push_resources(
-    book: &NodeBook,
+    book: &NodeBook<'_>,
     ns: &ShortName,
     mode: Mode,
     resources: &[&Resource],
@@ -187,7 +150,7 @@ fn lease_mode(row: &Lease) -> Mode
 
 fn push_lease_root(
     alloc: Global,
-    book: &NodeBook,
+    book: &NodeBook<'_>,
     row: &Lease,
     profile: u8,
     at: Instant,
@@ -210,7 +173,7 @@ fn push_lease_root(
 // Adds the numbers of what leases hold that haven't ended.
 pub(crate) fn push_leases(
     alloc: Global,
-    book: &NodeBook,
+    book: &NodeBook<'_>,
     rows: &[&Lease],
     profile: u8,
     at: Instant,

@@ -1,9 +1,10 @@
 //! What a graph is built from.
 
 use lease_book::Lease;
-use meta_types::{ContainerRow, ContentRow, ImageRow, IngestRow, SnapRow};
+use meta_types::{ContainerRow, ContentRow, Digest, ImageRow, IngestRow, Name, SnapRow};
+use row_tables::{ArrivedByNamespace, ArrivedBySnapshotter};
 
-/// The rows of a store, borrowed: each kind in the order of its keys.
+/// The rows of a store, borrowed: each kind as its rows came.
 #[derive(Clone, Copy)]
 pub struct StoreRows<'a> {
     pub images: &'a [&'a ImageRow],
@@ -12,6 +13,16 @@ pub struct StoreRows<'a> {
     pub ingests: &'a [&'a IngestRow],
     pub content: &'a [&'a ContentRow],
     pub snapshots: &'a [&'a SnapRow],
+    /// Where the rows of the last three are found by their keys.
+    pub places: RowPlaces<'a>,
     /// 2 where images expire, else 1.
     pub profile: u8,
+}
+
+/// The tables of the rows that have numbers: a row's place is the same there and in its list.
+#[derive(Clone, Copy)]
+pub struct RowPlaces<'a> {
+    pub ingests: &'a ArrivedByNamespace<Name, IngestRow>,
+    pub content: &'a ArrivedByNamespace<Digest, ContentRow>,
+    pub snapshots: &'a ArrivedBySnapshotter<Name, SnapRow>,
 }

@@ -6,5 +6,5 @@ use Rattle.gc_graph.proofs.edges.push_flat_content.Given as goal
 
 -- the rows so far are there
 abbrev pub invariant-loop-row : goal.invariant-loop-row
-invariant-loop-row l = map (λ v. v.items) l.edges.items ≡ map (λ v. v.items) l.fn.edges.items
+invariant-loop-row l = l.edges ≡ l.fn.edges
     ++ map (λ row. targets_in l.book (content Flat row.now)) (take l._row-index l.rows)

@@ -8,21 +8,15 @@ use Rattle.gc_graph.proofs.refs.push_labels.Goals as goal
 
 pub loop-entry-preserved : goal.loop-entry-preserved
 loop-entry-preserved c =
-    let inv = c.loop-entry.invariant in
     let book = c.args.book.now in
-    let ns = c.args.probe.now.ns in
+    let ns = c.args.ns.now in
     let item = c.entry-item.result in
     let label : Text × Text = (string_bytes item.0, string_bytes item.1) in
-    let same1 : c.push_label_content.new.probe.ns ≡ ns = c.in_ok-push_label_content.ensures.ns ∙ inv.ns in
     let a : c.push_label_content.new.numbers.items ≡ c.loop-entry.numbers.items ++ numbers_in book (content_target ns label)
-    = c.in_ok-push_label_content.ensures.ok ∙ (λ i. c.loop-entry.numbers.items ++ numbers_in book (content_target (inv.ns i) (c.deref.ensures i, c.deref-in-loop-entry.ensures i))) in
+    = c.in_ok-push_label_content.ensures.ok ∙ (λ i. c.loop-entry.numbers.items ++ numbers_in book (content_target ns (c.deref.ensures i, c.deref-in-loop-entry.ensures i))) in
     let b : c.push_label_snapshot.new.numbers.items ≡ c.push_label_content.new.numbers.items ++ numbers_in book (snapshot_target ns label)
-    = c.in_ok-push_label_snapshot.ensures.ok ∙ (λ i. c.push_label_content.new.numbers.items ++ numbers_in book (snapshot_target (same1 i) (c.deref-in-loop-entry-2.ensures i, c.deref-in-loop-entry-3.ensures i))) in
-    record {
-      ns = c.in_ok-push_label_snapshot.ensures.ns ∙ same1;
-      mode = c.in_ok-push_label_snapshot.ensures.mode ∙ c.in_ok-push_label_content.ensures.mode ∙ inv.mode;
-      numbers = label_step book ns c.args.numbers.now.items c.loop-entry.numbers.items c.push_label_content.new.numbers.items c.push_label_snapshot.new.numbers.items
-          (texts_of (take c.loop-entry.entry-index c.entries-entries.result.now)) label inv.numbers a b
-          ∙ ap (λ es. c.args.numbers.now.items ++ numbers_in book (label_targets ns es))
-          (sym (ap texts_of (take_next c.entries-entries.result.now c.loop-entry.entry-index item c.loop-entry-test.true c.entry-item.is) ∙ map-append (λ e. (string_bytes e.0, string_bytes e.1)) (take c.loop-entry.entry-index c.entries-entries.result.now) (item ∷ [])));
-    }
+    = c.in_ok-push_label_snapshot.ensures.ok ∙ (λ i. c.push_label_content.new.numbers.items ++ numbers_in book (snapshot_target ns (c.deref-in-loop-entry-2.ensures i, c.deref-in-loop-entry-3.ensures i))) in
+    label_step book ns c.args.numbers.now.items c.loop-entry.numbers.items c.push_label_content.new.numbers.items c.push_label_snapshot.new.numbers.items
+    (texts_of (take c.loop-entry.entry-index c.entries-entries.result.now)) label c.loop-entry.invariant a b
+    ∙ ap (λ es. c.args.numbers.now.items ++ numbers_in book (label_targets ns es))
+    (sym (ap texts_of (take_next c.entries-entries.result.now c.loop-entry.entry-index item c.loop-entry-test.true c.entry-item.is) ∙ map-append (λ e. (string_bytes e.0, string_bytes e.1)) (take c.loop-entry.entry-index c.entries-entries.result.now) (item ∷ [])))

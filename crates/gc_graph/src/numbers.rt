@@ -1,0 +1,158 @@
+//! A number is the first of its kind and mode, plus the place of its row.
+ghost use Rattle.std.specs.Prelude.{◌≡◌, ◌<◌, length, map, None, Some, IfOk, slice_get};
+ghost use Rattle.meta_types.specs.Faults.{Refuses};
+ghost use Rattle.meta_types.specs.declared.resource.Mode.TheVariants.{Full, Flat};
+ghost use Rattle.meta_types.specs.declared.resource.Resource.TheVariants.{Content, Snapshot, Ingest};
+ghost use Rattle.gc_graph.specs.Targets.{node, ingest_node, content_node, snapshot_node, nodes_of};
+ghost use Rattle.gc_graph.specs.Built.{number_of};
+ghost use Rattle.gc_graph.specs.Numbers.{first_content, first_snapshot};
+ghost use Rattle.gc_graph.specs.Stored.{records_of, IsSmall, AreLent};
+
+use crate::node::Node;
+use crate::nodes::{content_node, ingest_node, snapshot_node};
+use crate::rows::StoreRows;
+use meta_types::{ContentRow, Digest, Fault, IngestRow, Mode, Name, ShortName, SnapRow};
+
+fn first_content(rows: &StoreRows<'_>, mode: Mode) -> usize
+    requires { IsSmall rows.now }
+    ensures { result ≡ first_content mode (records_of rows.now) }
+{
+    match mode {
+        Mode::Full => rows.ingests.len(),
+        Mode::Flat => rows.ingests.len() + rows.content.len(),
+    }
+}
+
+fn first_snapshot(rows: &StoreRows<'_>, mode: Mode) -> usize
+    requires { IsSmall rows.now }
+    ensures { result ≡ first_snapshot mode (records_of rows.now) }
+{
+    let first = rows.ingests.len() + 2 * rows.content.len();
+    match mode {
+        Mode::Full => first,
+        Mode::Flat => first + rows.snapshots.len(),
+    }
+}
+
+/// The number of an ingest.
+pub(crate) fn ingest_number(rows: &StoreRows<'_>, ns: &ShortName, name: &Name) -> Option<u32>
+    requires small { IsSmall rows.now }
+    requires lent { AreLent rows.now }
+    ensures { result ≡ number_of (nodes_of (records_of rows.now))
+        (node ns.now (Ingest name.now) Full) }
+{
+    match rows.places.ingests.place(ns, name) {
+        Some(place) => Some(place as u32),
+        None => None,
+    }
+}
+
+/// An ingest has no number in flat.
+pub(crate) fn flat_ingest_number(rows: &StoreRows<'_>, ns: &ShortName, name: &Name) -> Option<u32>
+    ensures { result ≡ number_of (nodes_of (records_of rows.now))
+        (node ns.now (Ingest name.now) Flat) }
+{
+    // The rows and the texts are named by the clauses alone.
+    let _rows = rows;
+    let _ns = ns;
+    let _name = name;
+    None
+}
+
+/// The number of content in a mode.
+pub(crate) fn content_number(
+    rows: &StoreRows<'_>,
+    ns: &ShortName,
+    digest: &Digest,
+    mode: Mode,
+) -> Option<u32>
+    requires small { IsSmall rows.now }
+    requires lent { AreLent rows.now }
+    ensures { result ≡ number_of (nodes_of (records_of rows.now))
+        (node ns.now (Content digest.now) mode) }
+{
+    let first = first_content(rows, mode);
+    match rows.places.content.place(ns, digest) {
+        Some(place) => Some((first + place) as u32),
+        None => None,
+    }
+}
+
+/// The number of a snapshot in a mode.
+pub(crate) fn snapshot_number(
+    rows: &StoreRows<'_>,
+    ns: &ShortName,
+    snapshotter: &ShortName,
+    name: &Name,
+    mode: Mode,
+) -> Option<u32>
+    requires small { IsSmall rows.now }
+    requires lent { AreLent rows.now }
+    ensures { result ≡ number_of (nodes_of (records_of rows.now))
+        (node ns.now (Snapshot snapshotter.now name.now) mode) }
+{
+    let first = first_snapshot(rows, mode);
+    match rows.places.snapshots.place(ns, snapshotter, name) {
+        Some(place) => Some((first + place) as u32),
+        None => None,
+    }
+}
+
+fn ingest_at(rows: &[&IngestRow], place: usize) -> Result<Node, Fault>
+    requires { place < length rows.now }
+    ensures fault { Refuses result None }
+    ensures ok { IfOk result (λ node. Some node
+        ≡ slice_get (map ingest_node (map (λ row. row.now) rows.now)) place) }
+{
+    Ok(ingest_node(rows[place])?)
+}
+
+fn content_at(rows: &[&ContentRow], place: usize, mode: Mode) -> Result<Node, Fault>
+    requires { place < length rows.now }
+    ensures fault { Refuses result None }
+    ensures ok { IfOk result (λ node. Some node
+        ≡ slice_get (map (content_node mode) (map (λ row. row.now) rows.now)) place) }
+{
+    Ok(content_node(rows[place], mode)?)
+}
+
+fn snapshot_at(rows: &[&SnapRow], place: usize, mode: Mode) -> Result<Node, Fault>
+    requires { place < length rows.now }
+    ensures fault { Refuses result None }
+    ensures ok { IfOk result (λ node. Some node
+        ≡ slice_get (map (snapshot_node mode) (map (λ row. row.now) rows.now)) place) }
+{
+    Ok(snapshot_node(rows[place], mode)?)
+}
+
+/// The node of a number, made from its row.
+pub(crate) fn node_at(rows: &StoreRows<'_>, number: usize) -> Result<Option<Node>, Fault>
+    requires { IsSmall rows.now }
+    ensures fault { Refuses result None }
+    ensures ok { IfOk result (λ node. node ≡ slice_get (nodes_of (records_of rows.now)) number) }
+{
+    let content = rows.ingests.len();
+    if number < content {
+        return Ok(Some(ingest_at(rows.ingests, number)?));
+    }
+    let flat_content = content + rows.content.len();
+    if number < flat_content {
+        return Ok(Some(content_at(rows.content, number - content, Mode::Full)?));
+    }
+    let snapshots = flat_content + rows.content.len();
+    if number < snapshots {
+        let place = number - flat_content;
+        return Ok(Some(content_at(rows.content, place, Mode::Flat)?));
+    }
+    let flat_snapshots = snapshots + rows.snapshots.len();
+    if number < flat_snapshots {
+        let place = number - snapshots;
+        return Ok(Some(snapshot_at(rows.snapshots, place, Mode::Full)?));
+    }
+    let end = flat_snapshots + rows.snapshots.len();
+    if number < end {
+        let place = number - flat_snapshots;
+        return Ok(Some(snapshot_at(rows.snapshots, place, Mode::Flat)?));
+    }
+    Ok(None)
+}
