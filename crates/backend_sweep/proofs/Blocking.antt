@@ -9,7 +9,7 @@ use Rattle.backend_sweep.specs.declared.shard_swept.Removal.TheVariants as R
 use Rattle.backend_sweep.specs.Sweep.{Swept, put_of, with_number, with_parent}
 use Rattle.backend_sweep.proofs.Listing.{truth, push_cases, push_old, push_new}
 
--- one removal, by what it tells of the children that are left
+-- one removal, by its answer on the children that are left
 abbrev pub Tried : Removal → ℕ → List ℕ → List ℕ → Snaps → Snaps → ℕ → ℕ → Type 0
 Tried R.Removed n failed kept m now before after =
     (now ≡ map.remove m n) × (after ≡ before) × ((c : ℕ) → IsChild m n c → (has failed c || has kept c) ≡ false)

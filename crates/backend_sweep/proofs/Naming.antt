@@ -1,4 +1,4 @@
--- The names of what goes, in the order of a report, are those of each shard with children first.
+-- The names of removed objects, in a report's order, are those of each shard with children first.
 use Rattle.std.proofs.Common.{◌≡◌, ℕ, zero, suc, ◌<◌, ◌≤◌, List, [], ◌∷◌, ◌++◌, map, length, Bool, true, false, refl, sym, ◌∙◌, ap, subst, inl, inr, arith}
 use Rattle.std.specs.Prelude.{All, AllPairs, Option, Some, None, IsSome, IsTrue, bytes_eq, find, filter, option_map, option_and_then, Contains, nat_lt, ◌==◌, ◌&&◌, ◌||◌}
 use Rattle.std.specs.List.{list_any}

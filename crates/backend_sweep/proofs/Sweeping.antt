@@ -78,7 +78,7 @@ module _ (list done rest : List ℕ) (n : ℕ) (m0 m : Snaps) (f0 f : ℕ) (r : 
       let some : is_told r c ≡ true = sym (s.sorted c) ∙ then in
       elim (or_cases (has r.removed c) (has r.failed c || has r.kept c) some) [ inl h ↦ absurd (gone c n child h) | inr h ↦ h ]
 
-  -- what a removal tells of the children, said of the beginning
+  -- the answer of a removal on the children, said of the beginning
   no_child : ((c : ℕ) → IsChild m n c → (has r.failed c || has r.kept c) ≡ false) → (q : ℕ) → (has r.failed q || has r.kept q) ≡ true → IsChild m0 n q → ⊥
   no_child none q h child = not_both (has r.failed q || has r.kept q) h (none q (still q n h child))
 

@@ -262,7 +262,7 @@ module _ (zs : List Triple) (tables : Tables) (goes : BackSnap → Bool) (names 
     snap_is : (x : BackSnap) → s ≡ x.snapshotter → back_snap s (x.number, x.parent) ≡ x
     snap_is x e = λ i. record { snapshotter = e i; number = x.number; parent = x.parent }
 
-    -- what goes and was removed doesn't stay
+    -- an object that was removed doesn't stay
     pub gone_here : (x : BackSnap) → Contains all x → s ≡ x.snapshotter → (goes x && is_removed lanes (object_name x)) ≡ not (snapshot_object_stays tables all failed x)
     gone_here x there e =
         let n = x.number in

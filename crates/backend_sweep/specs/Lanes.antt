@@ -30,7 +30,7 @@ pub record SweepsLane (old : Shard) (lane swept : Laned) (new : Shard) : Type 0 
   pub lane_is : swept ≡ record lane { swept = swept.swept }
   pub sweeps : Sweeps lane.list old.snaps new.snaps old.failures new.failures swept.swept
 
--- what the name's lane tells of its number; nothing, where there is no lane
+-- the test of the number by the name's lane; false where it has no lane
 abbrev pub in_lane : (Laned → ℕ → Bool) → List Laned → Text × ℕ → Bool
 in_lane tells lanes name = option_map_or (λ (lane : Laned). tells lane name.1) (find (λ (lane : Laned). bytes_eq lane.snapshotter name.0) lanes) false
 

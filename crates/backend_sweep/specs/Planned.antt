@@ -1,4 +1,4 @@
--- What a sweep asks of a plan. Ours, unless a source stands beside.
+-- What a sweep requires of its plan. Ours, unless a source stands beside.
 use Rattle.std.specs.Prelude.{◌≡◌, ℤ, length}
 use Rattle.meta_types.specs.Rows.{BackLists, State}
 use Rattle.meta_types.specs.Sound.{IsSound}

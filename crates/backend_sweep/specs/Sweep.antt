@@ -34,7 +34,7 @@ Climbs m f (p ∷ ps) = IsChild m p f × Climbs m p ps
 abbrev pub IsAncestor : Snaps → ℕ → ℕ → Type 0
 IsAncestor m a f = (ps : List ℕ) × Climbs m f (ps ++ a ∷ [])
 
--- the number is told as removed, failed or kept
+-- the number is among the removed, the failed or the kept
 abbrev pub is_told : Swept → ℕ → Bool
 is_told r n = has r.removed n || (has r.failed n || has r.kept n)
 

@@ -12,7 +12,7 @@ use Rattle.backend_sweep.specs.declared.room.Room.{Room}
 abbrev pub held_in : List Shard → List Text → List ℕ → BackLists
 held_in shards blobs ingests = record { blobs = blobs; snapshots = all_snaps shards; ingests = ingests }
 
--- what was removed, and what the device failed; and names that there is room for
+-- the removed objects, those that the device failed, and the names that have room
 pub record AllSwept : Type 0 where
   pub removed : BackNames
   pub failed : BackNames

@@ -1,4 +1,4 @@
-//! The sweep of all backends.
+//! The sweep of all backends, by one thread or by several.
 ghost use Rattle.std.specs.Prelude.{◌≡◌, ◌+◌, None, IfOk, OnErr};
 ghost use Rattle.meta_types.specs.Faults.{Refuses, unless};
 ghost use Rattle.meta_types.specs.Limits.{is_worker_count};
@@ -52,7 +52,8 @@ pub fn sweep_plain<S: SnapBackend, B: BlobBackend, I: IngestBackend>(
     Ok(finish(alloc, backends, &lanes, room))
 }
 
-/// Removes what the plan names: shards by so many workers, blobs and ingests on the calling thread.
+/// Removes the objects that the plan names: shards by this number of workers, blobs and ingests on
+/// the calling thread.
 /// Nothing is removed where it is refused.
 pub fn sweep_shards<S: SnapBackend, B: BlobBackend, I: IngestBackend>(
     rt: &(impl Threads + Sync),

@@ -29,7 +29,7 @@ impl Model for NumberSet {
 }
 
 impl NumberSet {
-    /// None, and room for so many.
+    /// No number, and room for this many.
     pub(crate) fn with_room(alloc: Global, room: usize) -> Result<NumberSet, Fault>
         ensures fault { Refuses result None }
         ensures ok { IfOk result (λ s. s ≡ record { numbers = []; room = room }) }
@@ -40,7 +40,7 @@ impl NumberSet {
         })
     }
 
-    /// None, without room. It takes no memory.
+    /// No number, without room. It takes no memory.
     pub(crate) fn none(alloc: Global) -> NumberSet
         ensures { result ≡ record { numbers = []; room = 0 } }
     {
@@ -57,7 +57,7 @@ impl NumberSet {
         self.set.contains(&number)
     }
 
-    /// Adds a number. It takes no memory.
+    /// Adds a number, in the room for it.
     pub(crate) fn add(&mut self, number: u64)
         requires { 0 < self.old.room }
         ensures { self.new ≡ record {

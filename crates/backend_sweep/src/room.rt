@@ -41,7 +41,7 @@ fn is_at<T: Eq>(list: &[T], place: usize, name: &T) -> bool
     }
 }
 
-// Moves each name to where these lists have it, and drops the others. It takes no memory.
+// Moves each name to where these lists have it, and drops the others.
 fn deal<T: Eq + Drop>(
     names: Vec<T>,
     gone: &[T],

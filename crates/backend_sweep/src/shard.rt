@@ -1,4 +1,4 @@
-//! The sweep of one shard.
+//! The sweep of one shard, children before their parents.
 ghost use Rattle.std.specs.Prelude.{◌≡◌, ℕ, false};
 ghost use Rattle.backend_sweep.specs.Shards.{IsHeld, IsChild};
 ghost use Rattle.backend_sweep.specs.Sweep.{Tries, Sweeps, Childfirst, IsRoomFor, Leaves};
@@ -33,7 +33,7 @@ fn try_remove<S: SnapBackend, H: SweepGate>(
 }
 
 /// Removes the snapshots of a list, in its order: children before their parents. What the device
-/// fails stays, and the ancestors of that aren't tried. It takes no memory.
+/// fails stays, and the ancestors of that aren't tried.
 pub fn sweep_shard<S: SnapBackend, H: SweepGate>(
     snapshotter: &str,
     shard: &mut S,

@@ -19,7 +19,7 @@ pub(crate) struct ShardJob<S: SnapBackend> {
     lane: ShardPlan,
 }
 
-/// Room for so many jobs, and for their shards and lanes when these are put back.
+/// Room for a number of jobs, and for their shards and lanes when these are put back.
 #[derive(Drop)]
 pub(crate) struct JobRoom<S: SnapBackend> {
     jobs: Vec<ShardJob<S>>,
@@ -66,7 +66,7 @@ pub(crate) fn lanes_and_room<S: SnapBackend>(
     Ok((lanes, room))
 }
 
-// Puts each shard beside its lane. It takes no memory.
+// Puts each shard beside its lane, in the room for it.
 fn join_jobs<S: SnapBackend>(
     shards: Vec<(ShortName, S)>,
     lanes: Vec<ShardPlan>,
@@ -86,7 +86,7 @@ fn join_jobs<S: SnapBackend>(
     }
 }
 
-// Takes shards and lanes apart again. It takes no memory.
+// Takes shards and lanes apart again, into the room for them.
 fn part_jobs<S: SnapBackend>(
     jobs: Vec<ShardJob<S>>,
     shards: &mut Vec<(ShortName, S)>,
@@ -112,7 +112,7 @@ fn sweep_job<S: SnapBackend, H: SweepGate>(alloc: Global, job: &mut ShardJob<S>,
     sweep_lane(alloc, &mut job.entry.1, &mut job.lane, gate);
 }
 
-// Sweeps each shard by its lane, so many at a time. It takes no memory but for its threads.
+// Sweeps each shard by its lane, on up to `workers` threads. These alone take memory.
 fn sweep_jobs<R: Threads + Sync, S: SnapBackend, H: SweepGate>(
     rt: &R,
     alloc: Global,
@@ -138,7 +138,7 @@ fn sweep_jobs<R: Threads + Sync, S: SnapBackend, H: SweepGate>(
     );
 }
 
-/// Sweeps each shard by its lane, so many at a time. It takes no memory but for its threads.
+/// Sweeps each shard by its lane, on up to `workers` threads. These alone take memory.
 pub(crate) fn sweep_beside<R: Threads + Sync, S: SnapBackend, H: SweepGate>(
     rt: &R,
     alloc: Global,

@@ -171,7 +171,7 @@ fn lane_at<'a>(lanes: &'a [ShardPlan], snapshotter: &ShortName) -> Option<&'a Sh
     None
 }
 
-// Each name goes where its lane has it. It takes no memory.
+// Each name goes where its lane has it.
 fn distribute(
     names: Vec<(ShortName, u64)>,
     lanes: &[ShardPlan],
@@ -195,7 +195,7 @@ fn distribute(
     }
 }
 
-/// Tells what became of each snapshot, by its lane. It takes no memory.
+/// Names the removed and the failed snapshots, by their lanes. It takes no memory.
 pub(crate) fn snapshots_swept(
     alloc: Global,
     lanes: &[ShardPlan],

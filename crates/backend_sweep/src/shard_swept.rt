@@ -49,7 +49,7 @@ impl Model for ShardSwept {
 }
 
 impl ShardSwept {
-    /// Empty lists, each with room for so many numbers.
+    /// Empty lists, each with room for this number of entries.
     pub fn room(alloc: Global, room: usize) -> Result<ShardSwept, Fault>
         ensures fault { Refuses result None }
         ensures ok { IfOk result (λ s. s
@@ -124,7 +124,7 @@ impl ShardSwept {
         self.parents.has(number)
     }
 
-    // Takes no memory.
+    // Puts a number into the list that its removal asks for, in the room for it.
     pub(crate) fn put(&mut self, number: u64, parent: Option<u64>, became: Removal)
         requires { 0 < self.old.room }
         ensures { self.new ≡ put_of self.old number parent became }

@@ -10,7 +10,7 @@ use back_model::{BlobBackend, IngestBackend};
 use meta_types::Digest;
 use std::alloc::Global;
 
-// Removes the blobs. What the device fails stays. It takes no memory.
+// Removes the blobs; one that the device fails stays.
 fn sweep_blobs<B: BlobBackend>(
     backend: &mut B,
     list: Vec<Digest>,
@@ -31,7 +31,7 @@ fn sweep_blobs<B: BlobBackend>(
     }
 }
 
-// Removes the ingests' objects. What the device fails stays. It takes no memory.
+// Removes the ingests' objects; one that the device fails stays.
 fn sweep_ingests<I: IngestBackend>(
     backend: &mut I,
     list: Vec<u64>,
@@ -52,7 +52,7 @@ fn sweep_ingests<I: IngestBackend>(
     }
 }
 
-/// Removes the blobs, and tells what became of each. It takes no memory.
+/// Removes the blobs, and names the removed and the failed ones. It takes no memory.
 pub(crate) fn blobs_swept<B: BlobBackend>(
     alloc: Global,
     backend: &mut B,
@@ -80,7 +80,7 @@ pub(crate) fn blobs_swept<B: BlobBackend>(
     }
 }
 
-/// Removes the ingests' objects, and tells what became of each. It takes no memory.
+/// Removes the ingests' objects, and names the removed and the failed ones. It takes no memory.
 pub(crate) fn ingests_swept<I: IngestBackend>(
     alloc: Global,
     backend: &mut I,

@@ -1,8 +1,17 @@
 -- What is said of the rows that were read holds of the records that they were read from: namespaces and the next number lead no path anywhere.
-use Rattle.std.proofs.Common.{inl, ◌≡◌, ◌≢◌, ℕ, Bool, true, false, not, List, [], ◌∷◌, refl, sym, ◌∙◌, subst, ℤ}
-use Rattle.std.specs.Prelude.{AllPairs, Contains, IsTrue, Option, None, Result, Ok, Err}
+use Rattle.std.proofs.Common.{inl, ◌≡◌, ◌≢◌, ◌+◌, ℕ, Bool, true, false, not, List, [], ◌∷◌, length, refl, sym, ap, ◌∙◌, subst, arith, ℤ}
+use Rattle.std.specs.Prelude.{All, AllPairs, Contains, IsTrue, Option, None, Result, Ok, Err, OnErr, ◌*◌, nat_lt}
+use Rattle.std.specs.List.{IsDistinct, AllByRecursion}
+use Rattle.std.proofs.lemmas.List.Elements.{All-nil}
+use Rattle.std.proofs.lemmas.List.Kept.{AllPairs-cons}
 use Rattle.std.specs.Result.{IsErrAnd}
+use Rattle.meta_types.specs.Keys.{Key, is_key}
 use Rattle.meta_types.specs.Limits.{is_worker_count, is_too_large}
+use Rattle.meta_types.specs.declared.limits.TheConstants.{MAX_NODES}
+use Rattle.row_tables.specs.Arrived.{same_key, keys_equiv}
+use Rattle.row_tables.proofs.JoinedLists.{all_cons}
+use Rattle.table_sweep.specs.InKeyOrder.{records_in_key_order}
+use Rattle.table_sweep.proofs.CameRecords.{as_large}
 use Rattle.meta_types.specs.Reports.{Report}
 use Rattle.meta_types.specs.Steps.{collect_fault}
 use Rattle.meta_types.specs.declared.fault.Fault.{Fault}
@@ -10,15 +19,13 @@ use Rattle.meta_types.specs.declared.fault.Fault.TheVariants.{InvalidArgument, O
 use Rattle.steal_mark.specs.Refusing.{RefusesThreads}
 use Rattle.meta_types.specs.Faults.{least_of, Refuses, unless}
 use Rattle.meta_types.specs.Rows.{Records, BackLists, content_key, ingest_key, snap_key}
-use Rattle.meta_types.specs.Sound.{AreTables}
 use Rattle.meta_types.specs.declared.rows.ContentRow.{ContentRow}
 use Rattle.meta_types.specs.declared.rows.IngestRow.{IngestRow}
 use Rattle.meta_types.specs.declared.rows.SnapRow.{SnapRow}
 use Rattle.gc_graph.specs.Built.{AreApart}
-use Rattle.gc_graph.proofs.NodesApart.{distinct_in_order}
 use Rattle.meta_types.specs.Paths.{Thing, things, is_root, IsPath, TellsReached}
 use Rattle.table_sweep.specs.declared.planning.Plan.{Plan}
-use Rattle.table_sweep.specs.Plans.{IsPlan}
+use Rattle.table_sweep.specs.Plans.{IsPlan, IsPlanOfRows}
 use Rattle.backend_sweep.specs.Planned.{IsPlanOf}
 
 -- ---- paths
@@ -41,12 +48,26 @@ tells_as a b at reached t p h = record {
 
 -- ---- keys
 
--- rows that are read from sound tables have keys of their own
-pub apart_from : (a b : Records) → a.tables.content ≡ b.tables.content → a.tables.ingests ≡ b.tables.ingests → a.tables.snapshots ≡ b.tables.snapshots → AreTables b.tables → AreApart a
-apart_from a b content ingests snapshots tables = record {
-  content = subst (λ (rows : List ContentRow). AllPairs (λ (x y : ContentRow). content_key x ≢ content_key y) rows) (sym content) (distinct_in_order content_key b.tables.content tables.content.in_order);
-  ingests = subst (λ (rows : List IngestRow). AllPairs (λ (x y : IngestRow). ingest_key x ≢ ingest_key y) rows) (sym ingests) (distinct_in_order ingest_key b.tables.ingests tables.ingests.in_order);
-  snapshots = subst (λ (rows : List SnapRow). AllPairs (λ (x y : SnapRow). snap_key x ≢ snap_key y) rows) (sym snapshots) (distinct_in_order snap_key b.tables.snapshots tables.snapshots.in_order);
+other_keys : {Row : Type 0} (key_of : Row → Key) (row : Row) (rows : List Row) → AllByRecursion (λ other. same_key key_of row other ≡ false) rows → All (λ other. key_of row ≢ key_of other) rows
+other_keys key_of row [] apart = All-nil (λ other. key_of row ≢ key_of other)
+other_keys key_of row (next ∷ rows) apart =
+    all_cons (λ other. key_of row ≢ key_of other) next rows
+    (λ e. absurd (cc (sym (keys_equiv.refl (key_of row)) ∙ ap (is_key (key_of row)) e ∙ apart.0)))
+    (other_keys key_of row rows apart.1)
+
+-- of distinct rows no two have one key
+keys_apart : {Row : Type 0} (key_of : Row → Key) (rows : List Row) → IsDistinct (same_key key_of) rows → AllPairs (λ a b. key_of a ≢ key_of b) rows
+unfolding IsDistinct
+keys_apart key_of [] d = λ i j e lt within. absurd (omega (arith, within))
+keys_apart key_of (row ∷ rows) d = AllPairs-cons (λ a b. key_of a ≢ key_of b) row rows (other_keys key_of row rows d.0) (keys_apart key_of rows d.1)
+
+-- rows that are lent of tables as they came have keys of their own
+pub apart_from : (a b : Records) → a.tables.content ≡ b.tables.content → a.tables.ingests ≡ b.tables.ingests → a.tables.snapshots ≡ b.tables.snapshots
+    → IsDistinct (same_key content_key) b.tables.content → IsDistinct (same_key ingest_key) b.tables.ingests → IsDistinct (same_key snap_key) b.tables.snapshots → AreApart a
+apart_from a b content ingests snapshots c g s = record {
+  content = subst (λ (rows : List ContentRow). AllPairs (λ (x y : ContentRow). content_key x ≢ content_key y) rows) (sym content) (keys_apart content_key b.tables.content c);
+  ingests = subst (λ (rows : List IngestRow). AllPairs (λ (x y : IngestRow). ingest_key x ≢ ingest_key y) rows) (sym ingests) (keys_apart ingest_key b.tables.ingests g);
+  snapshots = subst (λ (rows : List SnapRow). AllPairs (λ (x y : SnapRow). snap_key x ≢ snap_key y) rows) (sym snapshots) (keys_apart snap_key b.tables.snapshots s);
 }
 
 -- ---- records that agree but for namespaces and the next number
@@ -84,10 +105,10 @@ moved_is a b h = λ i. record {
   profile = h.profile i;
 }
 
-plan_moved : (a b : Records) (n : ℕ) (back : BackLists) (at : ℤ) (reached : Thing
-    → Bool) (plan : Plan) → IsPlan a n back at reached plan
-    → IsPlan (moved a b) n back at reached plan
-plan_moved a b n back at reached plan p = record {
+plan_moved : (a b : Records) (n : ℕ) (back : BackLists) (at : ℤ) (plan : Plan) → IsPlanOfRows a n back at plan → IsPlanOfRows (moved a b) n back at plan
+plan_moved a b n back at plan p = record {
+  reached = p.reached;
+  tells = tells_as (records_in_key_order a) (records_in_key_order (moved a b)) at p.reached refl refl p.tells;
   masks = record {
     images = p.masks.images;
     leases = p.masks.leases;
@@ -95,25 +116,51 @@ plan_moved a b n back at reached plan p = record {
     content = p.masks.content;
     snapshots = p.masks.snapshots;
   };
-  backend = p.backend;
-  removed = p.removed;
-  kept = p.kept;
-  ignored = p.ignored;
-  ignored_images = p.ignored_images;
-  profile = p.profile;
-  scanned = p.scanned;
+  plan_is = record {
+    backend = p.plan_is.backend;
+    removed = p.plan_is.removed;
+    kept = p.plan_is.kept;
+    ignored = p.plan_is.ignored;
+    ignored_images = p.plan_is.ignored_images;
+    profile = p.plan_is.profile;
+    scanned = p.plan_is.scanned;
+  };
 }
 
 -- a plan of the one is a plan of the other
 pub plan_as : (a b : Records) (n m : ℕ) (back : BackLists) (at : ℤ) (plan : Plan) → Agree a b
-    → n ≡ m → IsPlanOf a n back at plan → IsPlanOf b m back at plan
+    → n ≡ m → IsPlanOfRows a n back at plan → IsPlanOfRows b m back at plan
 plan_as a b n m back at plan h e p =
-    let q : IsPlanOf (moved a b) n back at plan = record {
-      reached = p.reached;
-      tells = tells_as a (moved a b) at p.reached refl refl p.tells;
-      plan_is = plan_moved a b n back at p.reached plan p.plan_is;
-    } in
-    subst (λ (k : ℕ). IsPlanOf b k back at plan) e (subst (λ (r : Records). IsPlanOf r n back at plan) (moved_is a b h) q)
+    subst (λ (k : ℕ). IsPlanOfRows b k back at plan) e (subst (λ (r : Records). IsPlanOfRows r n back at plan) (moved_is a b h) (plan_moved a b n back at plan p))
+
+-- a plan of rows as they came is one of the rows in order
+pub in_some_order : (came records : Records) (n : ℕ) (back : BackLists) (at : ℤ) (plan : Plan) → records_in_key_order came ≡ records → IsPlanOfRows came n back at plan → IsPlanOf records n back at plan
+in_some_order came records n back at plan e p = record {
+  reached = p.reached;
+  tells = subst (λ (r : Records). TellsReached r at p.reached) e p.tells;
+  came = came;
+  in_order = e;
+  masks = p.masks;
+  plan_is = subst (λ (r : Records). IsPlan r n back at p.reached plan) e p.plan_is;
+}
+
+-- so is one of rows that, in order, agree with the records
+pub plan_of_lent : (came records : Records) (n m : ℕ) (back : BackLists) (at : ℤ) (plan : Plan) → Agree (records_in_key_order came) records
+    → n ≡ m → IsPlanOfRows came n back at plan → IsPlanOf records m back at plan
+plan_of_lent came records n m back at plan h e p =
+    in_some_order (moved came records) records m back at plan (moved_is (records_in_key_order came) records h)
+    (subst (λ (k : ℕ). IsPlanOfRows (moved came records) k back at plan) e (plan_moved came records n back at plan p))
+
+-- ---- sizes
+
+-- records whose rows are those of others are as large
+pub large_as : (a b : Records) → a.tables.content ≡ b.tables.content → a.tables.ingests ≡ b.tables.ingests → a.tables.snapshots ≡ b.tables.snapshots → is_too_large a ≡ is_too_large b
+large_as a b content ingests snapshots = λ i. nat_lt MAX_NODES (2 * (length (content i) + length (snapshots i)) + length (ingests i))
+
+-- rows in order are as many as those that came
+pub large_came : (a came : Records) → a.tables.content ≡ came.tables.content → a.tables.ingests ≡ came.tables.ingests → a.tables.snapshots ≡ came.tables.snapshots
+    → is_too_large (records_in_key_order came) ≡ false → is_too_large a ≡ false
+large_came a came content ingests snapshots few = large_as a came content ingests snapshots ∙ sym (as_large came) ∙ few
 
 -- ---- checks
 
@@ -124,11 +171,15 @@ no_fault true true e = absurd cc
 no_fault true false e = (refl, refl)
 no_fault false large e = absurd cc
 
--- a sweep that is refused after the check wanted memory
-pub swept_fails : (X : Type 0) (records : Records) (workers : ℕ) (result : Result Report Fault) (fault : Fault) → collect_fault records workers ≡ None → IsErrAnd result (λ other. other ≡ fault)
-    → Refuses {X = X} (Err fault) (unless (is_worker_count workers) InvalidArgument) → RefusesThreads result (collect_fault records workers)
-swept_fails X records workers (Ok report) fault none same h = absurd same
-swept_fails X records workers (Err other) fault none same h =
-    let allowed = no_fault (is_worker_count workers) (is_too_large records) none in
-    let memory : fault ≡ OutOfMemory = subst (λ (b : Bool). Refuses {X = X} (Err fault) (unless b InvalidArgument)) allowed.0 h in
-    subst (λ (least : Option Fault). RefusesThreads {X = Report} (Err other) least) (sym none) (inl (same ∙ memory))
+-- a sweep that is refused, the workers being allowed, wanted memory
+pub swept_fails : (X : Type 0) (workers : ℕ) (result : Result Report Fault) (fault : Fault) → is_worker_count workers ≡ true → IsErrAnd result (λ other. other ≡ fault)
+    → Refuses {X = X} (Err fault) (unless (is_worker_count workers) InvalidArgument) → RefusesThreads result None
+swept_fails X workers (Ok report) fault allowed same h = absurd same
+swept_fails X workers (Err other) fault allowed same h =
+    let memory : fault ≡ OutOfMemory = subst (λ (b : Bool). Refuses {X = X} (Err fault) (unless b InvalidArgument)) allowed h in
+    inl (same ∙ memory)
+
+-- what holds where a call is refused leads to more there
+pub at_err : {X E : Type 0} (result : Result X E) (A B : Type 0) → (A → B) → OnErr result A → OnErr result B
+at_err (Ok x) A B f h = tt
+at_err (Err e) A B f h = f h

@@ -1,4 +1,5 @@
 pub mod Stores
+pub mod Arrived
 pub mod Planned
 pub mod Refused
 pub mod Removing

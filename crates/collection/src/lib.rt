@@ -1,6 +1,7 @@
 //! A whole collection: the check, the plan by workers' marks, the sweeps, the report.
 #![tactic(auto)]
 
+mod arrived;
 mod checks;
 mod collect_store;
 mod dry;

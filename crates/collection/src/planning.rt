@@ -4,16 +4,22 @@ ghost use Rattle.meta_types.specs.Limits.{is_worker_count, is_too_large};
 ghost use Rattle.meta_types.specs.Sound.{AreTables};
 ghost use Rattle.meta_types.specs.Steps.{collect_fault};
 ghost use Rattle.gc_graph.specs.Built.{AreApart};
-ghost use Rattle.gc_graph.specs.Stored.{records_of};
+ghost use Rattle.gc_graph.specs.Stored.{records_of, AreLent};
 ghost use Rattle.steal_mark.specs.Refusing.{RefusesThreads};
+ghost use Rattle.collection.specs.Arrived.{lent_in};
 ghost use Rattle.collection.specs.Stores.{records_in, lists_in};
+ghost use Rattle.table_sweep.specs.InKeyOrder.{records_in_key_order};
+ghost use Rattle.table_sweep.specs.Plans.{IsPlanOfRows};
 ghost use Rattle.backend_sweep.specs.Planned.{IsPlanOf};
 
 use crate::checks::check;
 use back_model::BackLists;
-use gc_graph::{StoreRows, build};
-use meta_types::{Fault, Instant};
+use gc_graph::{RowPlaces, StoreRows, build};
+use lease_book::Lease;
+use meta_types::{Fault, Instant, Name};
+use object_tables::ArrivedRows;
 use request_core::Records;
+use row_tables::ArrivedByNamespace;
 use std::alloc::Global;
 use std::sync::Wait;
 use std::thread::Threads;
@@ -31,13 +37,14 @@ fn plan_rows<R: Threads + Wait + Sync, G: Gate>(
     gate: &G,
 ) -> Result<Plan, Fault>
     requires apart { AreApart (records_of rows.now) }
+    requires lent { AreLent rows.now }
     requires workers { is_worker_count workers ≡ true }
     requires few { is_too_large (records_of rows.now) ≡ false }
     ensures fault { RefusesThreads result None }
-    ensures ok { IfOk result (λ plan. IsPlanOf (records_of rows.now) namespaces (lists_in back.now)
-        at.0 plan) }
+    ensures ok { IfOk result (λ plan. IsPlanOfRows (records_of rows.now) namespaces
+        (lists_in back.now) at.0 plan) }
 {
-    let (book, graph, ignored) = build(rt, alloc, rows, at)?;
+    let (book, graph, ignored) = build(rt, alloc, rows, at, workers)?;
     let (marks, _lists) = mark_workers(rt, alloc, &graph, workers, gate)?;
     let lists = BackRows {
         blobs: &back.blobs,
@@ -45,6 +52,54 @@ fn plan_rows<R: Threads + Wait + Sync, G: Gate>(
         ingests: &back.ingests,
     };
     let plan = plan_of(alloc, rows, namespaces, &lists, &book, &marks, ignored, at)?;
+    Ok(plan)
+}
+
+// The plan of a collection of rows as they came: they are listed without a sort.
+pub(crate) fn plan_came<R: Threads + Wait + Sync, G: Gate>(
+    rt: &R,
+    alloc: Global,
+    came: &ArrivedRows<'_>,
+    leases: &ArrivedByNamespace<Name, Lease>,
+    profile: u8,
+    namespaces: u64,
+    back: &BackLists,
+    at: Instant,
+    workers: usize,
+    gate: &G,
+) -> Result<Plan, Fault>
+    requires workers { is_worker_count workers ≡ true }
+    requires few { is_too_large (records_in_key_order (lent_in came.now leases.now profile))
+        ≡ false }
+    ensures fault { RefusesThreads result None }
+    ensures ok { IfOk result (λ plan. IsPlanOfRows (lent_in came.now leases.now profile) namespaces
+        (lists_in back.now) at.0 plan) }
+{
+    // The clauses of `len` say that no key stands twice.
+    let _ = came.ingests.len();
+    let _ = came.content.len();
+    let _ = came.snapshots.len();
+    let images = came.images.list_came(alloc)?;
+    let containers = came.containers.list_came(alloc)?;
+    let held = leases.list_came(alloc)?;
+    let ingests = came.ingests.list_came(alloc)?;
+    let content = came.content.list_came(alloc)?;
+    let snapshots = came.snapshots.list_came(alloc)?;
+    let rows = StoreRows {
+        images: &images,
+        containers: &containers,
+        leases: &held,
+        ingests: &ingests,
+        content: &content,
+        snapshots: &snapshots,
+        places: RowPlaces {
+            ingests: came.ingests,
+            content: came.content,
+            snapshots: came.snapshots,
+        },
+        profile,
+    };
+    let plan = plan_rows(rt, alloc, &rows, namespaces, back, at, workers, gate)?;
     Ok(plan)
 }
 
@@ -64,22 +119,20 @@ pub fn plan_store<R: Threads + Wait + Sync, G: Gate>(
         (length records.now.tables.namespaces) (lists_in back.now) at.0 plan) }
 {
     check(records, workers)?;
-    let images = records.tables.image_rows(alloc)?;
-    let containers = records.tables.container_rows(alloc)?;
-    let leases = records.leases.leases(alloc)?;
-    let ingests = records.tables.ingest_rows(alloc)?;
-    let content = records.tables.content_rows(alloc)?;
-    let snapshots = records.tables.snap_rows(alloc)?;
-    let rows = StoreRows {
-        images: &images,
-        containers: &containers,
-        leases: &leases,
-        ingests: &ingests,
-        content: &content,
-        snapshots: &snapshots,
-        profile: records.profile,
-    };
+    let came = records.tables.came();
+    let leases = records.leases.came();
     let namespaces = records.tables.count_ns();
-    let plan = plan_rows(rt, alloc, &rows, namespaces, back, at, workers, gate)?;
+    let plan = plan_came(
+        rt,
+        alloc,
+        &came,
+        leases,
+        records.profile,
+        namespaces,
+        back,
+        at,
+        workers,
+        gate,
+    )?;
     Ok(plan)
 }

@@ -1,20 +1,22 @@
 -- A plan, the sweeps by it and its report are a collection.
-use Rattle.std.proofs.Common.{ℤ, true, false}
+use Rattle.std.proofs.Common.{ℤ, true, false, length}
 use Rattle.meta_types.specs.Rows.{Records, BackLists, State}
 use Rattle.meta_types.specs.Backends.{no_objects}
 use Rattle.meta_types.specs.Collected.{collected_records}
 use Rattle.meta_types.specs.Reports.{Collects, Plans}
 use Rattle.table_sweep.specs.declared.planning.Plan.{Plan}
+use Rattle.table_sweep.specs.InKeyOrder.{records_in_key_order}
+use Rattle.table_sweep.specs.Plans.{IsPlanOfRows}
 use Rattle.backend_sweep.specs.Swept.{AllSwept}
 use Rattle.sweep_report.specs.Whole.{reported, IsPlanOfStore, SweepsBackends, SweepsRecords}
 
 -- each member is the plan's, or that of the sweep
-pub a_swept_plan_is_a_collection : (state : State) (at : ℤ) (plan : Plan) (swept : AllSwept) (records : Records) (back : BackLists) → IsPlanOfStore state at plan → SweepsRecords plan state.records records → SweepsBackends plan state.backends swept back
-    → Collects state at swept.failed (reported plan swept false) (record { records = records; backends = back })
-a_swept_plan_is_a_collection state at plan swept records back p rows objects =
-    let left = collected_records at p.reached state.records in
+pub a_swept_plan_is_a_collection : (came : Records) (backends : BackLists) (at : ℤ) (plan : Plan) (swept : AllSwept) (records : Records) (back : BackLists) → IsPlanOfRows came (length came.tables.namespaces) backends at plan → SweepsRecords plan came records → SweepsBackends plan backends swept back
+    → Collects (record { records = records_in_key_order came; backends = backends }) at swept.failed (reported plan swept false) (record { records = records; backends = back })
+a_swept_plan_is_a_collection came backends at plan swept records back p rows objects =
+    let left = collected_records at p.reached (records_in_key_order came) in
     let s = objects left.tables p.plan_is.backend in
-    let rows_are = rows at p.reached p.plan_is.masks in
+    let rows_are = rows at p.reached p.masks in
     record {
       reached = p.reached;
       tells = p.tells;

@@ -5,6 +5,8 @@ use Rattle.meta_types.specs.Backends.{no_objects}
 use Rattle.meta_types.specs.Reports.{Report, Collects, Plans}
 use Rattle.table_sweep.specs.declared.planning.Plan.{Plan}
 use Rattle.table_sweep.specs.Stays.{AreMasks}
+use Rattle.table_sweep.specs.InKeyOrder.{records_in_key_order}
+use Rattle.table_sweep.specs.Plans.{IsPlanOfRows}
 use Rattle.meta_types.specs.Paths.{Thing}
 use Rattle.meta_types.specs.Collected.{collected_records}
 use Rattle.backend_sweep.specs.Planned.{IsPlanOf}
@@ -32,14 +34,14 @@ IsPlanOfStore state at plan = IsPlanOf state.records (length state.records.table
 abbrev pub SweepsBackends : Plan → BackLists → AllSwept → BackLists → Type 0
 SweepsBackends plan old swept new = SweepsNames plan.backend old new swept
 
--- the records are swept of what the masks don't keep
+-- records that came so are swept of what the masks don't keep: what is left is seen in the order of keys
 abbrev pub SweepsRecords : Plan → Records → Records → Type 0
-SweepsRecords plan old new = (at : ℤ) (reached : Thing → Bool) → AreMasks old at reached plan.masks → new ≡ collected_records at reached old
+SweepsRecords plan came new = (at : ℤ) (reached : Thing → Bool) → AreMasks came at reached plan.masks → new ≡ collected_records at reached (records_in_key_order came)
 
--- a plan of a store, both sweeps by it and the report are a collection, with the failures of the sweep
+-- a plan of records as they came, both sweeps by it and the report are a collection of them in the order of keys, with the failures of the sweep
 abbrev pub ASweptPlanIsACollection : Type 0
-ASweptPlanIsACollection = (state : State) (at : ℤ) (plan : Plan) (swept : AllSwept) (records : Records) (back : BackLists) → IsPlanOfStore state at plan → SweepsRecords plan state.records records → SweepsBackends plan state.backends swept back
-    → Collects state at swept.failed (reported plan swept false) (record { records = records; backends = back })
+ASweptPlanIsACollection = (came : Records) (backends : BackLists) (at : ℤ) (plan : Plan) (swept : AllSwept) (records : Records) (back : BackLists) → IsPlanOfRows came (length came.tables.namespaces) backends at plan → SweepsRecords plan came records → SweepsBackends plan backends swept back
+    → Collects (record { records = records_in_key_order came; backends = backends }) at swept.failed (reported plan swept false) (record { records = records; backends = back })
 
 -- a plan of a store and its report are a dry run
 abbrev pub APlanIsADryRun : Type 0

@@ -1,9 +1,10 @@
 -- What holds of the rows that were read holds of the tables that they were read from.
 use Rattle.std.proofs.Common.{◌≡◌, List, length, ap, ◌∙◌, subst}
-use Rattle.meta_types.specs.Rows.{Tables, LeaseRow}
+use Rattle.meta_types.specs.Rows.{Tables, LeaseRow, snap_key, ingest_key}
 use Rattle.meta_types.specs.Sound.{AreNumbered}
 use Rattle.meta_types.specs.declared.rows.IngestRow.{IngestRow}
 use Rattle.meta_types.specs.declared.rows.SnapRow.{SnapRow}
+use Rattle.row_tables.specs.Arrived.{sorted}
 use Rattle.object_tables.specs.Calls.{kept}
 use Rattle.table_sweep.specs.declared.masks.Masks.{Masks}
 use Rattle.table_sweep.specs.Stays.{FitRows, StayNumbered}
@@ -27,5 +28,5 @@ numbered_as snaps also begun other s g h = subst (λ (l : List IngestRow). AreNu
 -- so do those that stay
 pub stay_as : (from to : Tables) (masks : Masks) → from.ingests ≡ to.ingests → from.snapshots ≡ to.snapshots → StayNumbered from masks → StayNumbered to masks
 stay_as from to masks g s h = record {
-  numbered = numbered_as _ _ _ _ (ap (kept masks.snapshots.items) s) (ap (kept masks.ingests.items) g) h.numbered;
+  numbered = numbered_as _ _ _ _ (ap (λ (l : List SnapRow). sorted snap_key (kept masks.snapshots.items l)) s) (ap (λ (l : List IngestRow). sorted ingest_key (kept masks.ingests.items l)) g) h.numbered;
 }

@@ -9,6 +9,9 @@ pub mod Steps
 pub mod Deep
 pub mod SortedObjects
 pub mod NumberOrder
+pub mod SortedRows
+pub mod NamesOrder
+pub mod CameRecords
 pub mod KeyOrder
 pub mod Goes
 pub mod Planned

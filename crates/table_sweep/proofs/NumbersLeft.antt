@@ -1,9 +1,9 @@
 -- What stays is numbered as all rows were: a snapshot that stays keeps its parent.
-use Rattle.std.proofs.Common.{◌≡◌, ◌<◌, ℕ, Bool, true, not, List, sym, subst, ℤ}
+use Rattle.std.proofs.Common.{◌≡◌, ◌<◌, ℕ, Bool, true, not, List, sym, ap, ◌∙◌, subst, ℤ}
 use Rattle.std.specs.Prelude.{All, Contains, filter, Option, Some, IfSome, IsTrue, ◌==◌, ◌↔◌}
 use Rattle.std.proofs.lemmas.List.Elements.{All-filter, All-contains}
 use Rattle.std.proofs.lemmas.List.Kept.{AllPairs-filter}
-use Rattle.meta_types.specs.Rows.{Records}
+use Rattle.meta_types.specs.Rows.{Records, snap_key, ingest_key}
 use Rattle.meta_types.specs.Paths.{Thing, TellsReached}
 use Rattle.meta_types.specs.Collected.{snapshot_stays, ingest_stays}
 use Rattle.meta_types.specs.Ops.Snapshots.{is_committed}
@@ -15,14 +15,18 @@ use Rattle.meta_types.proofs.TablesAfter.{same_parent}
 use Rattle.mark_core.specs.declared.graph.Graph.{Graph}
 use Rattle.mark_core.specs.Reach.{Reached}
 use Rattle.mark_core.specs.Bits.{bit_of}
-use Rattle.object_tables.specs.Calls.{kept}
+use Rattle.row_tables.specs.Arrived.{sorted}
 use Rattle.gc_graph.specs.declared.node.Node.{Node}
 use Rattle.gc_graph.specs.Built.{IsBuilt}
 use Rattle.gc_graph.specs.Marked.{reached_by}
 use Rattle.gc_graph.proofs.Tells.{tells}
 use Rattle.table_sweep.specs.declared.masks.Masks.{Masks}
 use Rattle.table_sweep.specs.Stays.{AreMasks, StayNumbered}
+use Rattle.table_sweep.specs.InKeyOrder.{records_in_key_order}
 use Rattle.table_sweep.proofs.Planned.{kept_by}
+use Rattle.table_sweep.proofs.Fitting.{numbered_as}
+use Rattle.table_sweep.proofs.SortedRows.{sorted_filter}
+use Rattle.table_sweep.proofs.CameRecords.{told_in_order}
 
 abbrev UnlikeIngest : SnapRow → IngestRow → Type 0
 UnlikeIngest snap begun = IsTrue (not (snap.number == begun.number))
@@ -44,7 +48,7 @@ module _ (records : Records) (at : ℤ) (reached : Thing → Bool) (tells_reache
   has_parent row c stays has = subst (λ (o : Option SnapRow). IfSome row.parent (λ name. (above : SnapRow) × (o ≡ Some above) × IsTrue (is_committed above.kind) × (above.number < row.number)))
       (sym (same_parent records at reached tells_reached row c stays has)) has
 
-  numbered_left : AreNumbered snaps begun → AreNumbered snaps_left begun_left
+  pub numbered_left : AreNumbered snaps begun → AreNumbered snaps_left begun_left
   numbered_left s = record {
     parents = all_left (HasParent snaps_left) (snapshot_stays reached) snaps (λ row c stays. has_parent row c stays (All-contains (HasParent snaps) snaps row s.parents c));
     snapshots_apart = AllPairs-filter (λ (a : SnapRow) (b : SnapRow). IsTrue (not (a.number == b.number))) (snapshot_stays reached) snaps s.snapshots_apart;
@@ -53,17 +57,20 @@ module _ (records : Records) (at : ℤ) (reached : Thing → Bool) (tells_reache
         (λ row c stays. All-filter (ingest_stays reached) (UnlikeIngest row) begun (All-contains (λ (snap : SnapRow). All (UnlikeIngest snap) begun) snaps row s.apart c));
   }
 
-  -- what the masks keep is numbered
-  pub stay_numbered : (masks : Masks) → AreMasks records at reached masks → AreNumbered snaps begun → StayNumbered records.tables masks
-  stay_numbered masks are s = record {
-    numbered =
-        subst (λ (l : List SnapRow). AreNumbered l (kept masks.ingests.items begun)) (sym (kept_by (snapshot_stays reached) snaps masks.snapshots.items are.snapshots))
-        (subst (λ (l : List IngestRow). AreNumbered snaps_left l) (sym (kept_by (ingest_stays reached) begun masks.ingests.items are.ingests)) (numbered_left s));
-  }
+-- what the masks keep of rows as they came is numbered
+pub stay_numbered : (came : Records) (at : ℤ) (reached : Thing → Bool) → TellsReached (records_in_key_order came) at reached → (masks : Masks) → AreMasks came at reached masks
+    → AreNumbered (sorted snap_key came.tables.snapshots) (sorted ingest_key came.tables.ingests) → StayNumbered came.tables masks
+stay_numbered came at reached told masks are s = record {
+  numbered = numbered_as _ _ _ _
+      (sym (ap (sorted snap_key) (kept_by (snapshot_stays reached) came.tables.snapshots masks.snapshots.items are.snapshots) ∙ sorted_filter snap_key (snapshot_stays reached) came.tables.snapshots))
+      (sym (ap (sorted ingest_key) (kept_by (ingest_stays reached) came.tables.ingests masks.ingests.items are.ingests) ∙ sorted_filter ingest_key (ingest_stays reached) came.tables.ingests))
+      (numbered_left (records_in_key_order came) at reached told s);
+}
 
 -- so is what the masks keep of a plan whose marks are the reached numbers
-pub plan_numbered : (records : Records) (at : ℤ) (book : List Node) (graph : Graph) (marks : List ℕ) (masks : Masks)
-    → IsBuilt records at book graph → ((n : ℕ) → (bit_of marks n ≡ 1) ↔ Reached graph n) → AreMasks records at (reached_by records.profile book marks at) masks
-    → AreNumbered records.tables.snapshots records.tables.ingests → StayNumbered records.tables masks
-plan_numbered records at book graph marks masks built marked are =
-    stay_numbered records at (reached_by records.profile book marks at) (tells records at book graph built marks marked) masks are
+pub plan_numbered : (came : Records) (at : ℤ) (book : List Node) (graph : Graph) (marks : List ℕ) (masks : Masks)
+    → IsBuilt came at book graph → ((n : ℕ) → (bit_of marks n ≡ 1) ↔ Reached graph n) → AreMasks came at (reached_by came.profile book marks at) masks
+    → AreNumbered (sorted snap_key came.tables.snapshots) (sorted ingest_key came.tables.ingests) → StayNumbered came.tables masks
+plan_numbered came at book graph marks masks built marked are =
+    let reached = reached_by came.profile book marks at in
+    stay_numbered came at reached (told_in_order came at reached (tells came at book graph built marks marked)) masks are

@@ -1,9 +1,10 @@
 -- Tables after the passes over them are those that a collection leaves.
 use Rattle.std.proofs.Common.{◌≡◌, Bool, List, filter, ap, sym, ◌∙◌}
-use Rattle.meta_types.specs.Rows.{Tables, LeaseRow}
+use Rattle.meta_types.specs.Rows.{Tables, LeaseRow, snap_key, ingest_key}
 use Rattle.meta_types.specs.Sound.{AreNumbered}
 use Rattle.meta_types.specs.Paths.{image_stays, lease_stays}
 use Rattle.meta_types.specs.Collected.{content_stays, snapshot_stays, ingest_stays, collected_tables}
+use Rattle.row_tables.specs.Arrived.{sorted}
 use Rattle.object_tables.specs.Calls.{kept}
 use Rattle.lease_book.specs.Calls.{kept as kept_leases}
 use Rattle.table_sweep.specs.Stays.{AreMasks, Collection, StayNumbered}
@@ -46,10 +47,10 @@ module _ (of : Collection) (masks : Masks) (are : AreMasks of.records of.at of.r
 pub may_sweep : (masks : Masks) (old images content ingests : Tables) (by_images by_content by_ingests by_snapshots : List Bool)
     → by_ingests ≡ masks.ingests.items → by_snapshots ≡ masks.snapshots.items
     → images ≡ with_images old by_images → content ≡ with_content images by_content → ingests ≡ with_ingests content by_ingests
-    → StayNumbered old masks → AreNumbered (kept by_snapshots ingests.snapshots) ingests.ingests
+    → StayNumbered old masks → AreNumbered (sorted snap_key (kept by_snapshots ingests.snapshots)) (sorted ingest_key ingests.ingests)
 may_sweep masks old images content ingests by_images by_content by_ingests by_snapshots mg ms i c g stay =
     let begun_in : content.ingests ≡ old.ingests = ap (λ (t : Tables). t.ingests) c ∙ ap (λ (t : Tables). t.ingests) i in
     let snaps_in : ingests.snapshots ≡ old.snapshots = ap (λ (t : Tables). t.snapshots) g ∙ ap (λ (t : Tables). t.snapshots) c ∙ ap (λ (t : Tables). t.snapshots) i in
     let begun : ingests.ingests ≡ kept masks.ingests.items old.ingests = ap (λ (t : Tables). t.ingests) g ∙ (λ j. kept (mg j) (begun_in j)) in
     let snaps : kept by_snapshots ingests.snapshots ≡ kept masks.snapshots.items old.snapshots = (λ j. kept (ms j) (snaps_in j)) in
-    numbered_as _ _ _ _ (sym snaps) (sym begun) stay.numbered
+    numbered_as _ _ _ _ (ap (sorted snap_key) (sym snaps)) (ap (sorted ingest_key) (sym begun)) stay.numbered

@@ -12,12 +12,15 @@ use Rattle.gc_graph.specs.Built.{AreApart, IsBuilt}
 use Rattle.gc_graph.specs.Laws.{AreReached}
 use Rattle.gc_graph.specs.Marked.{reached_by}
 use Rattle.table_sweep.specs.declared.planning.Plan.{Plan}
-use Rattle.table_sweep.specs.Plans.{IsPlan, IsPlanOf}
+use Rattle.table_sweep.specs.InKeyOrder.{records_in_key_order}
+use Rattle.table_sweep.specs.Stays.{AreMasks}
+use Rattle.table_sweep.specs.Plans.{IsPlan, IsPlanOf, IsPlanOfRows}
 
--- by the graph of the store and its reached numbers, a plan is that of a collection
+-- by the graph of the rows as they came and its reached numbers, a plan is that of a collection
 abbrev pub ReachedMarksPlanACollection : Type 0
-ReachedMarksPlanACollection = (records : Records) (namespaces : ℕ) (back : BackLists) (at : ℤ) (book : List Node) (graph : Graph) (marks : List ℕ) (plan : Plan)
-    → IsBuilt records at book graph → AreReached graph marks → IsPlan records namespaces back at (reached_by records.profile book marks at) plan → IsPlanOf records namespaces back at plan
+ReachedMarksPlanACollection = (came : Records) (namespaces : ℕ) (back : BackLists) (at : ℤ) (book : List Node) (graph : Graph) (marks : List ℕ) (plan : Plan)
+    → IsBuilt came at book graph → AreReached graph marks → AreMasks came at (reached_by came.profile book marks at) plan.masks
+    → IsPlan (records_in_key_order came) namespaces back at (reached_by came.profile book marks at) plan → IsPlanOfRows came namespaces back at plan
 
 -- a row is among those that go exactly where no path leads to it, in either mode (containerd garbage-collection.md)
 pub record GoesWhatNoPathLeadsTo (records : Records) (at : ℤ) (plan : Plan) : Type 0 where

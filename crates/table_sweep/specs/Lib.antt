@@ -4,6 +4,7 @@ pub mod Owned
 pub mod Depths
 pub mod SnapshotPlaces
 pub mod Backed
+pub mod InKeyOrder
 pub mod Plans
 pub mod Copies
 pub mod Laws

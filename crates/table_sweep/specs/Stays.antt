@@ -1,16 +1,17 @@
 -- When masks are those of a collection. Ours, unless a source stands beside.
 use Rattle.std.specs.Prelude.{◌≡◌, ℕ, List, map, length, count_by, Bool, ℤ}
-use Rattle.meta_types.specs.Rows.{Tables, Records, LeaseRow}
+use Rattle.meta_types.specs.Rows.{Tables, Records, LeaseRow, snap_key, ingest_key}
 use Rattle.meta_types.specs.Sound.{AreNumbered}
 use Rattle.meta_types.specs.Paths.{Thing, image_stays, lease_stays}
 use Rattle.meta_types.specs.Collected.{content_stays, snapshot_stays, ingest_stays}
 use Rattle.meta_types.specs.Reports.{Kept, Removed}
+use Rattle.row_tables.specs.Arrived.{sorted}
 use Rattle.object_tables.specs.Calls.{kept}
 use Rattle.lease_book.specs.Calls.{kept as kept_leases}
 use Rattle.table_sweep.specs.declared.masks.Masks.{Masks}
 use Rattle.table_sweep.specs.Masks.{gone}
 
--- the masks tell which rows stay
+-- the masks tell of each row, at its place, whether it stays
 pub record AreMasks (records : Records) (at : ℤ) (reached : Thing → Bool) (masks : Masks) : Type 0 where
   pub images : masks.images.items ≡ map (image_stays records.profile at) records.tables.images
   pub leases : masks.leases.items ≡ map (lease_stays at) records.leases
@@ -32,9 +33,9 @@ pub record FitRows (tables : Tables) (held : List LeaseRow) (masks : Masks) : Ty
   pub content : length masks.content.items ≡ length tables.content
   pub snapshots : length masks.snapshots.items ≡ length tables.snapshots
 
--- a snapshot that stays keeps its parent, and no backend number is used twice among what stays
+-- a snapshot that stays keeps its parent, and no backend number is used twice among what stays of these rows, in the order of their keys
 pub record StayNumbered (tables : Tables) (masks : Masks) : Type 0 where
-  pub numbered : AreNumbered (kept masks.snapshots.items tables.snapshots) (kept masks.ingests.items tables.ingests)
+  pub numbered : AreNumbered (sorted snap_key (kept masks.snapshots.items tables.snapshots)) (sorted ingest_key (kept masks.ingests.items tables.ingests))
 
 -- the rows that the masks keep; namespaces and containers all stay
 abbrev pub left_tables : Masks → Tables → Tables

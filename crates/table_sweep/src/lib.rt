@@ -12,6 +12,7 @@ mod owners;
 mod pass;
 mod places;
 mod planning;
+mod sorting;
 
 pub use depths::BackSnap;
 pub use masks::{Masks, masks_of};

@@ -14,7 +14,7 @@ use mark_core::Marks;
 use meta_types::{Fault, ImageRow, Instant};
 use std::alloc::Global;
 
-/// For each row of a kind, in the order of the rows, whether it stays.
+/// For each row of a kind, at its place, whether it stays.
 #[derive(Drop)]
 pub struct Masks {
     pub(crate) images: Vec<bool>,

@@ -4,8 +4,10 @@ ghost use Rattle.meta_types.specs.Faults.{Refuses};
 ghost use Rattle.gc_graph.specs.Stored.{records_of};
 ghost use Rattle.table_sweep.specs.Masks.{gone};
 ghost use Rattle.table_sweep.specs.Stays.{FitRows, gone_names};
+ghost use Rattle.table_sweep.specs.InKeyOrder.{names_in_key_order};
 
 use crate::masks::Masks;
+use crate::sorting::{digests_in_order, names_in_order, snapshots_in_order};
 use gc_graph::StoreRows;
 use gc_report::Removed;
 use lease_book::Lease;
@@ -166,7 +168,7 @@ fn snapshot_names(
     Ok(names)
 }
 
-// The names of the rows that go, in the order of the rows.
+// The names of the rows that go, in the order of their keys.
 pub(crate) fn removed_of(
     alloc: Global,
     rows: &StoreRows<'_>,
@@ -174,13 +176,19 @@ pub(crate) fn removed_of(
 ) -> Result<Removed, Fault>
     requires { FitRows (records_of rows.now).tables (records_of rows.now).leases masks.now }
     ensures fault { Refuses result None }
-    ensures ok { IfOk result (λ r. r ≡ gone_names (records_of rows.now) masks.now) }
+    ensures ok { IfOk result (λ r. r
+        ≡ names_in_key_order (gone_names (records_of rows.now) masks.now)) }
 {
     let content = content_names(alloc, rows.content, &masks.content)?;
+    let content = digests_in_order(content)?;
     let images = image_names(alloc, rows.images, &masks.images)?;
+    let images = names_in_order(images)?;
     let ingests = ingest_names(alloc, rows.ingests, &masks.ingests)?;
+    let ingests = names_in_order(ingests)?;
     let leases = lease_names(alloc, rows.leases, &masks.leases)?;
+    let leases = names_in_order(leases)?;
     let snapshots = snapshot_names(alloc, rows.snapshots, &masks.snapshots)?;
+    let snapshots = snapshots_in_order(snapshots)?;
     Ok(Removed {
         content,
         images,

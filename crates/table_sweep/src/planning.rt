@@ -6,19 +6,23 @@ ghost use Rattle.gc_graph.specs.Marked.{reached_by};
 ghost use Rattle.gc_graph.specs.Stored.{records_of, IsSmall};
 ghost use Rattle.gc_graph.specs.Targets.{nodes_of};
 ghost use Rattle.table_sweep.specs.Backed.{lists_of};
+ghost use Rattle.table_sweep.specs.InKeyOrder.{records_in_key_order};
+ghost use Rattle.table_sweep.specs.Stays.{AreMasks};
 ghost use Rattle.table_sweep.specs.Plans.{IsPlan};
 
 use crate::counts::{count_marked, kept_of};
 use crate::masks::{Masks, masks_of};
 use crate::names::removed_of;
 use crate::objects::{BackRows, objects_of};
+use crate::sorting::names_in_order;
 use gc_graph::{Ignored, NodeBook, StoreRows};
 use gc_report::{Kept, Objects, Removed};
 use mark_core::Marks;
 use meta_types::{Fault, Instant, Name, ShortName};
 use std::alloc::Global;
 
-/// Which rows stay, and the members of the report of a collection in which no removal fails.
+/// Which rows stay, by their places as they came, and the members of the report of a collection in
+/// which no removal fails: their names stand in the order of keys.
 #[derive(Drop)]
 pub struct Plan {
     pub masks: Masks,
@@ -43,9 +47,9 @@ fn count_nodes(rows: &StoreRows<'_>) -> u32
     rows.ingests.len() as u32 + 2 * (content + snapshots)
 }
 
-/// The plan of a collection at this moment, by the marks on the nodes of these rows. It takes all
-/// the memory that the collection and its report need. The book and what is ignored are those that
-/// `build` gives for these rows.
+/// The plan of a collection at this moment, by the marks on the nodes of these rows, which may stand
+/// in any order. It takes all the memory that the collection and its report need. The book and what
+/// is ignored are those that `build` gives for these rows.
 pub fn plan_of(
     alloc: Global,
     rows: &StoreRows<'_>,
@@ -62,8 +66,10 @@ pub fn plan_of(
     requires ignored { ignored.ignored.items ≡ ignored_of (records_of rows.now) }
     requires images { ignored.ignored_images.items ≡ ignored_images_of (records_of rows.now) }
     ensures fault { Refuses result None }
-    ensures ok { IfOk result (λ plan. IsPlan (records_of rows.now) namespaces (lists_of back.now)
-        at.0 (reached_by rows.now.profile book.now marks.now at.0) plan) }
+    ensures masks { IfOk result (λ plan. AreMasks (records_of rows.now) at.0
+        (reached_by rows.now.profile book.now marks.now at.0) plan.masks) }
+    ensures ok { IfOk result (λ plan. IsPlan (records_in_key_order (records_of rows.now)) namespaces
+        (lists_of back.now) at.0 (reached_by rows.now.profile book.now marks.now at.0) plan) }
 {
     let masks = masks_of(alloc, rows, book, marks, at)?;
     let removed = removed_of(alloc, rows, &masks)?;
@@ -74,6 +80,8 @@ pub fn plan_of(
         ignored,
         ignored_images,
     } = ignored;
+    let ignored = names_in_order(ignored)?;
+    let ignored_images = names_in_order(ignored_images)?;
     Ok(Plan {
         masks,
         backend,

@@ -1,58 +1,57 @@
-use Rattle.std.proofs.Common.{sym, subst, refl, length}
-use Rattle.meta_types.specs.Rows.{Records, State}
+use Rattle.std.proofs.Common.{◌≡◌, ◌∙◌, sym, ap, subst, Option}
+use Rattle.std.specs.Prelude.{IfOk}
+use Rattle.meta_types.specs.Limits.{is_worker_count, is_too_large}
 use Rattle.meta_types.specs.Reports.{Report, Collects}
-use Rattle.meta_types.proofs.SoundAfter.{a_collected_store_is_sound}
-use Rattle.sweep_report.proofs.Wholes.{a_swept_plan_is_a_collection}
-use Rattle.backend_sweep.specs.Swept.{AllSwept, held_in}
-use Rattle.collection.specs.Stores.{records_in, lists_in, store_in}
-use Rattle.collection.proofs.Bridges.{swept_fails}
-use Rattle.collection.proofs.Wholes.{fits, stays, plan_by, rows_swept}
+use Rattle.meta_types.specs.Sound.{IsSound}
+use Rattle.meta_types.specs.declared.fault.Fault.{Fault}
+use Rattle.request_core.specs.declared.state.Records.{Records as Kept}
+use Rattle.steal_mark.specs.Refusing.{RefusesThreads}
+use Rattle.collection.specs.Arrived.{in_order}
+use Rattle.collection.specs.Stores.{records_in, store_in}
+use Rattle.collection.proofs.Bridges.{no_fault, at_err}
 use Rattle.collection.proofs.collect_store.collect.Goals as goal
 
--- the plan is one of a sound store
-pub sweep_shards-requires-after_bounds : goal.sweep_shards-requires-after_bounds
-sweep_shards-requires-after_bounds g c κs within =
-    let state : State = store_in c.args.records.now c.args.backends.now.shards (g.B.BlobBackend.contents c.args.backends.now.blobs) (g.I.IngestBackend.contents c.args.backends.now.ingests) in
-    let p = plan_by state.records (length state.records.tables.namespaces) (lists_in c.in_ok-lists.lists) state.backends c.args.at.0 c.in_ok-plan.plan
-    (λ i. record { blobs = c.in_ok-lists.ensures.blobs i; snapshots = c.in_ok-lists.ensures.snapshots i; ingests = c.in_ok-lists.ensures.ingests i }) c.in_ok-plan.ensures.ok in
-    record { state = state; sound = c.requires; held = refl; at = c.args.at.0; plan_is = p }
+-- the records that are taken out are sound as they were
+pub collect_came-reports-requires-clause-sound : goal.collect_came-reports-requires-clause-sound
+collect_came-reports-requires-clause-sound g c κs within =
+    subst (λ (r : Kept). IsSound (store_in r c.args.backends.now.shards (g.B.BlobBackend.contents c.args.backends.now.blobs) (g.I.IngestBackend.contents c.args.backends.now.ingests))) (sym c.take_out-came.ensures) c.requires
 
--- after the check a sweep is refused for memory alone
-pub returns-in_err-swept-clause-fault : goal.returns-in_err-swept-clause-fault
-returns-in_err-swept-clause-fault g c =
-    swept_fails AllSwept (records_in c.args.records.now) c.args.workers c.from_residual-in_err-swept.result _ c.in_ok-check.ensures c.from_residual-in_err-swept.ensures.1 c.in_err-swept.ensures.fault
+pub collect_came-reports-requires-clause-held : goal.collect_came-reports-requires-clause-held
+collect_came-reports-requires-clause-held g c κs within =
+    λ i. record { blobs = c.in_ok-lists.ensures.blobs i; snapshots = c.in_ok-lists.ensures.snapshots i; ingests = c.in_ok-lists.ensures.ingests i }
 
-pub sweep-requires-clause-rows : goal.sweep-requires-clause-rows
-sweep-requires-clause-rows g c =
-    let state : State = store_in c.args.records.now c.args.backends.now.shards (g.B.BlobBackend.contents c.args.backends.now.blobs) (g.I.IngestBackend.contents c.args.backends.now.ingests) in
-    let p = plan_by state.records (length state.records.tables.namespaces) (lists_in c.in_ok-lists.lists) state.backends c.args.at.0 c.in_ok-plan.plan
-    (λ i. record { blobs = c.in_ok-lists.ensures.blobs i; snapshots = c.in_ok-lists.ensures.snapshots i; ingests = c.in_ok-lists.ensures.ingests i }) c.in_ok-plan.ensures.ok in
-    fits state c.args.at.0 c.in_ok-plan.plan p
+pub collect_came-reports-requires-clause-workers : goal.collect_came-reports-requires-clause-workers
+collect_came-reports-requires-clause-workers g c κs within =
+    (no_fault (is_worker_count c.args.workers) (is_too_large (records_in c.args.records.now)) c.in_ok-check.ensures).0
 
-pub sweep-requires-clause-numbered : goal.sweep-requires-clause-numbered
-sweep-requires-clause-numbered g c =
-    let state : State = store_in c.args.records.now c.args.backends.now.shards (g.B.BlobBackend.contents c.args.backends.now.blobs) (g.I.IngestBackend.contents c.args.backends.now.ingests) in
-    let p = plan_by state.records (length state.records.tables.namespaces) (lists_in c.in_ok-lists.lists) state.backends c.args.at.0 c.in_ok-plan.plan
-    (λ i. record { blobs = c.in_ok-lists.ensures.blobs i; snapshots = c.in_ok-lists.ensures.snapshots i; ingests = c.in_ok-lists.ensures.ingests i }) c.in_ok-plan.ensures.ok in
-    stays state c.args.at.0 c.in_ok-plan.plan p c.requires
+pub collect_came-reports-requires-clause-few : goal.collect_came-reports-requires-clause-few
+collect_came-reports-requires-clause-few g c κs within =
+    ap (λ (r : Kept). is_too_large (records_in r)) c.take_out-came.ensures
+    ∙ (no_fault (is_worker_count c.args.workers) (is_too_large (records_in c.args.records.now)) c.in_ok-check.ensures).1
 
--- the plan, both sweeps and the report are a collection
+-- after the check no fault applies
+pub returns-clause-fault : goal.returns-clause-fault
+returns-clause-fault g c =
+    subst (λ (least : Option Fault). RefusesThreads c.collect_came-reports.result least) (sym c.in_ok-check.ensures) c.collect_came-reports.ensures.fault
+
+-- the records before are those that are taken out, and those after are put back
 pub returns-clause-ok : goal.returns-clause-ok
 returns-clause-ok g c =
-    let state : State = store_in c.args.records.now c.args.backends.now.shards (g.B.BlobBackend.contents c.args.backends.now.blobs) (g.I.IngestBackend.contents c.args.backends.now.ingests) in
-    let plan = c.in_ok-plan.plan in
-    let at = c.args.at.0 in
-    let p = plan_by state.records (length state.records.tables.namespaces) (lists_in c.in_ok-lists.lists) state.backends at plan
-    (λ i. record { blobs = c.in_ok-lists.ensures.blobs i; snapshots = c.in_ok-lists.ensures.snapshots i; ingests = c.in_ok-lists.ensures.ingests i }) c.in_ok-plan.ensures.ok in
-    let back = held_in c.sweep_shards.new.backends.shards (g.B.BlobBackend.contents c.sweep_shards.new.backends.blobs) (g.I.IngestBackend.contents c.sweep_shards.new.backends.ingests) in
-    let records : Records = record { tables = c.sweep.new.tables; leases = c.sweep.new.leases; next = state.records.next; profile = state.records.profile } in
-    let rows = rows_swept state.records plan c.sweep.new.tables c.sweep.new.leases c.sweep.ensures.tables c.sweep.ensures.leases in
-    subst (λ (r : Report). Collects state at r.failed r (record { records = records; backends = back }))
-    (sym c.reports_of.ensures)
-    (a_swept_plan_is_a_collection state at plan c.in_ok-swept.swept records back p rows c.in_ok-swept.ensures.ok)
+    subst (λ (r : Kept). IfOk c.collect_came-reports.result (λ (report : Report). Collects (store_in r c.args.backends.now.shards (g.B.BlobBackend.contents c.args.backends.now.blobs) (g.I.IngestBackend.contents c.args.backends.now.ingests)) c.args.at.0 report.failed report
+    (store_in c.put_back.new.records c.collect_came-reports.new.backends.shards (g.B.BlobBackend.contents c.collect_came-reports.new.backends.blobs) (g.I.IngestBackend.contents c.collect_came-reports.new.backends.ingests))))
+    c.take_out-came.ensures
+    (subst (λ (r : Kept). IfOk c.collect_came-reports.result (λ (report : Report). Collects (store_in (in_order c.take_out-came.result) c.args.backends.now.shards (g.B.BlobBackend.contents c.args.backends.now.blobs) (g.I.IngestBackend.contents c.args.backends.now.ingests)) c.args.at.0 report.failed report
+    (store_in r c.collect_came-reports.new.backends.shards (g.B.BlobBackend.contents c.collect_came-reports.new.backends.blobs) (g.I.IngestBackend.contents c.collect_came-reports.new.backends.ingests))))
+    (sym c.put_back.ensures)
+    c.collect_came-reports.ensures.ok)
 
--- what a collection leaves is sound
+-- what is refused is put back as it was
+pub returns-clause-records_err : goal.returns-clause-records_err
+returns-clause-records_err g c =
+    at_err c.collect_came-reports.result (c.collect_came-reports.new.came ≡ c.take_out-came.result) (c.put_back.new.records ≡ c.args.records.now)
+    (λ same. c.put_back.ensures ∙ ap in_order same ∙ c.take_out-came.ensures)
+    c.collect_came-reports.ensures.came_err
+
 pub returns-clause-sound : goal.returns-clause-sound
 returns-clause-sound g c =
-    let state : State = store_in c.args.records.now c.args.backends.now.shards (g.B.BlobBackend.contents c.args.backends.now.blobs) (g.I.IngestBackend.contents c.args.backends.now.ingests) in
-    a_collected_store_is_sound state c.args.at.0 c.reports_of.result.failed c.reports_of.result _ c.requires (returns-clause-ok g c)
+    subst (λ (r : Kept). IsSound (store_in r c.collect_came-reports.new.backends.shards (g.B.BlobBackend.contents c.collect_came-reports.new.backends.blobs) (g.I.IngestBackend.contents c.collect_came-reports.new.backends.ingests))) (sym c.put_back.ensures) c.collect_came-reports.ensures.sound

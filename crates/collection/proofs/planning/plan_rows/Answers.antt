@@ -1,22 +1,26 @@
-use Rattle.std.proofs.Common.{map, subst}
-use Rattle.meta_types.specs.Rows.{BackLists}
+use Rattle.std.proofs.Common.{map, subst, ap, ◌≡◌}
+use Rattle.meta_types.specs.Rows.{Records, BackLists}
 use Rattle.back_model.specs.Shown.{listed_snap}
 use Rattle.gc_graph.specs.Stored.{records_of}
 use Rattle.gc_graph.specs.Marked.{reached_by}
 use Rattle.gc_graph.proofs.Tells.{tells}
+use Rattle.table_sweep.specs.InKeyOrder.{records_in_key_order}
 use Rattle.table_sweep.specs.Plans.{IsPlan}
+use Rattle.table_sweep.proofs.CameRecords.{told_in_order}
 use Rattle.collection.proofs.planning.plan_rows.Goals as goal
 
 pub returns-clause-ok : goal.returns-clause-ok
 returns-clause-ok g c =
-    let records = records_of c.args.rows.now in
+    let records : Records = records_of c.args.rows.now in
     let book = c.in_ok-book.book in
     let graph = c.in_ok-book.graph in
     let marks = c.in_ok-marks.marks in
+    let reached = reached_by c.args.rows.now.profile book marks c.args.at.0 in
     record {
-      reached = reached_by c.args.rows.now.profile book marks c.args.at.0;
-      tells = tells records c.args.at.0 book graph c.in_ok-book.ensures.ok marks c.in_ok-marks.ensures.marked.marks;
-      plan_is = subst (λ (back : BackLists). IsPlan records c.args.namespaces back c.args.at.0 (reached_by c.args.rows.now.profile book marks c.args.at.0) c.in_ok-plan.plan)
+      reached = reached;
+      tells = told_in_order records c.args.at.0 reached (tells records c.args.at.0 book graph c.in_ok-book.ensures.ok marks c.in_ok-marks.ensures.marked.marks);
+      masks = c.in_ok-plan.ensures.masks;
+      plan_is = subst (λ (back : BackLists). IsPlan (records_in_key_order records) c.args.namespaces back c.args.at.0 reached c.in_ok-plan.plan)
           (λ i. record { blobs = c.deref.ensures.value i; snapshots = map listed_snap (c.deref-2.ensures.value i); ingests = c.deref-3.ensures.value i })
           c.in_ok-plan.ensures.ok;
     }

@@ -1,34 +1,34 @@
-use Rattle.std.proofs.Common.{◌∙◌, ap, map, Bor, refl, length}
-use Rattle.meta_types.specs.declared.rows.ImageRow.{ImageRow}
-use Rattle.meta_types.specs.declared.rows.ContainerRow.{ContainerRow}
-use Rattle.meta_types.specs.declared.rows.ContentRow.{ContentRow}
-use Rattle.meta_types.specs.declared.rows.IngestRow.{IngestRow}
-use Rattle.meta_types.specs.declared.rows.SnapRow.{SnapRow}
-use Rattle.meta_types.specs.Rows.{LeaseRow}
+use Rattle.std.proofs.Common.{◌≡◌, ◌∙◌, refl, length}
+use Rattle.meta_types.specs.Limits.{is_worker_count, is_too_large}
+use Rattle.table_sweep.specs.InKeyOrder.{records_in_key_order}
+use Rattle.collection.specs.Arrived.{lent_in}
 use Rattle.collection.specs.Stores.{records_in}
-use Rattle.collection.proofs.Bridges.{plan_as, apart_from}
+use Rattle.collection.proofs.Bridges.{plan_of_lent, large_as, no_fault}
 use Rattle.collection.proofs.planning.plan_store.Goals as goal
 
+-- rows that are lent as they came are the records' in order
 pub returns-clause-ok : goal.returns-clause-ok
 returns-clause-ok g c =
-    plan_as _ (records_in c.args.records.now) c.count_ns-namespaces.result (length c.args.records.now.tables.namespaces) _ c.args.at.0 c.in_ok-plan.plan
+    plan_of_lent (lent_in c.came-came.result c.came-leases.result.now c.args.records.now.profile) (records_in c.args.records.now) c.count_ns-namespaces.result (length c.args.records.now.tables.namespaces) _ c.args.at.0 c.in_ok-plan.plan
     (record {
-      images = ap (map (λ (row : Bor ImageRow). row.now)) c.deref.ensures.value ∙ c.in_ok-images.ensures.ok;
-      containers = ap (map (λ (row : Bor ContainerRow). row.now)) c.deref-2.ensures.value ∙ c.in_ok-containers.ensures.ok;
-      content = ap (map (λ (row : Bor ContentRow). row.now)) c.deref-5.ensures.value ∙ c.in_ok-content.ensures.ok;
-      ingests = ap (map (λ (row : Bor IngestRow). row.now)) c.deref-4.ensures.value ∙ c.in_ok-ingests.ensures.ok;
-      snapshots = ap (map (λ (row : Bor SnapRow). row.now)) c.deref-6.ensures.value ∙ c.in_ok-snapshots.ensures.ok;
-      leases = ap (map (λ (row : Bor LeaseRow). row.now)) c.deref-3.ensures.value ∙ c.in_ok-leases.ensures.ok;
+      images = c.came-came.ensures.images;
+      containers = c.came-came.ensures.containers;
+      content = c.came-came.ensures.content;
+      ingests = c.came-came.ensures.ingests;
+      snapshots = c.came-came.ensures.snapshots;
+      leases = c.came-leases.ensures;
       profile = refl;
     })
     c.count_ns-namespaces.ensures
     c.in_ok-plan.ensures.ok
 
--- rows that stand in the order of their keys have keys of their own
-pub plan_rows-requires-clause-apart : goal.plan_rows-requires-clause-apart
-plan_rows-requires-clause-apart g c κs within =
-    apart_from _ (records_in c.args.records.now)
-    (ap (map (λ (row : Bor ContentRow). row.now)) c.deref-5.ensures.value ∙ c.in_ok-content.ensures.ok)
-    (ap (map (λ (row : Bor IngestRow). row.now)) c.deref-4.ensures.value ∙ c.in_ok-ingests.ensures.ok)
-    (ap (map (λ (row : Bor SnapRow). row.now)) c.deref-6.ensures.value ∙ c.in_ok-snapshots.ensures.ok)
-    c.requires
+pub plan_came-requires-clause-workers : goal.plan_came-requires-clause-workers
+plan_came-requires-clause-workers g c κs within =
+    (no_fault (is_worker_count c.args.workers) (is_too_large (records_in c.args.records.now)) c.in_ok-check.ensures).0
+
+-- as many rows came as there are in order
+pub plan_came-requires-clause-few : goal.plan_came-requires-clause-few
+plan_came-requires-clause-few g c κs within =
+    large_as (records_in_key_order (lent_in c.came-came.result c.came-leases.result.now c.args.records.now.profile)) (records_in c.args.records.now)
+    c.came-came.ensures.content c.came-came.ensures.ingests c.came-came.ensures.snapshots
+    ∙ (no_fault (is_worker_count c.args.workers) (is_too_large (records_in c.args.records.now)) c.in_ok-check.ensures).1

@@ -4,9 +4,13 @@ use Rattle.meta_types.specs.Rows.{Records}
 use Rattle.meta_types.specs.Backends.{no_objects, removed_objects}
 use Rattle.gc_graph.specs.Stored.{records_of}
 use Rattle.gc_graph.specs.Marked.{reached_by}
+use Rattle.meta_types.specs.Collected.{collected_records}
+use Rattle.row_tables.specs.Arrived.{sorted}
+use Rattle.table_sweep.specs.InKeyOrder.{names_in_key_order, name_key}
 use Rattle.table_sweep.specs.Backed.{lists_of}
 use Rattle.table_sweep.proofs.Counted.{scanned_is, thing_count}
 use Rattle.table_sweep.proofs.Planned.{fit, removed_is, kept_counts_are, left_is}
+use Rattle.table_sweep.proofs.CameRecords.{objects_same, tables_left, removed_in_order, kept_in_order, ignored_in_order, ignored_images_in_order, scanned_in_order}
 use Rattle.table_sweep.proofs.planning.plan_of.Goals as goal
 
 pub removed_of-requires : goal.removed_of-requires
@@ -17,6 +21,11 @@ pub objects_of-requires : goal.objects_of-requires
 objects_of-requires c =
     fit (records_of c.args.rows.now) c.args.at.0 (reached_by c.args.rows.now.profile c.args.book.now c.args.marks.now c.args.at.0) c.in_ok-masks.masks c.in_ok-masks.ensures.ok
 
+-- the masks tell of the rows as they came
+pub returns-clause-masks : goal.returns-clause-masks
+returns-clause-masks c = c.in_ok-masks.ensures.ok
+
+-- names are sorted, and nothing else of a report sees the order of rows
 pub returns-clause-ok : goal.returns-clause-ok
 returns-clause-ok c =
     let rows = c.args.rows.now in
@@ -29,13 +38,15 @@ returns-clause-ok c =
     let c_long = length-map rows.content.now (λ row. row.now) in
     let s_long = length-map rows.snapshots.now (λ row. row.now) in
     record {
-      masks = are;
-      backend = c.in_ok-backend.ensures.ok ∙ ap (λ tables. removed_objects tables no_objects (lists_of c.args.back.now)) (left_is records at reached masks are);
-      removed = c.in_ok-removed.ensures.ok ∙ removed_is records at reached masks are;
-      kept = c.kept_of-kept.ensures ∙ kept_counts_are records at reached masks are c.args.namespaces;
-      ignored = c.requires.ignored;
-      ignored_images = c.requires.images;
+      backend = c.in_ok-backend.ensures.ok ∙ ap (λ tables. removed_objects tables no_objects (lists_of c.args.back.now)) (left_is records at reached masks are)
+          ∙ objects_same (collected_records at reached records).tables (lists_of c.args.back.now)
+          ∙ ap (λ tables. removed_objects tables no_objects (lists_of c.args.back.now)) (tables_left reached records.profile at records.tables);
+      removed = c.in_ok-removed.ensures.ok ∙ ap names_in_key_order (removed_is records at reached masks are) ∙ removed_in_order records at reached;
+      kept = c.kept_of-kept.ensures ∙ kept_counts_are records at reached masks are c.args.namespaces ∙ kept_in_order records at reached c.args.namespaces;
+      ignored = c.in_ok-ignored.ensures.ok ∙ ap (sorted name_key) c.requires.ignored ∙ ignored_in_order records;
+      ignored_images = c.in_ok-ignored_images.ensures.ok ∙ ap (sorted name_key) c.requires.images ∙ ignored_images_in_order records;
       profile = refl;
       scanned = c.count_marked-scanned.ensures ∙ scanned_is records c.args.book.now c.requires.numbered c.requires.once c.args.marks.now at c.count_nodes.result
-          (omega (arith, c.count_nodes.ensures, thing_count records, i_long, c_long, s_long));
+          (omega (arith, c.count_nodes.ensures, thing_count records, i_long, c_long, s_long))
+          ∙ scanned_in_order records at reached;
     }

@@ -1,0 +1,70 @@
+use Rattle.std.proofs.Common.{sym, subst, refl, length}
+use Rattle.meta_types.specs.Rows.{Records, BackLists, State}
+use Rattle.meta_types.specs.Reports.{Report, Collects}
+use Rattle.meta_types.proofs.SoundAfter.{a_collected_store_is_sound}
+use Rattle.sweep_report.proofs.Wholes.{a_swept_plan_is_a_collection}
+use Rattle.backend_sweep.specs.Swept.{AllSwept, held_in}
+use Rattle.collection.specs.Arrived.{in_order, came_in}
+use Rattle.collection.specs.Stores.{records_in, lists_in, store_in}
+use Rattle.collection.proofs.Bridges.{swept_fails, in_some_order}
+use Rattle.collection.proofs.Wholes.{fits, stays, plan_by, rows_swept}
+use Rattle.collection.proofs.collect_store.collect_came.Goals as goal
+
+-- the plan is one of a sound store
+pub sweep_shards-requires-after_bounds : goal.sweep_shards-requires-after_bounds
+sweep_shards-requires-after_bounds g c κs within =
+    let came : Records = came_in c.args.came.now in
+    let held : BackLists = held_in c.args.backends.now.shards (g.B.BlobBackend.contents c.args.backends.now.blobs) (g.I.IngestBackend.contents c.args.backends.now.ingests) in
+    let n = length came.tables.namespaces in
+    let p = plan_by came n (lists_in c.args.lists.now) held c.args.at.0 c.in_ok-plan.plan c.requires.held c.in_ok-plan.ensures.ok in
+    record {
+      state = store_in (in_order c.args.came.now) c.args.backends.now.shards (g.B.BlobBackend.contents c.args.backends.now.blobs) (g.I.IngestBackend.contents c.args.backends.now.ingests);
+      sound = c.requires.sound;
+      held = refl;
+      at = c.args.at.0;
+      plan_is = in_some_order came (records_in (in_order c.args.came.now)) n held c.args.at.0 c.in_ok-plan.plan refl p;
+    }
+
+-- the workers being allowed, a sweep is refused for memory alone
+pub returns-in_err-swept-clause-fault : goal.returns-in_err-swept-clause-fault
+returns-in_err-swept-clause-fault g c =
+    swept_fails AllSwept c.args.workers c.from_residual-in_err-swept.result _ c.requires.workers c.from_residual-in_err-swept.ensures.1 c.in_err-swept.ensures.fault
+
+pub sweep-requires-clause-rows : goal.sweep-requires-clause-rows
+sweep-requires-clause-rows g c =
+    let came : Records = came_in c.args.came.now in
+    let held : BackLists = held_in c.args.backends.now.shards (g.B.BlobBackend.contents c.args.backends.now.blobs) (g.I.IngestBackend.contents c.args.backends.now.ingests) in
+    let n = length came.tables.namespaces in
+    let p = plan_by came n (lists_in c.args.lists.now) held c.args.at.0 c.in_ok-plan.plan c.requires.held c.in_ok-plan.ensures.ok in
+    fits came n held c.args.at.0 c.in_ok-plan.plan p
+
+pub sweep-requires-clause-numbered : goal.sweep-requires-clause-numbered
+sweep-requires-clause-numbered g c =
+    let came : Records = came_in c.args.came.now in
+    let held : BackLists = held_in c.args.backends.now.shards (g.B.BlobBackend.contents c.args.backends.now.blobs) (g.I.IngestBackend.contents c.args.backends.now.ingests) in
+    let n = length came.tables.namespaces in
+    let p = plan_by came n (lists_in c.args.lists.now) held c.args.at.0 c.in_ok-plan.plan c.requires.held c.in_ok-plan.ensures.ok in
+    stays came n held c.args.at.0 c.in_ok-plan.plan p c.requires.sound.tables
+
+-- the plan, both sweeps and the report are a collection
+pub returns-clause-ok : goal.returns-clause-ok
+returns-clause-ok g c =
+    let came : Records = came_in c.args.came.now in
+    let held : BackLists = held_in c.args.backends.now.shards (g.B.BlobBackend.contents c.args.backends.now.blobs) (g.I.IngestBackend.contents c.args.backends.now.ingests) in
+    let n = length came.tables.namespaces in
+    let p = plan_by came n (lists_in c.args.lists.now) held c.args.at.0 c.in_ok-plan.plan c.requires.held c.in_ok-plan.ensures.ok in
+    let state : State = store_in (in_order c.args.came.now) c.args.backends.now.shards (g.B.BlobBackend.contents c.args.backends.now.blobs) (g.I.IngestBackend.contents c.args.backends.now.ingests) in
+    let plan = c.in_ok-plan.plan in
+    let at = c.args.at.0 in
+    let back : BackLists = held_in c.sweep_shards.new.backends.shards (g.B.BlobBackend.contents c.sweep_shards.new.backends.blobs) (g.I.IngestBackend.contents c.sweep_shards.new.backends.ingests) in
+    let records : Records = records_in (in_order (record { tables = c.sweep.new.tables; leases = c.sweep.new.leases; next = came.next; profile = came.profile })) in
+    let rows = rows_swept came plan c.sweep.new.tables c.sweep.new.leases c.sweep.ensures.tables c.sweep.ensures.leases in
+    subst (λ (r : Report). Collects state at r.failed r (record { records = records; backends = back }))
+    (sym c.reports_of.ensures)
+    (a_swept_plan_is_a_collection came held at plan c.in_ok-swept.swept records back p rows c.in_ok-swept.ensures.ok)
+
+-- what a collection leaves is sound
+pub returns-clause-sound : goal.returns-clause-sound
+returns-clause-sound g c =
+    let state : State = store_in (in_order c.args.came.now) c.args.backends.now.shards (g.B.BlobBackend.contents c.args.backends.now.blobs) (g.I.IngestBackend.contents c.args.backends.now.ingests) in
+    a_collected_store_is_sound state c.args.at.0 c.reports_of.result.failed c.reports_of.result _ c.requires.sound (returns-clause-ok g c)

@@ -1,0 +1,91 @@
+//! Records whose rows stand as they came.
+ghost use Rattle.std.specs.Prelude.{◌≡◌, None, IfOk, length, true, false};
+ghost use Rattle.meta_types.specs.Limits.{is_worker_count, is_too_large};
+ghost use Rattle.steal_mark.specs.Refusing.{RefusesThreads};
+ghost use Rattle.table_sweep.specs.Plans.{IsPlanOfRows};
+ghost use Rattle.collection.specs.Arrived.{in_order, came_in};
+ghost use Rattle.collection.specs.Stores.{records_in, lists_in};
+
+use crate::planning::plan_came;
+use back_model::BackLists;
+use lease_book::{Lease, Leases};
+use meta_types::{Fault, Instant, Name};
+use object_tables::{ArrivedTables, Tables};
+use request_core::Records;
+use row_tables::ArrivedByNamespace;
+use std::alloc::Global;
+use std::mem;
+use std::sync::Wait;
+use std::thread::Threads;
+use steal_mark::Gate;
+use table_sweep::Plan;
+
+/// The records of a store as they came. A row's place is its number.
+#[derive(Drop)]
+pub(crate) struct ArrivedRecords {
+    pub(crate) tables: ArrivedTables,
+    pub(crate) leases: ArrivedByNamespace<Name, Lease>,
+    pub(crate) next: u64,
+    pub(crate) profile: u8,
+}
+
+impl ArrivedRecords {
+    /// The plan of a collection of these records, by the marks of so many workers. Its masks are of
+    /// these rows.
+    pub(crate) fn plan<R: Threads + Wait + Sync, G: Gate>(
+        &self,
+        rt: &R,
+        alloc: Global,
+        back: &BackLists,
+        at: Instant,
+        workers: usize,
+        gate: &G,
+    ) -> Result<Plan, Fault>
+        requires workers { is_worker_count workers ≡ true }
+        requires few { is_too_large (records_in (in_order self.now)) ≡ false }
+        ensures fault { RefusesThreads result None }
+        ensures ok { IfOk result (λ plan. IsPlanOfRows (came_in self.now)
+            (length self.now.tables.namespaces) (lists_in back.now) at.0 plan) }
+    {
+        let came = self.tables.rows();
+        let namespaces = self.tables.count_ns();
+        let plan = plan_came(
+            rt,
+            alloc,
+            &came,
+            &self.leases,
+            self.profile,
+            namespaces,
+            back,
+            at,
+            workers,
+            gate,
+        )?;
+        Ok(plan)
+    }
+}
+
+// Takes the rows out; empty records stand there until `put_back`. It takes no memory.
+pub(crate) fn take_out(alloc: Global, records: &mut Records) -> ArrivedRecords
+    ensures { in_order result ≡ records.old }
+{
+    let whole = mem::replace(records, Records::empty(alloc));
+    ArrivedRecords {
+        tables: whole.tables.into_came(),
+        leases: whole.leases.into_came(),
+        next: whole.next,
+        profile: whole.profile,
+    }
+}
+
+// Puts the rows back. It takes no memory.
+pub(crate) fn put_back(records: &mut Records, came: ArrivedRecords)
+    ensures { records.new ≡ in_order came }
+{
+    *records = Records {
+        tables: Tables::from_came(came.tables),
+        leases: Leases::from_came(came.leases),
+        next: came.next,
+        profile: came.profile,
+    };
+}
