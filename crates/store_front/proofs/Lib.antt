@@ -5,3 +5,4 @@ pub mod Emptied
 pub mod ToldAll
 pub mod Finishing
 pub mod Comparing
+pub mod PlanFaults

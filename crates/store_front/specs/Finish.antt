@@ -1,11 +1,12 @@
 -- What a cut and a finish refuse, and what they give. Ours, unless a source stands beside.
-use Rattle.std.specs.Prelude.{ℕ, zero, suc, ◌≡◌, ◌<◌, ◌+◌, ◌==◌, List, [], ◌∷◌, count_by, length, slice_index_or, nat_lt, if◌then◌else◌, ⊤}
+use Rattle.std.specs.Prelude.{ℕ, zero, suc, ◌≡◌, ◌<◌, ◌+◌, ◌==◌, List, [], ◌∷◌, count_by, length, slice_index_or, nat_lt, if◌then◌else◌, true, false, ⊤}
 use Rattle.meta_types.specs.Rows.{State}
 use Rattle.meta_types.specs.Histories.{Entry, IsLegal}
 use Rattle.meta_types.specs.declared.fault.Fault.{Fault}
 use Rattle.meta_types.specs.declared.fault.Fault.TheVariants.{InvalidArgument, NotFound, AlreadyExists, FailedPrecondition, BadLine, TooLong, OutOfMemory, NoWorker, BackendFailed, ReadFailed, WriteFailed, Mismatch}
+use Rattle.meta_types.specs.Limits.{is_worker_count, is_too_large}
 use Rattle.store_front.specs.Told.{Told, Seat, Course}
-use Rattle.store_front.specs.Parts.{part, DifferFirst, AreOpened}
+use Rattle.store_front.specs.Parts.{part, IsPart, DifferFirst, AreOpened}
 
 -- memory was wanting, or the session's part of the log and its list differ first at the place that is named
 abbrev pub CutFails : Fault → List Told → List Told → Type 0
@@ -21,6 +22,22 @@ CutFails NoWorker xs ys = ⊥
 CutFails BackendFailed xs ys = ⊥
 CutFails ReadFailed xs ys = ⊥
 CutFails WriteFailed xs ys = ⊥
+
+-- a plan beside the lock is refused for the workers; where the state that the history leads to has too many rows; where the session's part of the log and its list differ; or memory or a thread was wanting
+abbrev pub PlanFails : Fault → ℕ → Seat → Type 0
+PlanFails InvalidArgument workers session = is_worker_count workers ≡ false
+PlanFails FailedPrecondition workers session =
+    (base : State) × (log : List Entry) × (state : State) × IsLegal base log state × IsPart log session × (is_too_large state.records ≡ true)
+PlanFails (Mismatch place) workers session = (log : List Entry) × DifferFirst (part session.number log) session.list place
+PlanFails OutOfMemory workers session = ⊤
+PlanFails NoWorker workers session = is_worker_count workers ≡ true
+PlanFails NotFound workers session = ⊥
+PlanFails AlreadyExists workers session = ⊥
+PlanFails BadLine workers session = ⊥
+PlanFails TooLong workers session = ⊥
+PlanFails BackendFailed workers session = ⊥
+PlanFails ReadFailed workers session = ⊥
+PlanFails WriteFailed workers session = ⊥
 
 -- the numbers are those below this one, each once
 abbrev pub AreEach : ℕ → List Seat → Type 0

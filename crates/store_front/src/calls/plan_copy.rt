@@ -6,7 +6,7 @@ ghost use Rattle.meta_types.specs.Rows.{State as Kept};
 ghost use Rattle.meta_types.specs.Sound.{IsSound};
 ghost use Rattle.meta_types.specs.Histories.{IsLegal};
 ghost use Rattle.meta_types.specs.declared.fault.Fault.TheVariants.{InvalidArgument};
-ghost use Rattle.store_front.specs.Finish.{CutFails};
+ghost use Rattle.store_front.specs.Finish.{CutFails, PlanFails};
 ghost use Rattle.store_front.specs.Parts.{part, IsPart};
 
 use crate::history::base::{Base, History};
@@ -69,6 +69,7 @@ impl<L: Ledger, S: SnapBackend, B: BlobBackend, I: IngestBackend> Store<L, S, B,
         ensures planned { IfOk result (λ p. (state : Kept) × IsLegal p.cut.base p.cut.log state
             × Plans state at.0 p.report) }
         ensures workers { (result ≡ Err InvalidArgument) ↔ (is_worker_count workers ≡ false) }
+        ensures fault { IfErr result (λ f. PlanFails f workers session.now) }
     {
         if !is_worker_count(workers) {
             return Err(Fault::InvalidArgument);
