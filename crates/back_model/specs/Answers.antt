@@ -5,7 +5,7 @@ use Rattle.back_model.specs.declared.faults.MakeFault.TheVariants as M
 use Rattle.back_model.specs.declared.faults.RemoveFault.{RemoveFault}
 use Rattle.back_model.specs.declared.faults.RemoveFault.TheVariants as R
 
--- an object is Taken where it is held, else Missing where its parent isn't; else it is made, or the device failed, or memory was wanting
+-- an object is Taken where it is held, else Missing where its parent isn't; else it is made, or the device failed, or memory ran out
 abbrev pub Makes : Result (Unit {0}) MakeFault → Bool → Bool → Type 0
 Makes (Ok _) held parent = (held ≡ false) × (parent ≡ true)
 Makes (Err M.Taken) held parent = held ≡ true

@@ -6,7 +6,7 @@ use Rattle.back_model.specs.declared.fuse.Fuse.{Fuse}
 abbrev pub whole : Fuse
 whole = record { fails = 0; armed = false; passes = 0 }
 
--- it is to pass so many calls, and to fail the next
+-- a fuse that passes this number of calls, and fails the next
 abbrev pub armed_for : ℕ → Fuse → Fuse
 armed_for passes fuse = record fuse { armed = true; passes = passes }
 

@@ -1,4 +1,4 @@
-//! The backends of a store.
+//! The backends of a store: shards of snapshots, blobs and ingests.
 ghost use Rattle.std.specs.Prelude.{◌≡◌, ◌+◌, [], map, IfOk, OnOk, OnErr, None, true, option_map};
 ghost use Rattle.std.specs.List.{list_any};
 ghost use Rattle.std.specs.Option.{option_map_or};
@@ -92,7 +92,7 @@ impl<S: SnapBackend, B: BlobBackend, I: IngestBackend> Backends<S, B, I> {
         self.shards.make(alloc, snapshotter, number, parent)
     }
 
-    /// Takes all shards out, by the bytes of their snapshotters. It takes no memory.
+    /// Takes all shards out, by the bytes of their snapshotters.
     pub fn take_shards(&mut self) -> Vec<(ShortName, S)>
         ensures taken { map (shown S.contents S.fails) result.items ≡ self.old.shards }
         ensures order { AreApart self.old.shards }
@@ -101,7 +101,7 @@ impl<S: SnapBackend, B: BlobBackend, I: IngestBackend> Backends<S, B, I> {
         self.shards.take()
     }
 
-    /// Puts these in the place of all shards. It takes no memory.
+    /// Puts these in the place of all shards.
     pub fn put_shards(&mut self, shards: Vec<(ShortName, S)>)
         requires { AreApart (map (shown S.contents S.fails) shards.items) }
         ensures { self.new

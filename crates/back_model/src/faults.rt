@@ -1,3 +1,5 @@
+//! Faults of one call of a backend: to make an object, or to remove one.
+
 /// Why an object wasn't made.
 #[derive(Clone, Copy, Debug, PartialEq, Eq)]
 pub enum MakeFault {

@@ -20,8 +20,8 @@ pub struct FuseBackend {
 }
 
 impl FuseBackend {
-    /// Passes so many calls of `make` and `remove`, fails the next that reaches the device, and
-    /// passes all later ones.
+    /// Passes this number of calls of `make` and `remove`, fails the next that reaches the device,
+    /// and passes all later ones.
     pub fn arm(&mut self, passes: u64)
         ensures { self.new ≡ record self.old { fuse = armed_for passes self.old.fuse } }
     {

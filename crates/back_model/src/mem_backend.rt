@@ -1,4 +1,4 @@
-//! Snapshots in memory.
+//! A model of snapshots, kept in memory and found by number.
 ghost use Rattle.std.specs.Prelude.{◌≡◌, ◌+◌, ℕ, false, nat_lt, option_map, IfSome, IsSome};
 ghost use Rattle.std.specs.FinMap as finmap;
 ghost use Rattle.std.specs.BTreeMap.{get, IsOrdered};

@@ -1,4 +1,4 @@
-//! Blobs in memory.
+//! A model of blobs, kept in memory.
 use crate::faults::{MakeFault, RemoveFault};
 use crate::traits::BlobBackend;
 use meta_types::{Digest, Fault};

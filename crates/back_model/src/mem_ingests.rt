@@ -1,4 +1,4 @@
-//! Objects of ingests in memory.
+//! A model of ingests' objects, kept in memory.
 use crate::faults::{MakeFault, RemoveFault};
 use crate::traits::IngestBackend;
 use meta_types::Fault;

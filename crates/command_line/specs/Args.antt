@@ -32,6 +32,6 @@ are_read words = takes metad_command words
 unfoldable pub subcommand : List Text → Option (Text × List Row)
 subcommand words = subcommand_of metad_command words
 
--- the words ask for a run with so many workers
+-- the words ask for a run with n workers
 abbrev pub AsksFor : List Text → ℕ → Type 0
 AsksFor words n = (rows : List Row) × (subcommand words ≡ Some (codes "run", rows)) × HasWorkers rows n

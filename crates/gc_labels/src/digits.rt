@@ -24,7 +24,7 @@ pub(crate) fn number(digits: &[u8]) -> u64
     number
 }
 
-/// The number in so many digits from a place on.
+/// The number in the `count` digits from a place on.
 pub(crate) fn number_at(text: &[u8], at: usize, count: usize) -> u64
     requires { (at + count ≤ length text.now) × (count ≤ 9) }
     ensures value { result ≡ number_at text.now at count }

@@ -1,4 +1,4 @@
-//! Ends of objects.
+//! When an object ends, as its labels say.
 
 use meta_types::Instant;
 

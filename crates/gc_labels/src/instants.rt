@@ -1,4 +1,4 @@
-//! Moments as texts.
+//! Moments, read from texts of RFC 3339.
 ghost use Rattle.std.specs.Prelude.{◌≡◌, ◌≤◌, ◌<◌, length, option_map, IfSome, FitsSigned, pos, ◌+ℤ◌, ◌-ℤ◌, ◌*ℤ◌};
 ghost use Rattle.meta_types.specs.Time.{number_at, fraction_in, zone_in, has_fraction, fraction_of, offset_of, instant_of};
 ghost use Rattle.std.specs.Int.{w128};

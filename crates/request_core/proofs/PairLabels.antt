@@ -29,7 +29,7 @@ module _ (pairs : List (Text × Text)) (k : ℕ) (d : Text × Text) (lt : k < le
   pub allowed_more : are_labels (drop (k + 1) pairs) ≡ true → takes_label (get_or pairs k d).0 (get_or pairs k d).1 (labels_of (drop (k + 1) pairs)) ≡ true → are_labels (drop k pairs) ≡ true
   allowed_more t more = ap are_labels one_more ∙ rw (t, more) refl
 
-  -- a pair that can't be written refuses the whole; otherwise memory was wanting
+  -- a pair that can't be written refuses the whole; otherwise memory ran out
   pub refused_more : (X Y : Type 0) (fault : Fault) (value : Y) → Refuses {X = X} (Err fault) (unless (takes_label (get_or pairs k d).0 (get_or pairs k d).1 (labels_of (drop (k + 1) pairs))) InvalidArgument)
       → ReadsTexts {X = Y} (Err (reading fault)) (are_labels pairs) value
   refused_more X Y fault value r = elim (cases_Bool (takes_label (get_or pairs k d).0 (get_or pairs k d).1 (labels_of (drop (k + 1) pairs)))) [

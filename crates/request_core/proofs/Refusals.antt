@@ -17,7 +17,7 @@ use Rattle.request_core.specs.declared.refusal.Refusal.TheVariants.{By}
 abbrev pub err_of : (X : Type 0) → Fault → Result X Fault
 err_of X f = Err f
 
--- a text that isn't allowed, or memory was wanting
+-- a text that isn't allowed, or memory ran out
 pub not_read : (X Y : Type 0) (fault : Fault) (allowed : Bool) (value : Y) (r : Refusal) → r ≡ reading fault → Refuses (err_of X fault) (unless allowed InvalidArgument) → ReadsTexts {X = Y} (Err r) allowed value
 not_read X Y fault true value r is h =
     let same : fault ≡ OutOfMemory = h in

@@ -26,7 +26,7 @@ store_of tables leases next profile snapshots blobs ingests failures = record {
   failures = failures;
 }
 
--- a fault is the least that applies; want of memory may come at any time, a device's failure only where no fault applies
+-- a fault is the least that applies; OutOfMemory may come at any time, a device's failure only where no fault applies
 abbrev pub Fails : Fault → Option Fault → Type 0
 Fails InvalidArgument least = least ≡ Some InvalidArgument
 Fails NotFound least = least ≡ Some NotFound
@@ -61,7 +61,7 @@ abbrev pub Follows : Store → Outcome → Result Reply Fault → Store → Type
 Follows old o (Ok reply) new = (least_fault o ≡ None) × (reply ≡ o.reply) × (new ≡ record old { state = o.after })
 Follows old o (Err fault) new = Fails fault (least_fault o) × (new ≡ left_by fault old)
 
--- the same, where want of memory is told apart: in reading the texts, or only where no fault applies
+-- the same with two cases of OutOfMemory: while the texts are read, or only where no fault applies
 abbrev pub FailsExactly : Fault → Option Fault → Type 0
 FailsExactly InvalidArgument least = least ≡ Some InvalidArgument
 FailsExactly NotFound least = least ≡ Some NotFound
@@ -96,7 +96,7 @@ ReadsTexts (Ok x) allowed value = (allowed ≡ true) × (x ≡ value)
 ReadsTexts (Err Reading) allowed value = ⊤
 ReadsTexts (Err (By fault)) allowed value = (fault ≡ InvalidArgument) × (allowed ≡ false)
 
--- want of memory, while texts are read
+-- OutOfMemory, while texts are read
 abbrev pub reading : Fault → Refusal
 reading OutOfMemory = Reading
 reading InvalidArgument = By InvalidArgument

@@ -22,7 +22,7 @@ is_lease_there ns lease leases = option_map_or (λ id. has_row lease_key (ns ∷
 abbrev pub release_if : Bool → Text → Option Text → Resource → List LeaseRow → List LeaseRow
 release_if new ns lease resource leases = if new then release_under ns lease resource leases else leases
 
--- an object is made, or memory was wanting, or the device failed once
+-- an object is made, or memory ran out, or the device failed once
 abbrev pub MakesOrFails : Result (Unit {0}) Fault → ℕ → ℕ → Type 0
 MakesOrFails (Ok _) before after = after ≡ before
 MakesOrFails (Err OutOfMemory) before after = after ≡ before
@@ -38,7 +38,7 @@ MakesOrFails (Err ReadFailed) before after = ⊥
 MakesOrFails (Err WriteFailed) before after = ⊥
 MakesOrFails (Err (Mismatch place)) before after = ⊥
 
--- what is there already is refused; else it is made, or memory was wanting, or the device failed once
+-- an object that is held already is refused; else it is made, or memory ran out, or the device failed once
 abbrev pub MakesWhereFree : Bool → Result (Unit {0}) Fault → ℕ → ℕ → Type 0
 MakesWhereFree there (Ok _) before after = (there ≡ false) × (after ≡ before)
 MakesWhereFree there (Err AlreadyExists) before after = (there ≡ true) × (after ≡ before)
@@ -67,7 +67,7 @@ abbrev pub has_no_row : Records → Bool
 has_no_row records = length records.tables.namespaces == 0 && length records.tables.images == 0 && length records.tables.containers == 0 && length records.tables.content == 0
     && length records.tables.ingests == 0 && length records.tables.snapshots == 0 && length records.leases == 0
 
--- the third of three that were read, as one that there is
+-- three values that were read, the third in Some
 abbrev pub some_third : {A B C : Type 0} → Result (A × B × C) Refusal → Result (A × B × Option C) Refusal
 some_third (Ok read) = Ok (read.0, read.1, Some read.2)
 some_third (Err refusal) = Err refusal
@@ -76,7 +76,7 @@ some_third (Err refusal) = Err refusal
 abbrev pub ingest_commit_fault : State → Text → Text → Text → Option Text → Option Fault
 ingest_commit_fault state ns name digest lease = found_fault (ingest_commit_findings state ns name digest lease)
 
--- what was read, as one that there is
+-- a value that was read, in Some
 abbrev pub some_of : {A : Type 0} → Result A Refusal → Result (Option A) Refusal
 some_of (Ok read) = Ok (Some read)
 some_of (Err refusal) = Err refusal

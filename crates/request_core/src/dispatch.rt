@@ -11,8 +11,8 @@ use meta_types::{Fault, Reply, Request};
 use std::alloc::Global;
 
 impl<S: SnapBackend, B: BlobBackend, I: IngestBackend> State<S, B, I> {
-    /// Answers a request. A call that is refused, for want of memory or by the device too, leaves
-    /// all rows and objects as they were.
+    /// Answers a request. A refused call leaves all rows and objects as they were, also where
+    /// memory ran out or the device failed.
     pub fn apply(&mut self, alloc: Global, request: &Request) -> Result<Reply, Fault>
         requires { IsSound self.old.state }
         ensures step { Answers self.old request.now result self.new }

@@ -4,7 +4,7 @@ ghost use Rattle.request_core.specs.Follows.{reading, plain};
 
 use meta_types::{Fault, Reply};
 
-/// Memory was wanting while texts were read, or a fault.
+/// Memory ran out while texts were read, or a fault.
 #[derive(Clone, Copy)]
 pub enum Refusal {
     Reading,

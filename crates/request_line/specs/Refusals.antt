@@ -4,6 +4,6 @@ use Rattle.meta_types.specs.declared.fault.Fault.{Fault}
 use Rattle.meta_types.specs.declared.fault.Fault.TheVariants.{BadLine, OutOfMemory}
 use Rattle.request_line.specs.declared.asked.Asked.{Asked}
 
--- memory was wanting, or nothing is asked for
+-- memory ran out, or nothing is asked for
 abbrev pub IsUnread : Option Asked → Fault → Type 0
 IsUnread asked fault = (fault ≡ OutOfMemory) ⊎ ((fault ≡ BadLine) × (asked ≡ None))

@@ -1,4 +1,4 @@
-//! Reads a line.
+//! Reads the request of one line.
 ghost use Rattle.std.specs.Prelude.{◌≡◌, Some, IfOk, IfErr};
 ghost use Rattle.serde_json.specs.View.{view, members_view};
 ghost use Rattle.request_line.specs.Lines.{asked_by, asked_from, asked_in};

@@ -37,7 +37,7 @@ no_names names e =
     let snapshots = no_items names.snapshots (omega arith) in
     λ i. record { blobs = blobs i; ingests = ingests i; snapshots = snapshots i }
 
--- ---- what is asked for is an event
+-- ---- the request is an event
 
 module _ (old new : State) (asked : Asked) (event : Event) (is : asked_step old asked ≡ event_step old event) where
   -- a step is the answer

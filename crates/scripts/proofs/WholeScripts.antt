@@ -67,7 +67,7 @@ unfolding line_step
 step_sound state refusal [] s = s
 step_sound state refusal (byte ∷ line) s = subst (λ (step : List ℕ × State). IsSound step.1) (sym (full_step state refusal byte line)) (answer_sound state refusal (byte ∷ line) s)
 
--- ---- what is asked for is done
+-- ---- the request is done
 
 module _ (state : State) (refusal : Option Refusal) (line : List ℕ) (s : IsSound state) (short : nat_lt 65536 (length line) ≡ false) where
   asks : (asked : Asked) → asked_in line ≡ Some asked → short_request line ≡ Some asked

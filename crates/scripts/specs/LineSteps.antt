@@ -12,7 +12,7 @@ use Rattle.request_line.specs.declared.asked.Asked.TheVariants as A
 use Rattle.reply_line.specs.Replies.{answer_text}
 use Rattle.scripts.specs.EventSteps.{event_step}
 
--- what a line may be refused with though it asks for something that the store would answer: want of memory, or of a thread
+-- how a line may be refused that the store would answer: memory runs out, or a thread can't be started
 pub data Refusal : Type 0 where
   out_of_memory : Refusal
   no_worker : Refusal
@@ -23,7 +23,7 @@ event_for (A.Request request) = Some (requested request)
 event_for (A.Collect at dry) = option_map (λ moment. collect moment dry 1) (instant_of at)
 event_for (A.Remove removal at) = option_map (λ moment. remove_collect removal moment 1) (instant_of at)
 
--- what is asked is answered so, and leaves this store; a moment that can't be read is refused, and is no event
+-- the answer to a request, and the store after it; a moment that can't be read is refused, and is no event
 abbrev pub asked_step : State → Asked → Answer × State
 asked_step state asked = option_map_or (event_step state) (event_for asked) (refused InvalidArgument, state)
 
@@ -42,7 +42,7 @@ asks_collection (Some (A.Remove removal at)) = true
 asks_collection (Some (A.Request request)) = false
 asks_collection None = false
 
--- the same, where the line may be refused; want of a thread refuses only collections and dry runs
+-- the same, where the line may be refused; NoWorker refuses only collections and dry runs
 abbrev pub answer_step : State → Option Refusal → List ℕ → Answer × State
 answer_step state None line = line_answer state line
 answer_step state (Some out_of_memory) line = (refused OutOfMemory, state)

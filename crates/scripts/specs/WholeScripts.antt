@@ -20,7 +20,7 @@ use Rattle.scripts.specs.Output.{Refusals, first_refusal, output_of, IsOutput}
 
 -- ---- why a line is refused
 
--- why the store refuses what is asked for, if it does
+-- why the store refuses the request, if it does
 abbrev pub asked_fault : State → Asked → Option Fault
 asked_fault state (A.Request request) = least_fault (outcome state request)
 asked_fault state (A.Collect at dry) = if is_some (instant_of at) then collect_fault state.records 1 else Some InvalidArgument
@@ -30,14 +30,14 @@ asked_fault state (A.Remove removal at) = if is_some (instant_of at) then remove
 abbrev pub line_fault : State → List ℕ → Option Fault
 line_fault state line = if nat_lt 65536 (length line) then Some TooLong else option_map_or (asked_fault state) (asked_in line) (Some BadLine)
 
--- what wants
+-- the fault of a refusal
 abbrev pub want : Refusal → Fault
 want out_of_memory = OutOfMemory
 want no_worker = NoWorker
 
 -- ---- what a line is answered
 
--- What is asked for is done. A collection's report, and the store that it leaves, are as `IsCollected` says. A dry run reports what a collection would, and leaves the store as it was.
+-- The request is done. A collection's report, and the store that it leaves, are as `IsCollected` says. A dry run reports what a collection would, and leaves the store as it was.
 -- A request is answered by its definition.
 abbrev pub IsDone : State → Asked → Answer → State → Type 0
 IsDone state (A.Collect at false) (reported report) new = (moment : ℤ) × (instant_of at ≡ Some moment) × IsCollected state moment false report new
@@ -46,7 +46,7 @@ IsDone state (A.Remove removal at) (reported report) new = (moment : ℤ) × (in
 IsDone state (A.Request request) (answered reply) new = (reply ≡ (outcome state request).reply) × (new ≡ (outcome state request).after)
 IsDone state asked answer new = ⊥
 
--- A refused line changes nothing, and is refused for its own fault, or since memory or a thread was wanting. Else it has no fault, and what it asks for is done.
+-- A refused line changes nothing, and is refused for its own fault, or since memory ran out or a thread couldn't be started. Else it has no fault, and its request is done.
 abbrev pub IsAnswered : State → Option Refusal → List ℕ → Answer → State → Type 0
 IsAnswered state refusal line (refused fault) new = (new ≡ state) × ((line_fault state line ≡ Some fault) ⊎ (option_map want refusal ≡ Some fault))
 IsAnswered state refusal line answer new = (asked : Asked) × (short_request line ≡ Some asked) × (line_fault state line ≡ None) × IsDone state asked answer new

@@ -1,4 +1,4 @@
-//! The line that is being read.
+//! The line that is being read, at most 65,536 bytes of it.
 ghost use Rattle.std.specs.Prelude.{◌≡◌, ◌≤◌, [], false, vec_len};
 
 use meta_types::Fault;

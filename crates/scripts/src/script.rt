@@ -1,4 +1,4 @@
-//! Runs a script.
+//! Runs a script, from its reader to its writer.
 ghost use Rattle.std.specs.Prelude.{◌≡◌, ◌++◌, ◌∷◌, ◌↔◌, ℕ, [], List, None, OnOk, OnErr, IfErr, IfOk, IsErrOf, false, true};
 ghost use Rattle.std.specs.List.{list_any};
 ghost use Rattle.std.specs.Io.{ReadsAtMost};

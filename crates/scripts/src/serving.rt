@@ -1,4 +1,4 @@
-//! Does what a line asks for.
+//! Does what a line asks for: a request, a collection, or a removal with one.
 ghost use Rattle.std.specs.Prelude.{◌≡◌, ◌<◌, IfOk, IfErr, true};
 ghost use Rattle.meta_types.specs.Limits.{is_worker_count};
 ghost use Rattle.meta_types.specs.Steps.{answered, reported};
@@ -111,7 +111,7 @@ fn remove<L: Ledger, K: Keeps, R: Threads + Wait + Sync>(
     report
 }
 
-/// Does what a line asks for, with so many workers where it is a collection.
+/// Does what a line asks for, with this number of workers where it is a collection.
 pub fn do_asked<L: Ledger, K: Keeps, R: Threads + Wait + Sync>(
     locked: &mut MemLocked<L, K>,
     rt: &R,

@@ -38,7 +38,7 @@ pub(crate) fn hold(
     }
 }
 
-/// Lets a resource go that was new. Takes no memory.
+/// Drops a resource from its lease, where it was new there.
 pub(crate) fn release(
     leases: &mut Leases,
     ns: &ShortName,

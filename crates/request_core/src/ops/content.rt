@@ -1,4 +1,4 @@
-//! Requests on content.
+//! Requests on content: add, look up, label, remove.
 #![tactic(auto, unfolding(crate::specs::Follows::AnswersExactly))]
 
 ghost use Rattle.meta_types.specs.declared.request.Request.TheVariants as R;

@@ -1,4 +1,4 @@
-//! Requests on ingests.
+//! Requests on ingests: begin, commit, look up, abort.
 #![tactic(auto, unfolding(crate::specs::Follows::AnswersExactly))]
 
 ghost use Rattle.meta_types.specs.declared.request.Request.TheVariants as R;

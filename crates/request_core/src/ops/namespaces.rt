@@ -36,7 +36,7 @@ impl<S: SnapBackend, B: BlobBackend, I: IngestBackend> State<S, B, I> {
         Ok(Reply::Done)
     }
 
-    // Whether no row is stored. Takes no memory.
+    // Whether no row is stored.
     fn has_no_row(&self) -> bool
         ensures { result ≡ has_no_row self.now.state.records }
     {

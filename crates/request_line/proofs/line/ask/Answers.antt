@@ -17,7 +17,7 @@ returns-then-not-are_of-clause-fault c =
     let misfit : are_of (members_of c.in-Some.op) (members_view c.args.members.entries) ≡ false = search rules in
     inr (refl, asked_by-misfit (members_view c.args.members.entries) c.in-Some.op (sym c.op_in.ensures ∙ c.in-Some.is) misfit)
 
--- a request is refused for want of memory alone
+-- a request is refused with OutOfMemory only
 pub returns-clause-fault : goal.returns-clause-fault
 returns-clause-fault c = unread_of_memory c.ask_for.result _ c.ask_for.ensures.fault
 

@@ -17,7 +17,7 @@ returns-clause-ok g c =
     report_ok old c.collect-report.new.self.store.state (A.Collect c.args.at.now c.args.dry) (collect c.in-Some.at.0 c.args.dry c.args.workers) is
     c.args.locked.now.store.failures c.collect-report.new.self.store.failures c.never_failed.ensures c.never_failed-2.ensures c.collect-report.result c.collect-report.ensures.step c.collect-report.ensures.failures
 
--- the refusal of the step, or want of memory or of a thread
+-- the refusal of the step, or OutOfMemory, or NoWorker
 pub returns-clause-err : goal.returns-clause-err
 returns-clause-err g c =
     let old = c.args.locked.now.store.state in

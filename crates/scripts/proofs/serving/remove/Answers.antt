@@ -17,7 +17,7 @@ returns-clause-ok g c =
     report_ok old c.remove_collect-report.new.self.store.state (A.Remove c.args.removal.now c.args.at.now) (remove_collect c.args.removal.now c.in-Some.at.0 c.args.workers) is
     c.args.locked.now.store.failures c.remove_collect-report.new.self.store.failures c.never_failed.ensures c.never_failed-2.ensures c.remove_collect-report.result c.remove_collect-report.ensures.step c.remove_collect-report.ensures.failures
 
--- the refusal of the step, or want of memory or of a thread
+-- the refusal of the step, or OutOfMemory, or NoWorker
 pub returns-clause-err : goal.returns-clause-err
 returns-clause-err g c =
     let old = c.args.locked.now.store.state in

@@ -10,7 +10,7 @@ pub returns-in-Err-Device-clause-fault : goal.returns-in-Err-Device-clause-fault
 returns-in-Err-Device-clause-fault g c =
     rw (c.in-Err-Device.field-0-is, c.ingests_mut.ensures.value) at c.in-Err-Device.ensures.fails
 
--- memory was wanting
+-- memory ran out
 pub returns-in-Err-Memory-clause-fault : goal.returns-in-Err-Memory-clause-fault
 returns-in-Err-Memory-clause-fault g c =
     rw (c.in-Err-Memory.field-0-is, add-zero, c.ingests_mut.ensures.value) at c.in-Err-Memory.ensures.fails

@@ -19,7 +19,7 @@ returns-in-Err-Device g c = record {
   fault = rw c.in-Err-Device.field-0-is at c.in-Err-Device.ensures.fails;
 }
 
--- memory was wanting
+-- memory ran out
 pub returns-in-Err-Memory : goal.returns-in-Err-Memory
 returns-in-Err-Memory g c = record {
   ok = tt;

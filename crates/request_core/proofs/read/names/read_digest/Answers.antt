@@ -2,6 +2,6 @@ use Rattle.meta_types.specs.Text.{is_digest}
 use Rattle.request_core.proofs.Refusals.{not_read}
 use Rattle.request_core.proofs.read.names.read_digest.Goals as goal
 
--- the text isn't allowed, or memory was wanting
+-- the text isn't allowed, or memory ran out
 pub returns-in-Err : goal.returns-in-Err
 returns-in-Err c = not_read Unit _ c.in-Err.fault (is_digest c.args.text.now) _ c.reading.result c.reading.ensures (rw c.text.ensures at c.in-Err.ensures.fault)
