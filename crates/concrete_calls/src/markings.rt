@@ -1,6 +1,6 @@
 //! Markings by threads, by any number of workers, also where all have to be at work at once.
 
-use mark_core::Graph;
+use mark_core::{Graph, TargetLists};
 use meta_types::Fault;
 use std::alloc::{AllocError, Global};
 use std::sync::Wait;
@@ -12,16 +12,14 @@ use steal_mark::{Gate, OpenGate, mark_workers};
 // A root with 64 targets.
 fn star(alloc: Global) -> Result<Graph, AllocError> {
     let mut targets = Vec::new(alloc);
-    let mut edges = Vec::new(alloc);
-    edges.push(Vec::new(alloc))?;
     for target in 1..65u32 {
         targets.push(target)?;
-        edges.push(Vec::new(alloc))?;
     }
-    let Some(first) = edges.get_mut(0) else {
-        return Err(AllocError);
-    };
-    *first = targets;
+    let mut edges = TargetLists::new(alloc);
+    edges.push(&targets)?;
+    for _ in 0..64 {
+        edges.push(&[])?;
+    }
     let roots = [0u32].to_vec(alloc)?;
     Ok(Graph { edges, roots })
 }
