@@ -1,4 +1,4 @@
-//! One lease.
+//! One lease, with its labels and the resources that it holds.
 ghost use Rattle.std.specs.Prelude.{◌≡◌, [], map, None, IfOk, OnOk, OnErr, IsTrue};
 ghost use Rattle.meta_types.specs.Keys.{are_in_order, has_row, remove_row};
 ghost use Rattle.meta_types.specs.Resources.{resource_key, held};
@@ -36,7 +36,7 @@ impl Model for Lease {
 }
 
 impl Lease {
-    /// A lease that holds nothing yet. It takes no memory.
+    /// A lease that holds nothing yet.
     pub(crate) fn new(alloc: Global, ns: ShortName, id: Name, labels: Labels) -> Lease
         ensures { result ≡ record { ns = ns; id = id; labels = labels; resources = [] } }
     {

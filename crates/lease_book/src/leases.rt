@@ -1,4 +1,4 @@
-//! All leases.
+//! The leases of all namespaces, and what requests do to them.
 ghost use Rattle.std.specs.Prelude.{◌≡◌, length, ◌++◌, ◌∷◌, [], map, None, Some, option_map, option_copied, OnOk, OnErr, IfOk, IsTrue};
 ghost use Rattle.meta_types.specs.Keys.{are_in_order, row_at, has_row, add_row, remove_row, change_row};
 ghost use Rattle.meta_types.specs.Labels.{put_label};
@@ -32,7 +32,7 @@ impl Model for Leases {
 }
 
 impl Leases {
-    /// No lease. It takes no memory.
+    /// No lease.
     pub fn new(alloc: Global) -> Leases
         ensures { result ≡ [] }
     {
@@ -233,14 +233,14 @@ impl Leases {
         self.rows.came()
     }
 
-    /// The leases as they came. It takes no memory.
+    /// The leases as they came.
     pub fn into_came(self) -> ArrivedByNamespace<Name, Lease>
         ensures { sorted lease_key result ≡ self }
     {
         self.rows.into_came()
     }
 
-    /// The leases that came, seen in the order of namespaces and ids. It takes no memory.
+    /// The leases that came, seen in the order of namespaces and ids.
     pub fn from_came(came: ArrivedByNamespace<Name, Lease>) -> Leases
         ensures { result ≡ sorted lease_key came }
     {

@@ -25,7 +25,7 @@ mask_is n =
     let e : 1 * 2 ^ (n % 64) ≡ 2 ^ (n % 64) = omega arith in
     ap (λ x. x % 18446744073709551616) e ∙ mod-eq_of_lt small
 
--- a number is told by its word and its place in it
+-- its word and its place in it give a number
 same_node : (k n : ℕ) → k / 64 ≡ n / 64 → k % 64 ≡ n % 64 → k ≡ n
 same_node k n a b = let p = div-add-mod' k 64 in let q = div-add-mod' n 64 in omega arith
 

@@ -1,4 +1,4 @@
--- What claims add.
+-- What a claim adds to a list of claimed numbers.
 use Rattle.std.proofs.Common.{◌≡◌, ◌≢◌, ◌⊎◌, ℕ, ◌+◌, ◌<◌, ◌≤◌, List, [], ◌∷◌, ◌++◌, Bool, true, false, cond, Some, None, length, get_or, refl, sym, ap, ◌∙◌, subst, inl, inr, ⊎_elim, arith}
 use Rattle.std.specs.Prelude.{if◌then◌else◌, All}
 use Rattle.std.proofs.lemmas.List.{length-append, get_or_append_left}
@@ -157,7 +157,7 @@ get_or-claim_all xs (n ∷ ns) k inside =
     get_or-claim_all (claim xs n) ns k (omega arith) ∙ get_or-claim n xs k inside
 
 -- ---- what is claimed stays so
--- counts that grow keep what is there
+-- counts that grow keep each number that is in the list
 pub Claimed-more : (old new ns : List ℕ)
     → ((n : ℕ) → times n old ≤ times n new) → Claimed old ns → Claimed new ns
 Claimed-more old new ns more h =

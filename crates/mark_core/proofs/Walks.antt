@@ -1,7 +1,7 @@
 -- What is closed under the targets and has the roots has all that is reached.
-use Rattle.std.proofs.Common.{◌≡◌, ⊎_elim, ℕ, ◌<◌, ◌≤◌, ◌++◌, Some, None, slice_get, List, [], ◌∷◌, length, get_or, map, arith, refl, sym, ap, ◌∙◌, subst}
+use Rattle.std.proofs.Common.{◌≡◌, ⊎_elim, ℕ, ◌<◌, ◌≤◌, ◌++◌, Some, None, slice_get, List, [], ◌∷◌, length, get_or, arith, refl, sym, ap, ◌∙◌, subst}
 use Rattle.std.specs.Prelude.{All, Contains}
-use Rattle.std.proofs.lemmas.List.{length-map, get_or-map, get_or_past}
+use Rattle.std.proofs.lemmas.List.{get_or_past}
 use Rattle.std.proofs.lemmas.List.Elements.{All-contains, Contains-get_or}
 use Rattle.std.proofs.lemmas.Option.{slice_get_cases, get_or_from_slice_get}
 use Rattle.std.proofs.Math.Decide.{dec_le}
@@ -55,11 +55,6 @@ pub reached_in_range : (g : Graph) (n : ℕ) → IsInRange g → Reached g n →
 reached_in_range g n range =
     reached_in g (λ a. a < node_count g) (λ a b inside. target_in_range g a b range inside)
     (λ r c. All-contains (λ r. r < node_count g) g.roots.items r range.1 c) n
-
--- what an index into the rows gives, as the targets of a node
-pub row_is : {R : Type 0} (f : R → List ℕ) (rs : List R) (a : ℕ) (row : R) → a < length rs
-    → row ≡ get_or rs a row → f row ≡ get_or (map f rs) a []
-row_is f rs a row inside is = ap f is ∙ sym (get_or-map f rs a row [] inside)
 
 -- what is got stands within
 pub within_get : {X : Type 0} (xs : List X) (k : ℕ) (x : X) → slice_get xs k ≡ Some x

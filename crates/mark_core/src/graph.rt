@@ -24,7 +24,7 @@ impl Graph {
         &[]
     }
 
-    /// The test of what a marking asks of its caller: each number of the graph names a node.
+    /// The test of what a marking requires: each number of the graph names a node.
     pub fn is_in_range(&self) -> bool
         ensures { IsTrue result ↔ IsInRange self.now }
     {

@@ -10,7 +10,7 @@ pub enum ReplayFault {
     /// The event at this place is the first that isn't allowed.
     #[error("the event at place {place} isn't allowed")]
     BadEvent { place: usize },
-    /// A marking can't have so many workers, or so few.
+    /// The number of workers is outside a marking's limits.
     #[error("the number of workers isn't allowed")]
     Workers,
     /// A growth was refused.
@@ -18,7 +18,7 @@ pub enum ReplayFault {
     Memory,
 }
 
-/// A refused growth is want of memory, and nothing else is.
+/// A refused growth is the fault `Memory`, and nothing else is.
 impl From<AllocError> for ReplayFault {
     ghost use Rattle.mark_core.specs.declared.replay_fault.ReplayFault.TheVariants.{Memory};
 

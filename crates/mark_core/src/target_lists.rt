@@ -35,7 +35,7 @@ impl TargetLists {
         }
     }
 
-    /// No list, and room for so many.
+    /// No list, and room for `count` of them.
     pub fn with_capacity(alloc: Global, count: usize) -> Result<TargetLists, AllocError>
         ensures { IfOk result (λ l. l ≡ []) }
     {

@@ -13,7 +13,7 @@ use Rattle.row_tables.specs.Arrived.{Becomes}
 use Rattle.row_tables.specs.Visiting.{all_visited}
 use Rattle.object_tables.specs.Children.{left, left_by, without_row, parent_key, family_key, family_names, without_child, left_in, families_left, families_left_by, families_visited}
 use Rattle.object_tables.specs.declared.families.Family.{Family}
-use Rattle.object_tables.proofs.ChangedThere.{became, same_there}
+use Rattle.row_tables.proofs.ChangedThere.{became, same_there}
 use Rattle.object_tables.proofs.RowsKept.{row_is}
 use Rattle.object_tables.proofs.FamilyRows.{none_at, one_left, named_after, none_left, closed}
 
@@ -43,7 +43,7 @@ module _ (key : SnapKey) (parent : Text) (families : List Family) where
   nowhere : row_at family_key home families ≡ None → families_left key parent families ≡ families
   nowhere none = ap (λ o. left_in home key.name o families) none
 
-  -- what a change of the family leaves, and what goes then
+  -- what a change of the family leaves, and what it removes then
   module _ (row after : Family) (new : List Family) (becomes : Becomes family_key home row after families new) (made : after ≡ without_child key.name row) where
     rest_there : new ≡ rest
     rest_there = became family_key home (without_child key.name) row after families new becomes made
@@ -93,7 +93,7 @@ module _ (key : SnapKey) (parent : Text) (families : List Family) where
       ]
     ]
 
--- ---- rows that go
+-- ---- removed rows
 
 named_by : (key : SnapKey) (parent : Option Text) (families : List Family) → are_in_order family_key families ≡ true → family_names (families_left_by key parent families) ≡ left_by key parent (family_names families)
 named_by key None families order = refl

@@ -11,7 +11,7 @@ use Rattle.meta_types.proofs.ListSearches.{no_none}
 use Rattle.row_tables.specs.Arrived.{one_text, Becomes}
 use Rattle.object_tables.specs.Children.{Enters, entered, left, parent_key, family_key, names_of, family_names, first_family, with_child, without_child}
 use Rattle.object_tables.specs.declared.families.Family.{Family}
-use Rattle.object_tables.proofs.ChangedThere.{stayed}
+use Rattle.row_tables.proofs.ChangedThere.{stayed}
 use Rattle.object_tables.proofs.Inserted.{gone_free}
 use Rattle.object_tables.proofs.RowsKept.{keys_same, key_itself, row_is, row_added, row_removed}
 

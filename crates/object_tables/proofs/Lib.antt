@@ -1,5 +1,4 @@
-pub mod Above
-pub mod ChangedThere
+pub mod NoFault
 pub mod CommitKept
 pub mod Committing
 pub mod FamiliesLeft

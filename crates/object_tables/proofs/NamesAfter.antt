@@ -52,6 +52,6 @@ module _ (rows : List SnapRow) (names : NamesByParent) (are : names ≡ names_un
   names_labelled key labels_in after (Ok u) ok err = are ∙ sym (ap names_under ok ∙ named_relabelled key labels_in rows)
   names_labelled key labels_in after (Err fault) ok err = are ∙ ap names_under (sym err)
 
-  -- those that stay, once it was told of the others
+  -- those that stay, once it saw the others
   pub names_kept : (marks : List Bool) → length marks ≡ length rows → are_in_order snap_key rows ≡ true → all_visited without_row (gone marks rows) names ≡ names_under (kept marks rows)
   names_kept marks len order = ap (all_visited without_row (gone marks rows)) are ∙ named_kept marks rows len order

@@ -251,7 +251,7 @@ entered_left key p names free = λ i a b c. at a b c i
       | inr f ↦ rw f refl
     ]
 
--- ---- rows whose places are marked
+-- ---- rows whose mark is set
 
 -- the names with those of one row more in front
 abbrev consed : SnapRow → NamesByParent → NamesByParent

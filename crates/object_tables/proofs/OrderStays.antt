@@ -13,7 +13,7 @@ use Rattle.meta_types.specs.declared.fault.Fault.{Fault}
 use Rattle.meta_types.proofs.Ordered.{in_order_added}
 
 module _ {Row : Type 0} (key_of : Row → Key) where
-  -- a new key goes to its place, and where memory is wanting nothing changes
+  -- a new key goes to its place, and where memory runs out nothing changes
   pub order_kept : (row : Row) (old new : List Row) (r : Result (Unit {0}) Fault) → OnOk r (new ≡ add_row key_of row old) → OnErr r (new ≡ old)
       → IsTrue (are_in_order key_of old) → has_row key_of (key_of row) old ≡ false → IsTrue (are_in_order key_of new)
   order_kept row old new (Ok u) ok err order free = rw ok (in_order_added key_of row old order free)

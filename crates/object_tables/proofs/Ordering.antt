@@ -1,20 +1,12 @@
 -- Rows stay in order where one is changed, and where some go.
 use Rattle.std.proofs.Common.{◌≡◌, Bool, true, false, List, [], ◌∷◌, refl}
-use Rattle.std.specs.Prelude.{Result, Ok, Err, OnOk, OnErr, IsTrue}
+use Rattle.std.specs.Prelude.{IsTrue}
 use Rattle.std.proofs.lemmas.Bool.{and_parts, and_from}
-use Rattle.meta_types.specs.Keys.{Key, is_first, change_row, are_in_order}
-use Rattle.meta_types.specs.declared.fault.Fault.{Fault}
+use Rattle.meta_types.specs.Keys.{Key, is_first, are_in_order}
 use Rattle.meta_types.proofs.Ordered.{before_trans}
-use Rattle.meta_types.proofs.KeepsSound.{in_order_changed}
 use Rattle.object_tables.specs.Calls.{kept}
 
 module _ {Row : Type 0} (key_of : Row → Key) where
-  -- a change that leaves the keys keeps the order
-  pub order_changed : (key : Key) (change : Row → Row) → ((row : Row) → key_of (change row) ≡ key_of row) → (old new : List Row) (r : Result (Unit {0}) Fault)
-      → OnOk r (new ≡ change_row key_of key change old) → OnErr r (new ≡ old) → IsTrue (are_in_order key_of old) → IsTrue (are_in_order key_of new)
-  order_changed key change same old new (Ok u) ok err order = rw ok (in_order_changed key_of key change same old order)
-  order_changed key change same old new (Err e) ok err order = rw err order
-
   -- what stands before the first stands before each that stays
   first_kept : (before : Row) (marks : List Bool) (rows : List Row) → is_first key_of before rows ≡ true → are_in_order key_of rows ≡ true → is_first key_of before (kept marks rows) ≡ true
   first_kept before [] rows p o = refl

@@ -48,7 +48,7 @@ unused ns_of gone namespaces (row ∷ rows) h =
         (λ t. both_ways (bytes_eq a b) h
         ((bytes_eq-Decides a b).1 (sym ((bytes_eq-Decides b a).0 t))))
 
--- rows whose places are marked
+-- rows whose mark is set
 pub rows_kept : {Row : Type 0} (key_of : Row → Key) (ns_of : Row → Text) (namespaces : List Text)
     (marks : List Bool) (rows : List Row) → AreRows key_of ns_of namespaces rows
     → AreRows key_of ns_of namespaces (kept marks rows)

@@ -1,6 +1,6 @@
 -- A row keeps its parent, and the parent's number, where the parent stays.
 use Rattle.std.proofs.Common.{◌≡◌, ℕ, ◌<◌, Bool, true, false, not, List, [], ◌∷◌, refl, sym, ap, ◌∙◌, subst, arith, inl, inr}
-use Rattle.std.specs.Prelude.{Contains, Option, Some, None, IfSome, IsTrue, is_some, is_none, bytes_eq, ◌&&◌}
+use Rattle.std.specs.Prelude.{Option, Some, None, IfSome, IsTrue, is_some, is_none, bytes_eq, ◌&&◌}
 use Rattle.std.specs.Option.{option_map_or}
 use Rattle.std.proofs.lemmas.Bool.{cases_Bool, both_ways, and_parts, and_from}
 use Rattle.std.proofs.lemmas.Slice.Eq.{bytes_eq-Decides}
@@ -11,8 +11,7 @@ use Rattle.meta_types.specs.Rows.{snap_key}
 use Rattle.meta_types.specs.Ops.Snapshots.{is_committed, parent_row, is_child_of}
 use Rattle.meta_types.specs.Sound.{parent_of, HasParent}
 use Rattle.meta_types.specs.declared.rows.SnapRow.{SnapRow}
-use Rattle.meta_types.proofs.ListSearches.{no_none}
-use Rattle.object_tables.proofs.RowsKept.{row_is, no_row_of, row_removed, row_added, row_changed}
+use Rattle.object_tables.proofs.RowsKept.{no_row_of, row_removed, row_added, row_changed}
 
 -- ---- parents
 
@@ -86,16 +85,6 @@ has_parent rows row there may less = go row.parent (parent_of rows row) refl the
     go (Some name) None e there may = absurd cc
     go (Some name) (Some above) e there may =
         (above, e, from_not (is_committed above.kind) may, less above e)
-
--- a row's parent is one of the rows
-pub above_in : (rows : List SnapRow) (row above : SnapRow) → parent_of rows row ≡ Some above
-    → Contains rows above
-above_in rows row above = go row.parent
-  where
-    go : (parent : Option Text)
-        → parent_row rows row.key.ns row.key.snapshotter parent ≡ Some above → Contains rows above
-    go None e = no_none above e
-    go (Some name) e = (row_is snap_key (key_above row name) rows above e).0
 
 -- ---- which rows stay
 

@@ -50,7 +50,7 @@ module _ {Row : Type 0} (key_of : Row → Key) (ns_of : Row → Text) (namespace
     labelled (Ok u) ok err = changed ok
     labelled (Err e) ok err = subst (AreRows key_of ns_of namespaces) (sym err) s
 
-  -- the rows whose places are marked
+  -- the rows whose mark is set
   pub left : (marks : List Bool) → new ≡ kept marks old → AreRows key_of ns_of namespaces new
   left marks e = subst (AreRows key_of ns_of namespaces) (sym e)
       (rows_kept key_of ns_of namespaces marks old s)

@@ -1,4 +1,4 @@
--- Two rows that go leave the same names, whichever goes first.
+-- Two removed rows leave the same names, whichever is removed first.
 use Rattle.std.proofs.Common.{◌≡◌, Bool, true, false, List, [], ◌∷◌, Option, Some, None, refl, sym, ap, ◌∙◌, inl, inr}
 use Rattle.std.specs.Prelude.{if◌then◌else◌}
 use Rattle.std.proofs.lemmas.Bool.{cases_Bool}
@@ -8,7 +8,7 @@ use Rattle.meta_types.specs.declared.rows.SnapRow.{SnapRow}
 use Rattle.meta_types.specs.declared.rows.SnapKey.{SnapKey}
 use Rattle.row_tables.specs.Arrived.{one_text}
 use Rattle.row_tables.proofs.NamespaceLists.{keys_same}
-use Rattle.object_tables.specs.Children.{NamesByParent, left, left_by, without_row, parent_key}
+use Rattle.object_tables.specs.Children.{NamesByParent, left_by, without_row, parent_key}
 
 pub removed_twice : {Row : Type 0} (key_of : Row → Key) (a b : Key) (rows : List Row) → remove_row key_of a (remove_row key_of b rows) ≡ remove_row key_of b (remove_row key_of a rows)
 removed_twice key_of a b [] = refl

@@ -172,7 +172,7 @@ taken_out key_of row (next ∷ rows) free = elim (cases_Bool (is_key (key_of row
   ]
 ]
 
--- ---- rows whose places are marked
+-- ---- rows whose mark is set
 
 module _ {Row : Type 0} where
   pub all_kept : (P : Row → Type 0) (marks : List Bool) (rows : List Row) → All P rows

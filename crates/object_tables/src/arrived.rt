@@ -64,7 +64,7 @@ impl Model for ArrivedTables {
 }
 
 impl ArrivedTables {
-    /// How many namespaces there are. It takes no memory.
+    /// How many namespaces there are.
     pub fn count_ns(&self) -> u64
         ensures { result ≡ length self.now.namespaces }
     {
@@ -88,7 +88,7 @@ impl ArrivedTables {
         }
     }
 
-    /// Keeps the images whose places are marked. It takes no memory.
+    /// Keeps the images whose mark is set.
     pub fn retain_images(&mut self, marks: &[bool])
         requires { length marks.now ≡ length self.old.images }
         ensures left { self.new ≡ record self.old { images = kept marks.now self.old.images } }
@@ -96,11 +96,12 @@ impl ArrivedTables {
             → sorted image_key self.new.images
             ≡ filter stays (sorted image_key self.old.images) }
     {
+        // Its clause says that no key stands twice.
         let _ = self.images.len();
         self.images.retain(marks);
     }
 
-    /// Keeps the content rows whose places are marked. It takes no memory.
+    /// Keeps the content rows whose mark is set.
     pub fn retain_content(&mut self, marks: &[bool])
         requires { length marks.now ≡ length self.old.content }
         ensures left { self.new ≡ record self.old { content = kept marks.now self.old.content } }
@@ -108,11 +109,12 @@ impl ArrivedTables {
             → sorted content_key self.new.content
             ≡ filter stays (sorted content_key self.old.content) }
     {
+        // Its clause says that no key stands twice.
         let _ = self.content.len();
         self.content.retain(marks);
     }
 
-    /// Keeps the ingests whose places are marked. It takes no memory.
+    /// Keeps the ingests whose mark is set.
     pub fn retain_ingests(&mut self, marks: &[bool])
         requires { length marks.now ≡ length self.old.ingests }
         ensures left { self.new ≡ record self.old { ingests = kept marks.now self.old.ingests } }
@@ -120,11 +122,12 @@ impl ArrivedTables {
             → sorted ingest_key self.new.ingests
             ≡ filter stays (sorted ingest_key self.old.ingests) }
     {
+        // Its clause says that no key stands twice.
         let _ = self.ingests.len();
         self.ingests.retain(marks);
     }
 
-    /// Keeps the snapshots whose places are marked, the parent of each with it. It takes no memory.
+    /// Keeps the snapshots whose mark is set, the parent of each with it.
     pub fn retain_snapshots(&mut self, marks: &[bool])
         requires length { length marks.now ≡ length self.old.snapshots }
         requires numbered { AreNumbered (sorted snap_key (kept marks.now self.old.snapshots))
@@ -134,6 +137,7 @@ impl ArrivedTables {
             → sorted snap_key self.new.snapshots
             ≡ filter stays (sorted snap_key self.old.snapshots) }
     {
+        // Its clause says that no key stands twice.
         let _ = self.snapshots.table().len();
         self.snapshots.retain(marks);
     }
@@ -157,7 +161,7 @@ impl Tables {
         }
     }
 
-    /// The tables as they came. It takes no memory.
+    /// The tables as they came.
     pub fn into_came(self) -> ArrivedTables
         ensures { in_key_order result ≡ self }
     {
@@ -171,7 +175,7 @@ impl Tables {
         }
     }
 
-    /// The tables that came, seen in the order of their keys. It takes no memory.
+    /// The tables that came, seen in the order of their keys.
     pub fn from_came(came: ArrivedTables) -> Tables
         ensures { result ≡ in_key_order came }
     {

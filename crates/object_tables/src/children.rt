@@ -64,7 +64,7 @@ impl Snapshots {
         &self.rows
     }
 
-    /// The snapshots as they came. It takes no memory.
+    /// The snapshots as they came.
     pub(crate) fn into_came(self) -> ArrivedSnapshots
         ensures { sorted snap_key result ≡ self }
     {
@@ -74,7 +74,7 @@ impl Snapshots {
         }
     }
 
-    /// The snapshots that came, seen in the order of their keys. It takes no memory.
+    /// The snapshots that came, seen in the order of their keys.
     pub(crate) fn from_came(came: ArrivedSnapshots) -> Snapshots
         ensures { result ≡ sorted snap_key came }
     {
@@ -97,6 +97,7 @@ impl Snapshots {
         let parent = parent.copy()?;
         let key = row.key.copy()?;
         self.families.enter(alloc, &key, &parent)?;
+        // Its clause says that the keys stand in their order.
         let _ = self.rows.len();
         match self.rows.add(alloc, row) {
             Ok(()) => Ok(()),
@@ -114,6 +115,7 @@ impl Snapshots {
             ∷ key.now.name ∷ []) self.old }
         ensures same { OnFalse result (self.new ≡ self.old) }
     {
+        // Its clause says that the keys stand in their order.
         let _ = self.rows.len();
         let Some(row) = self.rows.take(&key.ns, &key.snapshotter, &key.name) else {
             return false;
@@ -188,13 +190,14 @@ impl ArrivedSnapshots {
         &self.rows
     }
 
-    /// Keeps the rows whose places are marked. It takes no memory.
+    /// Keeps the rows whose mark is set.
     pub(crate) fn retain(&mut self, marks: &[bool])
         requires { length marks.now ≡ length self.old }
         ensures left { self.new ≡ kept marks.now self.old }
         ensures stays { (stays : SnapRow → Bool) → marks.now ≡ map stays self.old
             → sorted snap_key self.new ≡ filter stays (sorted snap_key self.old) }
     {
+        // Their clauses say that no key stands twice.
         let _ = self.rows.len();
         let _ = self.families.len();
         self.rows.visit_removed(marks, &mut self.families);

@@ -193,11 +193,12 @@ impl Families {
         }
     }
 
-    /// A snapshot goes from under its parent, and a family with its last child. It takes no memory.
+    /// A snapshot goes from under its parent, and a family with its last child.
     pub(crate) fn leave(&mut self, key: &SnapKey, parent: &Name)
         ensures rows { self.new ≡ families_left key.now parent.now self.old }
         ensures names { family_names self.new ≡ left key.now parent.now (family_names self.old) }
     {
+        // Its clause says that the keys stand in their order.
         let _ = self.rows.len();
         let name = &key.name;
         match self

@@ -137,6 +137,7 @@ fn take_row<R: Keyed>(rows: &mut Vec<R>, key: &[&str]) -> bool
     let Ok(place) = search(rows, key) else {
         return false;
     };
+    // The row itself isn't wanted.
     let _row = rows.remove(place);
     true
 }

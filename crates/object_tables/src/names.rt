@@ -1,4 +1,4 @@
-//! Names, each once.
+//! A set of names, each found by a hash.
 ghost use Rattle.std.specs.Prelude.{◌≡◌, ◌∷◌, [], ◌==◌, map, false, None, IfOk, OnOk, OnErr, length};
 ghost use Rattle.meta_types.specs.Keys.{has_row, add_row, remove_row};
 ghost use Rattle.meta_types.specs.Faults.{Refuses, least_of};
@@ -26,7 +26,7 @@ impl Model for Names {
 }
 
 impl Names {
-    /// No name. It takes no memory.
+    /// No name.
     pub(crate) fn new(alloc: Global) -> Names
         ensures { result ≡ [] }
     {
@@ -69,10 +69,11 @@ impl Names {
         self.rows.add_new(name)
     }
 
-    /// A name goes, where it is there. It takes no memory.
+    /// A name goes, where it is there.
     pub(crate) fn remove(&mut self, name: &Name)
         ensures { self.new ≡ remove_row one_text (name.now ∷ []) self.old }
     {
+        // The name itself isn't wanted.
         let _gone = self.rows.take(name);
     }
 }

@@ -79,8 +79,7 @@ impl Tables {
         self.snapshots.relabel(alloc, at, key, value)
     }
 
-    /// Adds a snapshot's row, with the backend number that the caller chose: one that no ingest and
-    /// no other snapshot has, above its parent's.
+    /// Adds a snapshot's row. Its number is no ingest's or snapshot's, and above its parent's.
     pub fn add_snap(&mut self, alloc: Global, row: SnapRow) -> Result<(), Fault>
         requires numbered { adding_snap_fault self.old row ≡ None
             → AreNumbered (add_row snap_key row self.old.snapshots) self.old.ingests }
@@ -93,7 +92,7 @@ impl Tables {
         self.snapshots.add(alloc, row)
     }
 
-    /// What would refuse a snapshot, but memory.
+    /// Checks a new snapshot without making it; never answers OutOfMemory.
     pub fn check_add(&self, row: &SnapRow) -> Result<(), Fault>
         ensures fault { OnlyRefuses result (adding_snap_fault self.now row.now) }
         ensures free { OnOk result (has_row snap_key (snap_key row.now) self.now.snapshots
@@ -138,7 +137,7 @@ impl Tables {
         }
     }
 
-    /// What would refuse a commit, but memory.
+    /// Checks a commit without making it; never answers OutOfMemory.
     pub fn check_commit(&self, key: &SnapKey, name: &Name) -> Result<(), Fault>
         ensures fault { OnlyRefuses result
             (committing_fault key.now.ns key.now.snapshotter key.now.name name.now
@@ -147,6 +146,7 @@ impl Tables {
             ∷ []) self.now.snapshots ≡ false) }
         ensures order { IsTrue (are_in_order snap_key self.now.snapshots) }
     {
+        // Its clause says that the keys stand in their order.
         let _ = self.snapshots.table().len();
         let Some(row) = self.get_snap(key) else {
             return Err(Fault::NotFound);

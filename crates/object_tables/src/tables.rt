@@ -66,7 +66,7 @@ pub struct Counts {
 }
 
 impl Tables {
-    /// No namespace, and no row. It takes no memory.
+    /// No namespace, and no row.
     pub fn new(alloc: Global) -> Tables
         ensures { result ≡ record {
           namespaces = [];
@@ -127,7 +127,7 @@ impl Tables {
         }
     }
 
-    /// How many namespaces there are. It takes no memory.
+    /// How many namespaces there are.
     pub fn count_ns(&self) -> u64
         ensures { result ≡ length self.now.namespaces }
     {

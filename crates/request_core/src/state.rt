@@ -24,7 +24,7 @@ pub struct Records {
 }
 
 impl Records {
-    /// No row and no lease, in the first profile. It takes no memory.
+    /// No row and no lease, in the first profile.
     pub fn empty(alloc: Global) -> Records
         ensures { result ≡ record {
           tables = record {
@@ -85,7 +85,7 @@ impl<S: SnapBackend, B: BlobBackend, I: IngestBackend> Model for State<S, B, I> 
 }
 
 impl<S: SnapBackend, B: BlobBackend, I: IngestBackend> State<S, B, I> {
-    /// Nothing stored, over fresh backends, in the first profile. It takes no memory.
+    /// Nothing stored, over fresh backends, in the first profile.
     pub fn empty(alloc: Global) -> State<S, B, I>
         ensures empty { result ≡ record {
           state = record {

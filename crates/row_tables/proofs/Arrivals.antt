@@ -1,21 +1,13 @@
 -- What a change of the rows, as they came, does to the list of them in the order of their keys.
-use Rattle.std.proofs.Common.{◌≡◌, Bool, true, false, List, [], ◌∷◌, ◌++◌, length, refl, sym, ap, ◌∙◌, subst, arith, ◌⊎◌, inl, inr, ℕ, ◌+◌, suc}
-use Rattle.std.specs.Prelude.{◌&&◌, IfNone, if◌then◌else◌, Contains, filter, find, Option, Some, None, is_some, slice_get}
-use Rattle.std.specs.Cmp.{on_equiv}
-use Rattle.std.proofs.Common.{◌<◌, get_or, take, map}
-use Rattle.std.proofs.lemmas.Grind.{common_steps}
-use Rattle.indexmap.specs.IndexSet.{insert_all, insert_key}
-use Rattle.indexmap.proofs.SetLemmas.{set_all_push}
-use Rattle.std.specs.Bool.{OnFalse}
+use Rattle.std.proofs.Common.{◌≡◌, Bool, true, false, List, [], ◌∷◌, ◌++◌, length, refl, sym, ap, ◌∙◌, subst, ◌⊎◌, inl, inr, ℕ, suc}
+use Rattle.std.specs.Prelude.{◌&&◌, if◌then◌else◌, Contains, filter, Some, slice_get}
+use Rattle.std.proofs.Common.{map}
 use Rattle.std.specs.List.{swap_remove, IsDistinct, AllByRecursion, list_any, list_all}
 use Rattle.std.specs.List.Sorted.{IsPermutation}
 use Rattle.std.proofs.lemmas.Bool.{cases_Bool, and_parts}
 use Rattle.std.proofs.lemmas.List.Elements.{All-contains}
 use Rattle.std.proofs.lemmas.List.Sorted.{Contains-permutation, IsPermutation-sym, IsPermutation-to_front, IsPermutation-swap_remove}
 use Rattle.std.proofs.lemmas.Option.{slice_get_within, get_or_from_slice_get}
-use Rattle.indexmap.proofs.MapLemmas.{distinct_permutation}
-use Rattle.meta_types.proofs.ListSearches.{found_is, row_is_found}
-use Rattle.meta_types.proofs.Puts.{remove_absent}
 use Rattle.meta_types.specs.Keys.{Key, is_key, is_before, row_at, has_row, add_row, remove_row, change_row, is_first, are_in_order}
 use Rattle.meta_types.proofs.Ordered.{before_trans, in_order_added}
 use Rattle.meta_types.proofs.Members.{here, later, first_or_later, none_in_nothing, in_filter, from_filter}
@@ -210,19 +202,6 @@ module _ {Row : Type 0} (key_of : Row → Key) where
   pub arrived : (row : Row) (rows : List Row) → has_row key_of (key_of row) rows ≡ false → IsDistinct (same_key key_of) rows → IsDistinct (same_key key_of) (rows ++ row ∷ []) → sorted key_of (rows ++ row ∷ []) ≡ add_row key_of row (sorted key_of rows)
   arrived row rows h d e = one_order (rows ++ row ∷ []) (row ∷ rows) e (distinct_more row rows h d) (IsPermutation-to_front rows row)
 
-  -- what an insertion leaves, where the key is free
-  pub inserted : (row : Row) (old new : List Row) → has_row key_of (key_of row) (sorted key_of old) ≡ false → IsDistinct (same_key key_of) old → IsDistinct (same_key key_of) new → new ≡ (if list_any (same_key key_of row) old then old else old ++ row ∷ []) → sorted key_of new ≡ add_row key_of row (sorted key_of old)
-  inserted row old new h d e is =
-      let free : has_row key_of (key_of row) old ≡ false = sym (has_sorted (key_of row) old) ∙ h in
-      let none : list_any (same_key key_of row) old ≡ false = sym (has_any (key_of row) old) ∙ free in
-      let last : new ≡ old ++ row ∷ [] = is ∙ ap (λ b. if b then old else old ++ row ∷ []) none in
-      ap (sorted key_of) last ∙ arrived row old free d (subst (IsDistinct (same_key key_of)) last e)
-
-  pub placed_last : (row : Row) (old new : List Row) → has_row key_of (key_of row) (sorted key_of old) ≡ false → new ≡ (if list_any (same_key key_of row) old then old else old ++ row ∷ []) → new ≡ old ++ row ∷ []
-  placed_last row old new h is =
-      let none : list_any (same_key key_of row) old ≡ false = sym (has_any (key_of row) old) ∙ sym (has_sorted (key_of row) old) ∙ h in
-      is ∙ ap (λ b. if b then old else old ++ row ∷ []) none
-
   remove_added : (key : Key) (row : Row) (rows : List Row) → is_key key (key_of row) ≡ true → has_row key_of key rows ≡ false → remove_row key_of key (add_row key_of row rows) ≡ rows
   remove_added key row [] t h = rw t refl
   remove_added key row (next ∷ rows) t h = elim (cases_Bool (is_before (key_of row) (key_of next))) [
@@ -248,18 +227,6 @@ module _ {Row : Type 0} (key_of : Row → Key) where
   went key row old left t p d e =
       let gone : has_row key_of key (sorted key_of left) ≡ false = has_sorted key left ∙ same_absent key (key_of row) left t (head_absent row left e) in
       sym (remove_added key row (sorted key_of left) t gone) ∙ ap (remove_row key_of key) (sym (one_order old (row ∷ left) d e p))
-
-  -- what is left where the last row takes the place of the one that was found
-  pub taken : (key : Key) (row : Row) (place : ℕ) (old left : List Row) → Some row ≡ find (λ other. is_key key (key_of other)) old → slice_get old place ≡ Some row → left ≡ swap_remove old place row → IsDistinct (same_key key_of) old → sorted key_of left ≡ remove_row key_of key (sorted key_of old)
-  taken key row place old left found at is d =
-      let within = slice_get_within old place row at in
-      let moved : IsPermutation old (row ∷ swap_remove old place row) = IsPermutation-swap_remove old place row within (sym (get_or_from_slice_get old place row row at)) in
-      let p : IsPermutation old (row ∷ left) = subst (λ (l : List Row). IsPermutation old (row ∷ l)) (sym is) moved in
-      went key row old left (found_is (λ other. is_key key (key_of other)) old row (sym found)).1 p d (distinct_permutation (on_equiv key_of keys_equiv) old (row ∷ left) p d)
-
-  -- where none was found all is as it was
-  pub none_taken : (key : Key) (rows : List Row) → None ≡ find (λ row. is_key key (key_of row)) rows → sorted key_of rows ≡ remove_row key_of key (sorted key_of rows)
-  none_taken key rows none = sym (remove_absent key_of key (sorted key_of rows) (has_sorted key rows ∙ ap is_some (row_is_found key_of key rows ∙ sym none)))
 
   pub stayed : (p : Row → Bool) (rows : List Row) → IsDistinct (same_key key_of) rows → IsDistinct (same_key key_of) (filter p rows) → sorted key_of (filter p rows) ≡ filter p (sorted key_of rows)
   stayed p rows d e =
@@ -298,17 +265,6 @@ module _ {Row : Type 0} (key_of : Row → Key) where
   all_sorted p [] = refl
   all_sorted p (row ∷ rows) = all_added p row (sorted key_of rows) ∙ ap (λ b. p row && b) (all_sorted p rows)
 
--- where nothing was taken all is as it was
-pub same_taken : {Row : Type 0} (found : Option Row) (old new : List Row) (some : Bool) → some ≡ is_some found → IfNone found (new ≡ old) → OnFalse some (new ≡ old)
-same_taken None old new some e h = rw e h
-same_taken (Some row) old new some e h = rw e tt
-
--- one row more is copied
-pub copied_more : {Row : Type 0} (eq : Row → Row → Bool) (rows : List Row) (i : ℕ) (x : Row) (old new : List Row) → i < length rows → x ≡ get_or rows i x → old ≡ insert_all eq [] (take i rows) → new ≡ insert_key eq old x → new ≡ insert_all eq [] (take (i + 1) rows)
-copied_more eq rows i x old new lt at h is =
-    let more : take (i + 1) rows ≡ take i rows ++ x ∷ [] = grind (arith, common_steps) in
-    is ∙ ap (λ l. insert_key eq l x) h ∙ sym (set_all_push eq [] (take i rows) x) ∙ ap (insert_all eq []) (sym more)
-
 module _ {Row : Type 0} (key_of : Row → Key) where
   pub kept_is : (stays : Row → Bool) (rows : List Row) → kept (map stays rows) rows ≡ filter stays rows
   kept_is stays [] = refl
@@ -329,22 +285,3 @@ module _ {Row : Type 0} (key_of : Row → Key) where
         let parts = absent_head key_of key next rows h in
         rw (k, b, parts.0) (ap (λ (rest : List Row). next ∷ rest) (change_added key change row rows k t parts.1)))
   ]
-
-  -- the row that was found is taken out, changed and put behind all others
-  pub changed : (key : Key) (change : Row → Row) (row : Row) (place : ℕ) (old left : List Row) → key_of (change row) ≡ key_of row → Some row ≡ find (λ other. is_key key (key_of other)) old → slice_get old place ≡ Some row → left ≡ swap_remove old place row → IsDistinct (same_key key_of) old → IsDistinct (same_key key_of) left → IsDistinct (same_key key_of) (left ++ change row ∷ [])
-      → sorted key_of (left ++ change row ∷ []) ≡ change_row key_of key change (sorted key_of old)
-  changed key change row place old left k found at is d l e =
-      let p = moved_out row place old left at is in
-      let t : is_key key (key_of row) ≡ true = (found_is (λ other. is_key key (key_of other)) old row (sym found)).1 in
-      let more : IsDistinct (same_key key_of) (row ∷ left) = distinct_permutation (on_equiv key_of keys_equiv) old (row ∷ left) p d in
-      let free : has_row key_of (key_of row) left ≡ false = head_absent key_of row left more in
-      let none : has_row key_of key (sorted key_of left) ≡ false = has_sorted key_of key left ∙ same_absent key_of key (key_of row) left t free in
-      arrived key_of (change row) left (rw k free) l e
-      ∙ change_added key change row (sorted key_of left) k t none
-      ∙ ap (change_row key_of key change) (sym (one_order key_of old (row ∷ left) d more p))
-
-  -- a row that was taken out has a free key
-  pub free_after : (row : Row) (place : ℕ) (old left : List Row) → slice_get old place ≡ Some row → left ≡ swap_remove old place row → IsDistinct (same_key key_of) old → list_any (same_key key_of row) left ≡ false
-  free_after row place old left at is d =
-      let more : IsDistinct (same_key key_of) (row ∷ left) = distinct_permutation (on_equiv key_of keys_equiv) old (row ∷ left) (moved_out row place old left at is) d in
-      sym (has_any key_of (key_of row) left) ∙ head_absent key_of row left more

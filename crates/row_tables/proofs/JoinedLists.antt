@@ -1,16 +1,14 @@
 -- Lists of rows, one behind the other: what a call does to one list, it does to all rows.
 use Rattle.std.proofs.Common.{◌≡◌, ℕ, ◌<◌, zero, suc, true, false, List, [], ◌∷◌, ◌++◌, length, get_or, take, drop, None, refl, sym, ap, ◌∙◌, arith, inl, inr, append_assoc}
 use Rattle.std.specs.Prelude.{All, slice_set}
-use Rattle.std.specs.List.{remove}
-use Rattle.std.proofs.lemmas.Bool.{cases_Bool, and_parts, and_from}
-use Rattle.std.proofs.lemmas.List.Elements.{All-head, All-tail, All-nil}
-use Rattle.meta_types.specs.Keys.{Key, is_key, is_before, is_first, row_at, add_row, remove_row, change_row, are_in_order}
+use Rattle.std.proofs.lemmas.Bool.{cases_Bool}
+use Rattle.std.proofs.lemmas.List.Elements.{All-head, All-tail}
+use Rattle.meta_types.specs.Keys.{Key, is_key, is_before, row_at, add_row, remove_row, change_row}
 use Rattle.std.specs.Cmp.Lexicographic.{slice_cmp}
 use Rattle.std.specs.Ordering.{is_lt, is_eq}
 use Rattle.std.specs.declared.cmp.Ordering.{Ordering}
 use Rattle.std.specs.declared.cmp.Ordering.TheVariants.{Less, Equal, Greater}
 use Rattle.meta_types.specs.Text.{text_cmp}
-use Rattle.meta_types.proofs.OneRowPerKey.{before_all}
 use Rattle.meta_types.proofs.Ordered.{key_ties}
 use Rattle.meta_types.proofs.Searched.{one_way, not_key}
 use Rattle.row_tables.specs.Namespaces.{joined}
@@ -50,53 +48,12 @@ module _ {X : Type 0} where
   joined_set (c ∷ lists) (suc i) new lt = ap (λ ys. c ++ ys) (joined_set lists i new (omega arith))
       ∙ sym (append_assoc c (joined (take i lists)) (new ++ joined (drop (suc i) lists)))
 
-  pub joined_remove : (lists : List (List X)) (i : ℕ)
-      → joined (remove lists i) ≡ joined (take i lists) ++ joined (drop (suc i) lists)
-  joined_remove lists i = joined_append (take i lists) (drop (suc i) lists)
-
-  pub all_left : (P : X → Type 0) (xs ys : List X) → All P (xs ++ ys) → All P xs
-  all_left P [] ys h = All-nil P
-  all_left P (x ∷ xs) ys h = cons P x xs (All-head P x (xs ++ ys) h) (all_left P xs ys (All-tail P x (xs ++ ys) h))
-    where
-      cons : (P : X → Type 0) (x : X) (xs : List X) → P x → All P xs → All P (x ∷ xs)
-      cons P x xs p h zero d lt = p
-      cons P x xs p h (suc k) d lt = h k d (omega arith)
-
-  pub all_right : (P : X → Type 0) (xs ys : List X) → All P (xs ++ ys) → All P ys
-  all_right P [] ys h = h
-  all_right P (x ∷ xs) ys h = all_right P xs ys (All-tail P x (xs ++ ys) h)
-
   pub all_cons : (P : X → Type 0) (x : X) (xs : List X) → P x → All P xs → All P (x ∷ xs)
   all_cons P x xs p h zero d lt = p
   all_cons P x xs p h (suc k) d lt = h k d (omega arith)
 
 module _ {Row : Type 0} (key_of : Row → Key) where
   -- ---- rows in order, in parts
-
-  pub order_right : (a b : List Row) → are_in_order key_of (a ++ b) ≡ true → are_in_order key_of b ≡ true
-  order_right [] b o = o
-  order_right (x ∷ a) b o = order_right a b (and_parts (is_first key_of x (a ++ b)) (are_in_order key_of (a ++ b)) o).1
-
-  first_left : (x : Row) (a b : List Row) → is_first key_of x (a ++ b) ≡ true → is_first key_of x a ≡ true
-  first_left x [] b h = refl
-  first_left x (y ∷ a) b h = h
-
-  pub order_left : (a b : List Row) → are_in_order key_of (a ++ b) ≡ true → are_in_order key_of a ≡ true
-  order_left [] b o = refl
-  order_left (x ∷ a) b o =
-      let parts = and_parts (is_first key_of x (a ++ b)) (are_in_order key_of (a ++ b)) o in
-      and_from (is_first key_of x a) (are_in_order key_of a) (first_left x a b parts.0) (order_left a b parts.1)
-
-  -- the rows in front of one stand before it
-  pub all_before : (a : List Row) (y : Row) (b : List Row) → are_in_order key_of (a ++ (y ∷ b)) ≡ true
-      → All (λ row. is_before (key_of row) (key_of y) ≡ true) a
-  all_before [] y b o = All-nil _
-  all_before (x ∷ a) y b o =
-      let parts = and_parts (is_first key_of x (a ++ (y ∷ b))) (are_in_order key_of (a ++ (y ∷ b))) o in
-      all_cons (λ row. is_before (key_of row) (key_of y) ≡ true) x a
-      (All-head (λ row. is_before (key_of x) (key_of row) ≡ true) y b
-      (all_right (λ row. is_before (key_of x) (key_of row) ≡ true) a (y ∷ b) (before_all key_of x (a ++ (y ∷ b)) parts.0 parts.1)))
-      (all_before a y b parts.1)
 
   -- ---- one key
 

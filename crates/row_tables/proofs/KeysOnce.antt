@@ -19,7 +19,7 @@ use Rattle.std.proofs.lemmas.List.Sorted.{IsPermutation-refl, IsPermutation-cons
 use Rattle.indexmap.proofs.MapLemmas.{distinct_permutation}
 use Rattle.row_tables.proofs.JoinedLists.{not_it, all_cons}
 use Rattle.row_tables.proofs.NamespaceLists.{order_of_names}
-use Rattle.row_tables.proofs.NamespaceRows.{own, IsOwn}
+use Rattle.row_tables.proofs.NamespaceRows.{IsOwn}
 
 module _ {Row : Type 0} (key_of : Row → Key) where
   moved_up : (row : Row) (rows : List Row) → IsPermutation (row ∷ rows) (add_row key_of row rows)

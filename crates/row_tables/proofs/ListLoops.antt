@@ -21,7 +21,7 @@ module _ {X : Type 0} where
   joined_more_set lists i new lt = ap joined (take_more_set lists i new lt) ∙ joined_append (take i lists) (new ∷ [])
       ∙ ap (λ rows. joined (take i lists) ++ rows) (append-nil new)
 
-  -- ---- rows whose places are marked
+  -- ---- rows whose mark is set
 
   kept_split : (marks : List Bool) (c rest : List X) → length c ≤ length marks
       → kept marks (c ++ rest) ≡ kept (take (length c) marks) c ++ kept (drop (length c) marks) rest
@@ -35,7 +35,7 @@ module _ {X : Type 0} where
   none_kept [] = refl
   none_kept (m ∷ marks) = refl
 
-  -- so many lists are done, and the marks left are those of the others
+  -- the lists before the place are done, and the marks left are those of the others
   pub record Retains (all : List X) (lists : List (List X)) (i : ℕ) (rest : List Bool) : Type 0 where
     pub len : length rest ≡ length (joined (drop i lists))
     pub rows : joined (take i lists) ++ kept rest (joined (drop i lists)) ≡ all
@@ -98,11 +98,11 @@ module _ {P X : Type 0} (after_visit : P → X → P) where
       (ap (all_visited after_visit (gone (drop (suc i) marks) (drop (suc i) rows))) (made ∙ ap (λ r. if get_or marks i false then visited else after_visit visited r) is)
       ∙ visited_next marks rows i visited row lm (omega (arith, lm, len)))
 
-  -- behind the last mark nothing is told
+  -- behind the last mark no row is visited
   pub visited_out : (marks : List Bool) (rows : List X) (i : ℕ) (visited : P) → length marks ≤ i → visited ≡ all_visited after_visit (gone (drop i marks) (drop i rows)) visited
   visited_out marks rows i visited past = sym (ap (λ left. all_visited after_visit (gone left (drop i rows)) visited) (drop_all i marks past))
 
-  -- so many lists are told of, and the marks left are those of the others
+  -- the lists before the place are visited, and the marks left are those of the others
   pub record Visits (end : P) (lists : List (List X)) (i : ℕ) (rest : List Bool) (now : P) : Type 0 where
     pub len : length rest ≡ length (joined (drop i lists))
     pub visited : all_visited after_visit (gone rest (joined (drop i lists))) now ≡ end

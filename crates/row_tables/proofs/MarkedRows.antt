@@ -1,4 +1,4 @@
--- Marks of places, as marks by the order of keys.
+-- Marks of places, as marks in key order.
 use Rattle.std.proofs.Common.{◌≡◌, Bool, true, false, List, [], ◌∷◌, length, map, not, refl, sym, ap, ◌∙◌, arith, inl, inr}
 use Rattle.std.specs.Prelude.{filter, if◌then◌else◌}
 use Rattle.std.specs.List.{IsDistinct, AllByRecursion}
@@ -44,7 +44,7 @@ module _ {Row : Type 0} (key_of : Row → Key) where
         → sorted key_of left ≡ kept (marks_in_order marks rows) (sorted key_of rows)
     kept_in_order left by = by (mark_of rows marks) (sym (marks_read rows marks d len)) ∙ sym (kept_is key_of (mark_of rows marks) (sorted key_of rows))
 
-    -- and so is what goes
+    -- and so are the removed rows
     pub gone_in_order : sorted key_of (gone marks rows) ≡ gone (marks_in_order marks rows) (sorted key_of rows)
     gone_in_order =
         let goes : Row → Bool = λ row. not (mark_of rows marks row) in

@@ -22,10 +22,10 @@ use Rattle.meta_types.proofs.KeepsSound.{all_removed, all_added, all_changed}
 use Rattle.meta_types.proofs.Ordered.{in_order_added, in_order_removed}
 use Rattle.meta_types.proofs.RowAtPlace.{put_at_place}
 use Rattle.row_tables.specs.Arrived.{by_name, Becomes}
-use Rattle.row_tables.specs.Namespaces.{joined, full_key, group_key, all_rows, AreGroups, IsHome}
+use Rattle.row_tables.specs.Namespaces.{joined, full_key, group_key, all_rows, AreGroups}
 use Rattle.row_tables.proofs.JoinedLists.{not_it, IsPlace, row_there, removed_there, changed_in_place, added_there}
 use Rattle.row_tables.proofs.MappedLists.{length_map}
-use Rattle.row_tables.proofs.NamespaceLists.{place_within, there_now, lead_before, at_found, in_order_becomes, list_at, lists_set, names_set, order_of_names, opened_rows}
+use Rattle.row_tables.proofs.NamespaceLists.{lead_before, at_found, in_order_becomes, list_at, lists_set, names_set, order_of_names, opened_rows}
 
 module _ {K Row : Type 0} (texts_of : K → Key) (name_of : Row → K) (ns_of : Row → Text) where
   abbrev pub full : Row → Key
@@ -165,9 +165,6 @@ module _ {K Row : Type 0} (texts_of : K → Key) (name_of : Row → K) (ns_of : 
     has_in : (row : Row) → ns_of row ≡ ns → has_row own (own row) rows ≡ has_row full (full row) (all_rows gs)
     has_in row e = ap is_some (sym (found_in (own row)) ∙ ap (λ m. row_at full (m ∷ own row) (all_rows gs)) (sym e))
 
-    pub free_in : (row : Row) → ns_of row ≡ ns → has_row full (full row) (all_rows gs) ≡ false → has_row own (own row) rows ≡ false
-    free_in row e free = has_in row e ∙ free
-
     pub added_in : (row : Row) → ns_of row ≡ ns → (new : List Row) → new ≡ add_row own row rows → all_rows (slice_set gs i (ns, new)) ≡ add_row full row (all_rows gs)
     added_in row e new is = after_set new
         ∙ ap (λ (l : List Row). joined (slice_set (map (λ (group : Text × List Row). group.1) gs) i l)) (is ∙ sym (added_own ns row e rows own_rows) ∙ ap (add_row full row) (sym rows_there))
@@ -283,9 +280,6 @@ module _ {K Row : Type 0} (texts_of : K → Key) (name_of : Row → K) (ns_of : 
       own = subst (All IsOwn) (sym made) (all_added group_key IsOwn (ns, []) (All-nil (λ row. ns_of row ≡ ns)) gs are.own);
       rows = ap (are_in_order full) same_rows ∙ are.rows;
     }
-
-    pub opened_home : IsHome ns i new
-    opened_home = ([], ap (λ (l : List (Text × List Row)). slice_get l i) is ∙ there_now gs i (ns, []) (let w = place_within (λ (group : Text × List Row). is_before (ns ∷ []) (group_key group)) gs in omega (arith, w, place)))
 
   -- ---- the rows of one namespace among all
 

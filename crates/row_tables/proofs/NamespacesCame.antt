@@ -14,7 +14,7 @@ use Rattle.std.proofs.lemmas.List.Elements.{All-head, All-tail, All-append, All-
 use Rattle.meta_types.specs.Text.{Text}
 use Rattle.meta_types.specs.Keys.{Key, is_key, is_before, is_first, row_at, has_row, add_row, remove_row, are_in_order}
 use Rattle.meta_types.proofs.OneRowPerKey.{before_all}
-use Rattle.meta_types.proofs.Members.{here, later}
+use Rattle.meta_types.proofs.Members.{later}
 use Rattle.row_tables.specs.Arrived.{Becomes, sorted, kept}
 use Rattle.row_tables.specs.Came.{listed, in_names, AreCame}
 use Rattle.row_tables.specs.Namespaces.{joined, group_key, all_rows, AreGroups, IsHome}

@@ -63,7 +63,7 @@ module _ {X : Type 0} where
     behind_more [] zs le lt len behind is = absurd (omega (arith, lt, len, same))
     behind_more (y ∷ ys) zs le lt len behind is = ap (drop (i + 1)) is ∙ swap_behind (y ∷ ys) n i y le (omega (arith, lt, len, same)) ∙ rest_behind (y ∷ ys) xs i behind
 
-    -- one whose place isn't marked stays out
+    -- one whose mark is unset stays out
     pub front_same : (front : List X) (b : Bool) → i < length marks → front ≡ kept (take i marks) (take i xs) → get_or marks i b ≡ false → front ≡ kept (take (i + 1) marks) (take (i + 1) xs)
     front_same front b lt is mark = go xs same is
       where

@@ -1,13 +1,11 @@
 -- Rows as they came, seen in the order of their keys. Ours, unless a source stands beside.
-use Rattle.std.specs.Prelude.{◌≡◌, ℕ, ◌<◌, ◌&&◌, true, false, List, [], ◌∷◌, Bool, All, Option, Some, None, length, slice_index_or, ◌≤◌, if◌then◌else◌, bytes_eq}
+use Rattle.std.specs.Prelude.{◌≡◌, ◌&&◌, true, false, List, [], ◌∷◌, Bool, All, Some, if◌then◌else◌, bytes_eq}
 use Rattle.std.proofs.Common.{refl}
 use Rattle.std.specs.Cmp.{IsEquivalence}
-use Rattle.std.specs.Cmp.Lexicographic.{slice_cmp, lists_equiv, nat_list_eq_equiv}
-use Rattle.std.specs.declared.cmp.Ordering.{Ordering}
-use Rattle.std.specs.declared.cmp.Ordering.TheVariants.{Less, Equal, Greater}
+use Rattle.std.specs.Cmp.Lexicographic.{lists_equiv, nat_list_eq_equiv}
 use Rattle.std.specs.List.{IsDistinct}
 use Rattle.std.specs.Map.{keys_of}
-use Rattle.meta_types.specs.Text.{Text, text_cmp}
+use Rattle.meta_types.specs.Text.{Text}
 use Rattle.meta_types.specs.declared.fault.Fault.{Fault}
 use Rattle.meta_types.specs.declared.fault.Fault.TheVariants.{AlreadyExists, OutOfMemory}
 use Rattle.meta_types.specs.Keys.{Key, is_key, is_before, in_order, row_at, change_row}
@@ -46,34 +44,11 @@ pub record AreNamed {K Row : Type 0} (same : K → K → Bool) (name_of : Row �
 abbrev pub without_memory : Bool → Fault
 without_memory there = if there then AlreadyExists else OutOfMemory
 
--- the rows whose places are marked
+-- the rows whose mark is set
 abbrev pub kept : {Row : Type 0} → List Bool → List Row → List Row
 kept [] rows = []
 kept (stays ∷ marks) [] = []
 kept (stays ∷ marks) (row ∷ rows) = if stays then row ∷ kept marks rows else kept marks rows
-
--- ---- places
-
--- the places of so many rows, in their order
-pub record ArePlaces (count : ℕ) (places : List ℕ) : Type 0 where
-  pub len : length places ≡ count
-  pub each : (i : ℕ) → i < count → slice_index_or places i 0 ≡ i
-
--- the first of these places have the marks of what stands there
-abbrev pub AreMarked : (ℕ → Bool) → List ℕ → ℕ → List Bool → Type 0
-AreMarked stays places count marks = (i : ℕ) → i < count → slice_index_or marks (slice_index_or places i 0) false ≡ stays (slice_index_or places i 0)
-
--- rows that were looked for stand in the order of their keys, and none before all
-abbrev pub found_cmp : {Row : Type 0} → (Row → Key) → Option Row → Option Row → Ordering
-found_cmp key_of None None = Equal
-found_cmp key_of None (Some b) = Less
-found_cmp key_of (Some a) None = Greater
-found_cmp key_of (Some a) (Some b) = slice_cmp text_cmp (key_of a) (key_of b)
-
--- there is room for the places and for the marks of so many rows
-pub record HasRoom (count place_room mark_room : ℕ) : Type 0 where
-  pub places : count ≤ place_room
-  pub marks : count ≤ mark_room
 
 pub keys_equiv : IsEquivalence is_key
 keys_equiv = lists_equiv nat_list_eq_equiv

@@ -19,7 +19,7 @@ module _ {Row : Type 0} where
     pub order : IsTrue (are_in_order group_key groups)
     pub listed : AreGroups key_of ns_of (listed own_key groups)
 
-  -- and so many rows there are
+  -- namespaces with their rows, and how many rows these are
   pub record HaveCame (key_of own_key : Row → Key) (ns_of : Row → Text) (groups : List (Text × List Row)) (count : ℕ) : Type 0 where
     pub are : AreCame key_of own_key ns_of groups
     pub counted : count ≡ length (all_rows groups)

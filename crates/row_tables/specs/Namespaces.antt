@@ -1,5 +1,5 @@
 -- Rows by namespace. Ours, unless a source stands beside.
-use Rattle.std.specs.Prelude.{◌≡◌, ℕ, List, [], ◌∷◌, ◌++◌, map, All, Some, slice_get, IsTrue, length}
+use Rattle.std.specs.Prelude.{◌≡◌, ℕ, List, [], ◌∷◌, ◌++◌, map, All, Some, slice_get, IsTrue}
 use Rattle.meta_types.specs.Text.{Text}
 use Rattle.meta_types.specs.Keys.{Key, are_in_order}
 
@@ -38,8 +38,3 @@ module _ {Row : Type 0} where
     pub order : IsTrue (are_in_order group_key groups)
     pub own : All (λ group. All (λ row. ns_of row ≡ group.0) group.1) groups
     pub rows : IsTrue (are_in_order key_of (all_rows groups))
-
-  -- namespaces stand so, and so many rows they have
-  pub record AreLayers (key_of : Row → Key) (ns_of : Row → Text) (layers : List (Text × List Row)) (count : ℕ) : Type 0 where
-    pub groups : AreGroups key_of ns_of layers
-    pub counted : count ≡ length (all_rows layers)

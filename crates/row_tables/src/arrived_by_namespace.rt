@@ -40,7 +40,7 @@ impl<K: Named, R: GroupedRow<K>> Model for ArrivedByNamespace<K, R> {
 }
 
 impl<K: Named, R: GroupedRow<K>> ArrivedByNamespace<K, R> {
-    /// No row. It takes no memory.
+    /// No row.
     pub fn new(alloc: Global) -> ArrivedByNamespace<K, R>
         ensures { result ≡ [] }
     {
@@ -61,7 +61,7 @@ impl<K: Named, R: GroupedRow<K>> ArrivedByNamespace<K, R> {
         self.count
     }
 
-    /// The place of the row of a namespace and a name. It takes no memory.
+    /// The place of the row of a namespace and a name.
     pub fn place(&self, ns: &ShortName, name: &K) -> Option<usize>
         ensures { result ≡ position (λ row. is_key (ns.now ∷ K.texts_of name.now)
             (full_key K.texts_of R.name_of R.group_of row)) self.now }
@@ -143,7 +143,7 @@ impl<K: Named, R: GroupedRow<K>> ArrivedByNamespace<K, R> {
     }
 
     /// The row of a namespace and a name goes, to the caller; the last of its namespace takes its
-    /// place. It takes no memory.
+    /// place.
     pub fn take(&mut self, ns: &ShortName, name: &K) -> Option<R>
         ensures row { result ≡ row_at (full_key K.texts_of R.name_of R.group_of)
             (ns.now ∷ K.texts_of name.now)
@@ -180,7 +180,7 @@ impl<K: Named, R: GroupedRow<K>> ArrivedByNamespace<K, R> {
         change::change_row(&mut self.groups, ns, name, change)
     }
 
-    /// Whether all rows pass the test. It takes no memory.
+    /// Whether all rows pass the test.
     pub fn all<T: Test<R>>(&self, test: &T) -> bool
         ensures { result ≡ list_all (T.passes test.now)
             (sorted (full_key K.texts_of R.name_of R.group_of) self.now) }
@@ -235,8 +235,7 @@ impl<K: Named, R: GroupedRow<K>> ArrivedByNamespace<K, R> {
         })
     }
 
-    /// Shows the visitor each row whose place isn't marked, from the first to the last. It takes no
-    /// memory.
+    /// Shows the visitor each row whose mark is unset, from the first to the last.
     pub fn visit_removed<P: RemovedRows<R>>(&self, marks: &[bool], visitor: &mut P)
         requires { length marks.now ≡ length self.now }
         ensures { visitor.new ≡ all_visited P.after_visit (gone marks.now self.now) visitor.old }
@@ -244,8 +243,7 @@ impl<K: Named, R: GroupedRow<K>> ArrivedByNamespace<K, R> {
         keep::visit_removed_rows(&self.groups, marks, visitor);
     }
 
-    /// Keeps the rows whose places are marked, in the order in which they stand. It takes no
-    /// memory.
+    /// Keeps the rows whose mark is set, in the order in which they stand.
     pub fn retain(&mut self, marks: &[bool])
         requires { length marks.now ≡ length self.old }
         ensures left { self.new ≡ kept marks.now self.old }

@@ -32,7 +32,7 @@ impl<K: Named, R: GroupedRow<K>> Model for ByNamespace<K, R> {
 }
 
 impl<K: Named, R: GroupedRow<K>> ByNamespace<K, R> {
-    /// No row. It takes no memory.
+    /// No row.
     pub fn new(alloc: Global) -> ByNamespace<K, R>
         ensures { result ≡ [] }
     {
@@ -48,14 +48,14 @@ impl<K: Named, R: GroupedRow<K>> ByNamespace<K, R> {
         &self.came
     }
 
-    /// The rows as they came. It takes no memory.
+    /// The rows as they came.
     pub fn into_came(self) -> ArrivedByNamespace<K, R>
         ensures { sorted (full_key K.texts_of R.name_of R.group_of) result ≡ self }
     {
         self.came
     }
 
-    /// The rows that came, seen in the order of their keys. It takes no memory.
+    /// The rows that came, seen in the order of their keys.
     pub fn from_came(came: ArrivedByNamespace<K, R>) -> ByNamespace<K, R>
         ensures { result ≡ sorted (full_key K.texts_of R.name_of R.group_of) came }
     {
@@ -75,6 +75,7 @@ impl<K: Named, R: GroupedRow<K>> ByNamespace<K, R> {
             (ns.now ∷ K.texts_of name.now) self.now }
         ensures order { IsTrue (are_in_order (full_key K.texts_of R.name_of R.group_of) self.now) }
     {
+        // Its clause says that the keys stand in their order.
         let _count = self.came.len();
         self.came.has(ns, name)
     }
@@ -85,6 +86,7 @@ impl<K: Named, R: GroupedRow<K>> ByNamespace<K, R> {
             (ns.now ∷ K.texts_of name.now) self.now }
         ensures order { IsTrue (are_in_order (full_key K.texts_of R.name_of R.group_of) self.now) }
     {
+        // Its clause says that the keys stand in their order.
         let _count = self.came.len();
         self.came.get(ns, name)
     }
@@ -114,7 +116,7 @@ impl<K: Named, R: GroupedRow<K>> ByNamespace<K, R> {
         self.came.add_new(alloc, row)
     }
 
-    /// The row of a namespace and a name goes, to the caller. It takes no memory.
+    /// The row of a namespace and a name goes, to the caller.
     pub fn take(&mut self, ns: &ShortName, name: &K) -> Option<R>
         ensures row { result ≡ row_at (full_key K.texts_of R.name_of R.group_of)
             (ns.now ∷ K.texts_of name.now) self.old }
@@ -124,7 +126,7 @@ impl<K: Named, R: GroupedRow<K>> ByNamespace<K, R> {
         self.came.take(ns, name)
     }
 
-    /// The row of a namespace and a name goes; says whether it was there. It takes no memory.
+    /// The row of a namespace and a name goes; says whether it was there.
     pub fn remove(&mut self, ns: &ShortName, name: &K) -> bool
         ensures found { result ≡ has_row (full_key K.texts_of R.name_of R.group_of)
             (ns.now ∷ K.texts_of name.now) self.old }
@@ -158,7 +160,7 @@ impl<K: Named, R: GroupedRow<K>> ByNamespace<K, R> {
         self.came.change(ns, name, change)
     }
 
-    /// Whether all rows pass the test. It takes no memory.
+    /// Whether all rows pass the test.
     pub fn all<T: Test<R>>(&self, test: &T) -> bool
         ensures { result ≡ list_all (T.passes test.now) self.now }
     {
@@ -187,6 +189,7 @@ impl<K: Named, R: GroupedRow<K>> ByNamespace<K, R> {
         ensures ok { IfOk result (λ list. map (λ row. row.now) list.items ≡ self.now) }
         ensures order { IsTrue (are_in_order (full_key K.texts_of R.name_of R.group_of) self.now) }
     {
+        // Its clause says that the keys stand in their order.
         let _count = self.came.len();
         self.came.list(alloc)
     }

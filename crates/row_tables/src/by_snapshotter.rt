@@ -32,7 +32,7 @@ impl<K: Named, R: SnapshotterRow<K>> Model for BySnapshotter<K, R> {
 }
 
 impl<K: Named, R: SnapshotterRow<K>> BySnapshotter<K, R> {
-    /// No row. It takes no memory.
+    /// No row.
     pub fn new(alloc: Global) -> BySnapshotter<K, R>
         ensures { result ≡ [] }
     {
@@ -48,14 +48,14 @@ impl<K: Named, R: SnapshotterRow<K>> BySnapshotter<K, R> {
         &self.came
     }
 
-    /// The rows as they came. It takes no memory.
+    /// The rows as they came.
     pub fn into_came(self) -> ArrivedBySnapshotter<K, R>
         ensures { sorted (layered_key K.texts_of R.name_of R.group_of R.ns_of) result ≡ self }
     {
         self.came
     }
 
-    /// The rows that came, seen in the order of their keys. It takes no memory.
+    /// The rows that came, seen in the order of their keys.
     pub fn from_came(came: ArrivedBySnapshotter<K, R>) -> BySnapshotter<K, R>
         ensures { result ≡ sorted (layered_key K.texts_of R.name_of R.group_of R.ns_of) came }
     {
@@ -78,6 +78,7 @@ impl<K: Named, R: SnapshotterRow<K>> BySnapshotter<K, R> {
         ensures order { IsTrue (are_in_order (layered_key K.texts_of R.name_of R.group_of R.ns_of)
             self.now) }
     {
+        // Its clause says that the keys stand in their order.
         let _count = self.came.len();
         self.came.has(ns, snapshotter, name)
     }
@@ -90,6 +91,7 @@ impl<K: Named, R: SnapshotterRow<K>> BySnapshotter<K, R> {
         ensures order { IsTrue (are_in_order (layered_key K.texts_of R.name_of R.group_of R.ns_of)
             self.now) }
     {
+        // Its clause says that the keys stand in their order.
         let _count = self.came.len();
         self.came.get(ns, snapshotter, name)
     }
@@ -107,7 +109,7 @@ impl<K: Named, R: SnapshotterRow<K>> BySnapshotter<K, R> {
         self.came.add_new(alloc, row)
     }
 
-    /// The row of a namespace, a snapshotter and a name goes, to the caller. It takes no memory.
+    /// The row of a namespace, a snapshotter and a name goes, to the caller.
     pub fn take(&mut self, ns: &ShortName, snapshotter: &ShortName, name: &K) -> Option<R>
         ensures row { result ≡ row_at (layered_key K.texts_of R.name_of R.group_of R.ns_of)
             (ns.now ∷ snapshotter.now ∷ K.texts_of name.now) self.old }
@@ -117,8 +119,7 @@ impl<K: Named, R: SnapshotterRow<K>> BySnapshotter<K, R> {
         self.came.take(ns, snapshotter, name)
     }
 
-    /// The row of a namespace, a snapshotter and a name goes; says whether it was there. It takes
-    /// no memory.
+    /// The row of a namespace, a snapshotter and a name goes; says whether it was there.
     pub fn remove(&mut self, ns: &ShortName, snapshotter: &ShortName, name: &K) -> bool
         ensures found { result ≡ has_row (layered_key K.texts_of R.name_of R.group_of R.ns_of)
             (ns.now ∷ snapshotter.now ∷ K.texts_of name.now) self.old }
@@ -157,7 +158,7 @@ impl<K: Named, R: SnapshotterRow<K>> BySnapshotter<K, R> {
         self.came.change(ns, snapshotter, name, change)
     }
 
-    /// Whether all rows pass the test. It takes no memory.
+    /// Whether all rows pass the test.
     pub fn all<T: Test<R>>(&self, test: &T) -> bool
         ensures { result ≡ list_all (T.passes test.now) self.now }
     {
@@ -202,6 +203,7 @@ impl<K: Named, R: SnapshotterRow<K>> BySnapshotter<K, R> {
         ensures order { IsTrue (are_in_order (layered_key K.texts_of R.name_of R.group_of R.ns_of)
             self.now) }
     {
+        // Its clause says that the keys stand in their order.
         let _count = self.came.len();
         self.came.list(alloc)
     }

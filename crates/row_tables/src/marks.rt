@@ -1,4 +1,4 @@
-//! Marks of places.
+//! How many places have their mark set.
 ghost use Rattle.std.specs.Prelude.{◌≡◌, count_by};
 
 /// How many marks are set.

@@ -37,7 +37,7 @@ impl<K: Named, R: NamedRow<K>> Model for RowTable<K, R> {
 }
 
 impl<K: Named, R: NamedRow<K>> RowTable<K, R> {
-    /// No row. It takes no memory.
+    /// No row.
     pub fn new(alloc: Global) -> RowTable<K, R>
         ensures { result ≡ [] }
     {
@@ -89,7 +89,7 @@ impl<K: Named, R: NamedRow<K>> RowTable<K, R> {
         self.rows.values().as_slice()
     }
 
-    /// Whether all rows pass the test. It takes no memory.
+    /// Whether all rows pass the test.
     pub fn all<T: Test<R>>(&self, test: &T) -> bool
         ensures { result ≡ list_all (T.passes test.now)
             (sorted (by_name K.texts_of R.name_of) self.now) }
@@ -146,7 +146,7 @@ impl<K: Named, R: NamedRow<K>> RowTable<K, R> {
         }
     }
 
-    /// The row of a name goes, to the caller; the last one takes its place. It takes no memory.
+    /// The row of a name goes, to the caller; the last one takes its place.
     pub fn take(&mut self, name: &K) -> Option<R>
         ensures row { result ≡ row_at (by_name K.texts_of R.name_of) (K.texts_of name.now) (sorted
             (by_name K.texts_of R.name_of) self.old) }
@@ -191,8 +191,7 @@ impl<K: Named, R: NamedRow<K>> RowTable<K, R> {
         copy_rows(self.rows(), alloc)
     }
 
-    /// Shows the visitor each row whose place isn't marked, from the first to the last. It takes no
-    /// memory.
+    /// Shows the visitor each row whose mark is unset, from the first to the last.
     pub(crate) fn visit_removed<P: RemovedRows<R>>(&self, marks: &[bool], visitor: &mut P)
         requires { length marks.now ≡ length self.now }
         ensures { visitor.new ≡ all_visited P.after_visit (gone marks.now self.now) visitor.old }
@@ -200,7 +199,7 @@ impl<K: Named, R: NamedRow<K>> RowTable<K, R> {
         visit_removed(self.rows(), marks, visitor);
     }
 
-    /// Keeps the rows whose places are marked, in the order in which they came. It takes no memory.
+    /// Keeps the rows whose mark is set, in the order in which they came.
     pub fn retain(&mut self, marks: &[bool])
         requires { length marks.now ≡ length self.old }
         ensures left { self.new ≡ kept marks.now self.old }

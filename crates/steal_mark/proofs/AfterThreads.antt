@@ -1,11 +1,7 @@
 -- Workers that come back from their threads are those of the marking.
-use Rattle.std.proofs.Common.{◌≡◌, ◌≢◌, ℕ, ◌<◌, List, [], ◌∷◌, length, get_or, set, map, refl, sym, ap, ◌∙◌, subst, arith}
-use Rattle.std.specs.Prelude.{All}
+use Rattle.std.proofs.Common.{◌≡◌, ℕ, ◌<◌, List, [], ◌∷◌, length, get_or, map, refl, sym, ap, ◌∙◌, subst, arith}
 use Rattle.std.specs.Arc.{arc_value}
-use Rattle.std.proofs.lemmas.List.{length-map, get_or-map, length-set, get_or-set_same, get_or-set_other, get_or_default}
-use Rattle.std.proofs.lemmas.List.Elements.{All-set}
-use native.Mathlib.Decide.{ℕ_discrete}
-use mathlib.Core.Logic.{dite}
+use Rattle.std.proofs.lemmas.List.{length-map, get_or-map}
 use Rattle.std.specs.declared.thread.PromisedHandle.{PromisedHandle}
 use Rattle.crossbeam_deque.specs.Handles.{stealer_deque}
 use Rattle.steal_mark.specs.declared.start.roots.Rest.{Rest}
@@ -32,11 +28,6 @@ same_one r ids a b s o = record {
   deque = s.deque ∙ o.deque ∙ (λ i. get_or ids (sym s.number i) (sym s.deque i));
   order = id_of_all b.others.items ∙ ap (map (λ x. stealer_deque x)) s.stealers ∙ sym (id_of_all a.others.items) ∙ o.order;
 }
-
--- a list that is not empty has a worker
-some_of : (xs : List Marker) → 0 < length xs → Marker
-some_of [] h = absurd (omega arith)
-some_of (x ∷ xs) h = x
 
 -- turns leave each worker at its place
 pub team_after : (r : Rest) (old new : List Marker) → IsTeam r old → AreWorked old new → IsTeam r new
@@ -65,26 +56,3 @@ all_worked ms rs hs is many each =
 pub empty_is : {A : Type 0} (xs : List A) → length xs ≡ 0 → xs ≡ []
 empty_is [] e = refl
 empty_is (x ∷ xs) e = absurd (omega arith)
-
--- a worker is the same as itself
-same_marker : (m : Marker) → SameMarker m m
-same_marker m = record { number = refl; claim_table = refl; table = refl; deque = refl; stealers = refl }
-
--- one of the workers took a turn, and the others stayed as they were
-worked_one : (ms : List Marker) (place : ℕ) (old new : Marker) → place < length ms → old ≡ get_or ms place old → SameMarker old new → IsSound new → All IsSound ms → AreWorked ms (set ms place new)
-worked_one ms place old new inside is same sound all = record {
-  many = length-set ms place new;
-  same = λ k a b h. dite (ℕ_discrete k place)
-      (λ (e : k ≡ place).
-      let was : get_or ms k a ≡ old = ap (λ i. get_or ms i a) e ∙ get_or_default ms place a old inside ∙ sym is in
-      let now : get_or (set ms place new) k b ≡ new = ap (λ i. get_or (set ms place new) i b) e ∙ get_or-set_same ms place new b inside in
-      subst (λ x. SameMarker x (get_or (set ms place new) k b)) (sym was) (subst (SameMarker old) (sym now) same))
-      (λ (ne : k ≢ place).
-      let now : get_or (set ms place new) k b ≡ get_or ms k a = get_or-set_other ms place k new b ne ∙ get_or_default ms k b a h in
-      subst (SameMarker (get_or ms k a)) (sym now) (same_marker (get_or ms k a)));
-  sound = All-set IsSound ms place new sound all;
-}
-
--- a turn of one worker leaves the team a team
-pub team_turned : (r : Rest) (ms : List Marker) (place : ℕ) (old new : Marker) → place < length ms → old ≡ get_or ms place old → SameMarker old new → IsSound new → IsTeam r ms → IsTeam r (set ms place new)
-team_turned r ms place old new inside is same sound t = team_after r ms (set ms place new) t (worked_one ms place old new inside is same sound t.sound)

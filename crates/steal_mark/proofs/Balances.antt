@@ -1,11 +1,11 @@
 -- One deque less is open.
 use Rattle.std.proofs.Common.{◌≡◌, ℕ, ◌+◌, ◌<◌, ◌≤◌, List, [], ◌∷◌, ◌++◌, length, get_or, set, sym, ap, ◌∙◌, subst, arith}
 use Rattle.std.specs.Prelude.{All}
-use Rattle.std.proofs.lemmas.List.{length-append, length-set, length-map, map-append, map-set, get_or-map}
+use Rattle.std.proofs.lemmas.List.{length-append, length-set, length-map, map-set, get_or-map}
 use Rattle.std.proofs.lemmas.List.Sums.{sum_by-set, sum_by_push}
-use Rattle.std.proofs.lemmas.List.Elements.{All-append, All-weaker, All-set, All-take, All-contains, Contains-push}
+use Rattle.std.proofs.lemmas.List.Elements.{All-append, All-weaker, All-set, All-take}
 use lib.Seq.{take-append_seam}
-use Rattle.crossbeam_deque.specs.Handles.{worker_deque, worker_view}
+use Rattle.crossbeam_deque.specs.Handles.{worker_view}
 use Rattle.mark_core.specs.declared.graph.Graph.{Graph}
 use Rattle.mark_core.specs.Bits.{times}
 use Rattle.mark_core.specs.Reach.{targets}
@@ -28,14 +28,6 @@ saw_later g seen more nodes s = All-weaker _ _ (λ m h. All-weaker (λ t. 0 < ti
 
 module _ (g : Graph) (ds : List Deque) (d : Deque) (rows rows' : List PassRow) (lists : List NodeList) (v w : Claims)
     (b : Balanced g (ds ++ d ∷ []) rows lists v) where
-  -- the last of the open deques is open
-  pub last_open : IsOpen g (length rows) d
-  last_open = All-contains (IsOpen g (length rows)) (ds ++ d ∷ []) d b.deques_open (Contains-push ds d)
-
-  -- the rows have their pass on the last deque as their last
-  pub last_rows : AreRows g (ids_of ds ++ worker_deque d ∷ []) rows
-  last_rows = subst (λ ids. AreRows g ids rows) (map-append worker_deque ds (d ∷ [])) b.passes
-
   -- what was pushed to the last deque was claimed
   pub last_backed : (n : ℕ) → times n (worker_view d).pushed ≤ times n v.claimed
   last_backed n = let a = b.backed n in let p = sum_by_push (λ (x : Deque). times n (worker_view x).pushed) ds d in omega arith

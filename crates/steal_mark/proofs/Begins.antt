@@ -18,7 +18,7 @@ use Rattle.steal_mark.specs.declared.shared.deques.PassView.{PassView}
 use Rattle.steal_mark.specs.Claiming.{claims, IsSeatOf, Knows}
 use Rattle.steal_mark.specs.declared.start.roots.Rest.{Rest}
 use Rattle.steal_mark.specs.Closing.{Id, pushed_in}
-use Rattle.steal_mark.specs.Starting.{Begins, DealsOnce, Deals, IsDealing, IsFresh, pushes_of, IsStarted, Starts}
+use Rattle.steal_mark.specs.Starting.{Begins, DealsOnce, Deals, IsFresh, pushes_of, IsStarted, Starts}
 use Rattle.steal_mark.specs.Team.{IsRest}
 use Rattle.steal_mark.specs.Parts.{Deque, PassRow}
 
@@ -42,10 +42,6 @@ none_pushed g n (d ∷ ds) all =
     let b : times n (worker_view d).pushed ≡ 0 = ap (λ (h : PassView). times n h.pushed) (All-head (IsFresh g) d ds all).held in
     let c = none_pushed g n ds (All-tail (IsFresh g) d ds all) in
     omega arith
-
--- a new deque may be dealt to
-pub dealing : (g : Graph) (ds : List Deque) → All (IsFresh g) ds → All (IsDealing g) ds
-dealing g ds all = All-weaker (IsFresh g) (IsDealing g) (λ d f. record { fifo = f.fifo; graph = ap (λ (h : PassView). h.graph) f.held; parts = ap (λ (h : PassView). h.parts) f.held; taken = ap (λ (h : PassView). h.taken) f.held }) ds all
 
 -- what was pushed to the deques that are opened is what was claimed
 pub all_pushed : (g : Graph) (n : ℕ) (roots : List ℕ) (v w : Claims) (fresh dealt opened : List Deque) → All (IsFresh g) fresh → Deals g roots v w fresh dealt → pushes_of opened ≡ pushes_of dealt → v.claimed ≡ [] → pushed_in n opened ≡ times n w.claimed

@@ -1,28 +1,19 @@
 -- Seats are made and joined, and the rule of the claim words stays.
-use Rattle.std.proofs.Common.{◌≡◌, ℕ, ◌+◌, ◌-◌, ◌/◌, ◌<◌, ◌≤◌, List, [], ◌∷◌, ◌++◌, length, get_or, set, refl, sym, ⊎_elim, arith}
+use Rattle.std.proofs.Common.{◌≡◌, ℕ, ◌+◌, ◌-◌, ◌<◌, ◌≤◌, List, [], ◌++◌, get_or, set, refl, ⊎_elim, arith}
 use Rattle.std.specs.Prelude.{All}
 use Rattle.std.proofs.lemmas.List.Sums.{sum_by_push}
 use Rattle.std.proofs.lemmas.List.Elements.{All-nil, All-append, All-contains, Contains-get_or}
-use mathlib.Core.Option.{some, some-ne-none}
+use mathlib.Core.Option.{some}
 use Rattle.atomic_table.proofs.Lists.{at_set}
 use lib.ListN.{get_elem?}
 use Rattle.atomic_table.specs.Table.{Splits, Joins}
 use Rattle.mark_core.specs.declared.graph.Graph.{Graph}
 use Rattle.mark_core.specs.Bits.{bit_of, times}
-use Rattle.mark_core.specs.Reach.{Reached, node_count}
+use Rattle.mark_core.specs.Reach.{Reached}
 use Rattle.mark_core.proofs.Counts.{times-append, contained, counted}
 use Rattle.steal_mark.specs.declared.shared.claims.Claims.{Claims}
 use Rattle.steal_mark.specs.Claiming.{claims, Fits, IsClaimed}
 use Rattle.steal_mark.proofs.Sums.{sum_set, each_set, each_push}
-
--- the table at the start
-pub begins : (g : Graph) (words : List ℕ) → length words ≡ node_count g / 64 + 1 → ((n : ℕ) → bit_of words n ≡ 0) → IsClaimed g record { words = words; homes = []; views = claims 1024 [] [] ∷ [] }
-begins g words wide clear = record {
-  parts = refl;
-  wide = wide;
-  counted = λ n. sym (clear n);
-  each = each_push (Fits g words) [] (claims 1024 [] []) (λ j u e. absurd (some-ne-none u (sym e))) (record { reached = All-nil (Reached g); seen = All-nil (λ n. bit_of words n ≡ 1); idle = λ z. refl });
-}
 
 -- what holds of all claims holds of some of them
 among : (P : ℕ → Type 0) (xs ys : List ℕ) → ((n : ℕ) → times n xs ≤ times n ys) → All P ys → All P xs

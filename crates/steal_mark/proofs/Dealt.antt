@@ -1,10 +1,10 @@
 -- Each step keeps the rule of a deque.
 use Rattle.std.proofs.Common.{◌≡◌, ◌≢◌, ℕ, ◌+◌, ◌-◌, ◌<◌, List, [], ◌∷◌, ◌++◌, length, set, refl, sym, ap, ◌∙◌, subst, ⊎_elim, arith}
 use Rattle.std.specs.Prelude.{All, sum_by, Option, None}
-use Rattle.std.proofs.lemmas.List.Elements.{All-append, All-weaker, All-nil, All-take, All-drop}
+use Rattle.std.proofs.lemmas.List.Elements.{All-append, All-weaker, All-take, All-drop}
 use lib.Seq.{take-append_seam, drop-append_seam}
 use Rattle.std.proofs.lemmas.List.Sums.{sum_by_push}
-use mathlib.Core.Option.{some, some-ne-none}
+use mathlib.Core.Option.{some}
 use Rattle.atomic_table.proofs.Lists.{at_set}
 use lib.ListN.{get_elem?}
 use Rattle.crossbeam_deque.specs.Tasks.{Pushes, Takes, Finds, FindsFew, Forks, Merges, Learns}
@@ -14,16 +14,6 @@ use Rattle.mark_core.proofs.Counts.{times-append}
 use Rattle.steal_mark.specs.declared.shared.deques.PassView.{PassView}
 use Rattle.steal_mark.specs.Dealing.{pass_view, ReachedIn, Holds, IsDealt, Pushed, Taken, Emptied, cut_left, cut_right, joined, NoMore}
 use Rattle.steal_mark.proofs.Sums.{sum_set, two_le, all_in_one, each_set, each_push}
-
--- a new deque holds nothing, and its owner has every part
-pub begins : IsDealt [] (pass_view 1024 None [] [] ∷ [])
-begins = record {
-  graph = None;
-  parts = refl;
-  counted = λ n. refl;
-  reached = All-nil (ReachedIn None);
-  each = each_push (Holds None) [] (pass_view 1024 None [] []) (λ j u e. absurd (some-ne-none u (sym e))) (record { knows = λ p. refl; idle = λ z. (refl, refl) });
-}
 
 -- the owner pushes what is reached: pushed and held grow by the same
 pub pushes : (port : ℕ) (v : PassView) (xs : List ℕ) → 0 < v.parts → All (ReachedIn v.graph) xs → Pushes IsDealt port v xs (Pushed v xs)
@@ -97,47 +87,46 @@ pub finds_few : (port : ℕ) (v : PassView) → FindsFew IsDealt 0 port v (Empti
 finds_few port v [] views few h at all n = let b = balance [] views h port v at all n in omega arith
 finds_few port v (x ∷ xs) views few h at all n = absurd (omega arith)
 
--- a new pass takes one part with it, and no list
-pub forks : (port : ℕ) (v : PassView) → 1 < v.parts → Forks IsDealt port v (cut_left v) (cut_right v)
-forks port v some_parts items views h at =
-    let l : PassView = cut_left v in
-    let r : PassView = cut_right v in
+-- a new pass takes some parts with it, and no list
+parted : (count port : ℕ) (v : PassView) → count < v.parts
+    → Forks IsDealt port v (pass_view (v.parts - count) v.graph v.pushed v.taken)
+    (pass_view count v.graph [] [])
+parted count port v fewer items views h at =
+    let l : PassView = pass_view (v.parts - count) v.graph v.pushed v.taken in
+    let r : PassView = pass_view count v.graph [] [] in
     let mine = h.each port v at in
     let vs : List PassView = set views port l in
     record {
       graph = h.graph;
-      parts = let a = sum_set (λ u. u.parts) views port v l at in let b = sum_by_push (λ (u : PassView). u.parts) vs r in let p = h.parts in omega arith;
+      parts =
+          let a = sum_set (λ u. u.parts) views port v l at in
+          let b = sum_by_push (λ (u : PassView). u.parts) vs r in
+          let p = h.parts in
+          omega arith;
       counted = λ n.
-          let a = sum_set (λ u. times n u.pushed) views port v l at in let b = sum_by_push (λ (u : PassView). times n u.pushed) vs r in
-          let c = sum_set (λ u. times n u.taken) views port v l at in let d = sum_by_push (λ (u : PassView). times n u.taken) vs r in
+          let a = sum_set (λ u. times n u.pushed) views port v l at in
+          let b = sum_by_push (λ (u : PassView). times n u.pushed) vs r in
+          let c = sum_set (λ u. times n u.taken) views port v l at in
+          let d = sum_by_push (λ (u : PassView). times n u.taken) vs r in
           let e = h.counted n in
           omega arith;
       reached = h.reached;
       each = each_push (Holds h.graph) vs r
-          (each_set (Holds h.graph) views port l h.each (record { knows = λ p. mine.knows (omega arith); idle = λ z. absurd (omega arith) }))
+          (each_set (Holds h.graph) views port l h.each
+          (record { knows = λ p. mine.knows (omega arith); idle = λ z. absurd (omega arith) }))
           (record { knows = λ p. mine.knows (omega arith); idle = λ z. (refl, refl) });
     }
 
+-- a new pass takes one part with it
+pub forks : (port : ℕ) (v : PassView) → 1 < v.parts
+    → Forks IsDealt port v (cut_left v) (cut_right v)
+forks port v = parted 1 port v
+
 -- a pass with no part
-pub watches : (port : ℕ) (v : PassView) → 0 < v.parts → Forks IsDealt port v (pass_view (v.parts - 0) v.graph v.pushed v.taken) (pass_view 0 v.graph [] [])
-watches port v some_part items views h at =
-    let l : PassView = pass_view (v.parts - 0) v.graph v.pushed v.taken in
-    let r : PassView = pass_view 0 v.graph [] [] in
-    let mine = h.each port v at in
-    let vs : List PassView = set views port l in
-    record {
-      graph = h.graph;
-      parts = let a = sum_set (λ u. u.parts) views port v l at in let b = sum_by_push (λ (u : PassView). u.parts) vs r in let p = h.parts in omega arith;
-      counted = λ n.
-          let a = sum_set (λ u. times n u.pushed) views port v l at in let b = sum_by_push (λ (u : PassView). times n u.pushed) vs r in
-          let c = sum_set (λ u. times n u.taken) views port v l at in let d = sum_by_push (λ (u : PassView). times n u.taken) vs r in
-          let e = h.counted n in
-          omega arith;
-      reached = h.reached;
-      each = each_push (Holds h.graph) vs r
-          (each_set (Holds h.graph) views port l h.each (record { knows = λ p. mine.knows some_part; idle = λ z. absurd (omega arith) }))
-          (record { knows = λ p. absurd (omega arith); idle = λ z. (refl, refl) });
-    }
+pub watches : (port : ℕ) (v : PassView) → 0 < v.parts
+    → Forks IsDealt port v (pass_view (v.parts - 0) v.graph v.pushed v.taken)
+    (pass_view 0 v.graph [] [])
+watches port v = parted 0 port v
 
 -- the first pass learns the graph
 pub names : (port : ℕ) (v : PassView) (graph : Option Graph) → v.parts ≡ 1024 → v.graph ≡ None → Forks IsDealt port v (pass_view v.parts graph v.pushed v.taken) (pass_view 0 None [] [])

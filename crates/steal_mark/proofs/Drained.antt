@@ -1,7 +1,7 @@
 -- A closed deque is drained, node by node.
-use Rattle.std.proofs.Common.{◌≡◌, ℕ, ◌+◌, ◌<◌, ◌≤◌, List, [], ◌∷◌, ◌++◌, length, refl, sym, ap, ◌∙◌, subst, append_assoc, arith}
+use Rattle.std.proofs.Common.{◌≡◌, ℕ, ◌+◌, ◌<◌, ◌≤◌, List, [], ◌∷◌, ◌++◌, length, sym, ap, ◌∙◌, subst, append_assoc, arith}
 use Rattle.std.specs.Prelude.{All, Contains}
-use Rattle.std.proofs.lemmas.List.{append-nil, length-append}
+use Rattle.std.proofs.lemmas.List.{length-append}
 use Rattle.std.proofs.lemmas.List.Elements.{All-append, All-weaker, All-cons, All-nil, All-contains_itself}
 use Rattle.mark_core.specs.declared.graph.Graph.{Graph}
 use Rattle.mark_core.specs.Bits.{times}
@@ -25,19 +25,6 @@ saw_more g seen nodes n s =
     (All-weaker (λ m. All (λ t. 0 < times t seen) (targets g m)) P (λ m h. All-weaker (λ t. 0 < times t seen) Q (λ t h'. let e = times-append t seen (targets g n) in omega arith) (targets g m) h) nodes s)
     (All-cons P n [] (All-weaker (Contains (targets g n)) Q (λ t c. let e = times-append t seen (targets g n) in let h = counted t (targets g n) c in omega arith) (targets g n) (All-contains_itself (targets g n))) (All-nil P))
 
--- before the first node nothing is drained
-pub drains_none : (g : Graph) (v : Claims) (a : PassView) (list : List ℕ) → Drains g 0 v v a a list list
-drains_none g v a list = record {
-  more = [];
-  looks = [];
-  drained = [];
-  seat = λ i. claims v.parts (sym (append-nil v.claimed) i) (sym (append-nil v.seen) i);
-  deque = λ i. pass_view a.parts a.graph (sym (append-nil a.pushed) i) (sym (append-nil a.taken) i);
-  list = sym (append-nil list);
-  saw = All-nil _;
-  many = refl;
-}
-
 module _ (g : Graph) (count : ℕ) (v w : Claims) (a b : PassView) (old new : List ℕ) (d : Drains g count v w a b old new) where
   pub same_graph : b.graph ≡ a.graph
   same_graph = ap (λ (h : PassView). h.graph) d.deque
@@ -45,10 +32,6 @@ module _ (g : Graph) (count : ℕ) (v w : Claims) (a b : PassView) (old new : Li
   -- draining leaves the deque its parts
   pub same_parts : b.parts ≡ a.parts
   same_parts = ap (λ (h : PassView). h.parts) d.deque
-
-  -- draining leaves the seat its parts
-  pub seat_parts : w.parts ≡ v.parts
-  seat_parts = ap (λ (h : Claims). h.parts) d.seat
 
   -- who has every part finds the deque empty only once all is taken
   pub drains_dry : (b' : PassView) (new' : List ℕ) → a.parts ≡ 1024 → b' ≡ b → Emptied b → new' ≡ new → DrainsAll g v w a b' old new'

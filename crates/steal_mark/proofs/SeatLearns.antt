@@ -54,10 +54,6 @@ module _ (n mask found slots : ℕ) (me me' : Me (Unit {0}) Claims) (is : mask �
   after_look : me' ≡ (looked n (bit_at found (n % 64)) me.0, me.1)
   after_look = subst (λ m. me' ≡ (looked m (bit_at found (m % 64)) me.0, me.1)) same_node t.3
 
-  -- a look holds no slot
-  pub held_after : me'.1 ≡ me.1
-  held_after = ap (λ (x : Me (Unit {0}) Claims). x.1) after_look
-
   -- the seat after a look
   view_after : me'.0 ≡ looked n (bit_at found (n % 64)) me.0
   view_after = ap (λ (x : Me (Unit {0}) Claims). x.0) after_look

@@ -4,7 +4,7 @@ use Rattle.std.specs.Prelude.{All, sum_by, Some, nat_eq}
 use Rattle.std.proofs.lemmas.List.{length-map, length-append, length-set, map-append, get_or_append_left, get_or-set_same, get_or-set_other}
 use Rattle.std.proofs.Math.Seq.{get_or-append_seam}
 use Rattle.std.proofs.lemmas.List.Sums.{sum_by_push}
-use Rattle.std.proofs.lemmas.List.Elements.{All-push, All-nil}
+use Rattle.std.proofs.lemmas.List.Elements.{All-push}
 use Rattle.std.proofs.lemmas.Bool.Decides.{nat_tests}
 use native.Mathlib.Decide.{ℕ_discrete, dec_lt}
 use mathlib.Core.Logic.{dite}
@@ -154,22 +154,3 @@ spreads_more g ds opened d d' before rows rows' s same new long is pushed = reco
   many = let a = length-append opened (d' ∷ []) in let b = length-append ds (d ∷ []) in let c = s.many in omega arith;
   long = long ∙ s.long;
 }
-
--- no deque is spread
-pub no_row : (g : Graph) (rows : List PassRow) → All (λ row. row.items ≡ []) rows → AreNewRows g [] rows
-no_row g rows all k d h =
-    let e : (get_or rows k d).items ≡ [] = all k d h in
-    record {
-      row = record {
-        others = subst (All (IsOther g)) (sym e) (All-nil (IsOther g));
-        order = ap (map (λ (x : ThiefPass). stealer_deque x.stealer)) e;
-        places = subst (λ l. IsPlaced k (parts_of l)) (sym e) (λ j i. absurd (omega arith));
-      };
-      untaken = λ n. ap (λ l. sum_by (λ (x : PassView). times n x.taken) (pass_views l)) e;
-    }
-
--- what holds of all holds of one
-pub one_of : (P : Deque → Type 0) (xs : List Deque) (x : Deque) (ys all : List Deque) → xs ++ x ∷ ys ≡ all → All P all → P x
-one_of P xs x ys all is h =
-    let long = length-append xs (x ∷ ys) in
-    subst P (get_or-append_seam xs x ys x) (subst (All P) (sym is) h (length xs) x (omega arith))

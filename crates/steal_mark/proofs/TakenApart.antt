@@ -31,10 +31,6 @@ others_of m = m.others
 abbrev pub list_of : Marker → NodeList
 list_of m = m.scanned
 
--- no seat was joined
-pub joined_none : (v : Claims) → Joined [] v v
-joined_none v = record { parts = omega arith; claimed = λ n. omega arith; seen = λ n. omega arith }
-
 -- one seat more was joined
 pub joined_more : (ms : List Marker) (m : Marker) (v w w' : Claims) → Joined ms v w → w' ≡ claims (w.parts + (claims_of m).parts) (w.claimed ++ (claims_of m).claimed) (w.seen ++ (claims_of m).seen) → Joined (ms ++ m ∷ []) v w'
 joined_more ms m v w w' j is = record {

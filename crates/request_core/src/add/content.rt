@@ -51,6 +51,7 @@ pub(crate) fn release(
     if let Some(id) = lease
         && new
     {
+        // The caller added it, so the lease has it.
         let _ = leases.drop_resource(ns, id, resource);
     }
 }
@@ -188,6 +189,7 @@ pub(crate) fn grow_content<S: SnapBackend, B: BlobBackend, I: IngestBackend>(
     match hold_and_make(leases, backends, alloc, ns, lease, digest) {
         Ok(()) => Ok(()),
         Err(fault) => {
+            // The row was added above, so it is there.
             let _ = tables.remove_content(ns, digest);
             Err(fault)
         }

@@ -162,6 +162,7 @@ pub(crate) fn grow_ingest<S: SnapBackend, B: BlobBackend, I: IngestBackend>(
     match hold_and_begin(leases, backends, alloc, ns, lease, &resource, number) {
         Ok(()) => Ok(()),
         Err(fault) => {
+            // The row was added above, so it is there.
             let _ = tables.remove_ingest(ns, name);
             Err(fault)
         }

@@ -135,6 +135,7 @@ pub(crate) fn grow_snap<S: SnapBackend, B: BlobBackend, I: IngestBackend>(
     ) {
         Ok(()) => Ok(()),
         Err(fault) => {
+            // The row was added above, so it is there, and no child has it.
             let _ = tables.remove_snap(&key);
             Err(fault)
         }

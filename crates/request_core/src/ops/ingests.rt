@@ -191,6 +191,7 @@ impl<S: SnapBackend, B: BlobBackend, I: IngestBackend> State<S, B, I> {
             labels,
             &lease,
         )?;
+        // The checks found the ingest, so it is there.
         let _ = self.records.tables.remove_ingest(&ns, &name);
         Ok(Reply::Done)
     }

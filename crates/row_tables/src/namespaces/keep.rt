@@ -10,7 +10,7 @@ use crate::row::{GroupedRow, RemovedRows};
 use crate::row_table::RowTable;
 use meta_types::ShortName;
 
-/// Keeps the rows whose places are marked.
+/// Keeps the rows whose mark is set.
 pub(crate) fn retain_all<K: Named, R: GroupedRow<K>>(
     groups: &mut Vec<(ShortName, RowTable<K, R>)>,
     marks: &[bool],
@@ -44,7 +44,7 @@ fn retain_rows<K: Named, R: GroupedRow<K>>(
     }
 }
 
-/// Shows the visitor each row whose place isn't marked, from the first to the last.
+/// Shows the visitor each row whose mark is unset, from the first to the last.
 pub(crate) fn visit_removed_rows<K: Named, R: GroupedRow<K>, P: RemovedRows<R>>(
     groups: &[(ShortName, RowTable<K, R>)],
     marks: &[bool],

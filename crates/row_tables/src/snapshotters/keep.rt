@@ -10,7 +10,7 @@ use crate::named::Named;
 use crate::row::{RemovedRows, SnapshotterRow};
 use meta_types::ShortName;
 
-/// Keeps the rows whose places are marked.
+/// Keeps the rows whose mark is set.
 pub(crate) fn retain_all<K: Named, R: SnapshotterRow<K>>(
     groups: &mut Vec<(ShortName, ArrivedByNamespace<K, R>)>,
     marks: &[bool],
@@ -44,7 +44,7 @@ fn retain_rows<K: Named, R: SnapshotterRow<K>>(
     }
 }
 
-/// Shows the visitor each row whose place isn't marked, from the first to the last.
+/// Shows the visitor each row whose mark is unset, from the first to the last.
 pub(crate) fn visit_removed_rows<K: Named, R: SnapshotterRow<K>, P: RemovedRows<R>>(
     groups: &[(ShortName, ArrivedByNamespace<K, R>)],
     marks: &[bool],

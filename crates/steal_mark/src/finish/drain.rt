@@ -60,6 +60,7 @@ pub fn drain(
 {
     let mut ahead = Ahead::new(alloc);
     for count in 0..graph.edges.len() + 1 {
+        // The rounds only bound the loop: the deque says when it ends.
         let _ = count;
         list.reserve(1)?;
         let Some(node) = take(deque) else {

@@ -84,6 +84,7 @@ pub fn new_rows(alloc: Global, workers: usize) -> Result<Vec<Vec<ThiefPass>>, Al
 {
     let mut rows = Vec::new(alloc);
     for count in 0..workers {
+        // The invariant counts the rounds; the body doesn't.
         let _ = count;
         rows.push(Vec::new(alloc))?;
     }

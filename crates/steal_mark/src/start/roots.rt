@@ -40,6 +40,7 @@ pub fn new_deques(alloc: Global, graph: &Graph, workers: usize) -> Result<Vec<De
 {
     let mut deques = Vec::new(alloc);
     for count in 0..workers {
+        // The invariant counts the rounds; the body doesn't.
         let _ = count;
         deques.push(new_deque::<Brand>(alloc, graph)?)?;
     }

@@ -30,8 +30,9 @@ impl Ahead {
         }
     }
 
-    // Notes a node that was put. Where memory is wanting, its row isn't touched ahead.
+    // Notes a node that was put. Where memory runs out, its row isn't touched ahead.
     pub fn note(&mut self, node: u32) {
+        // A refused growth costs only the look ahead.
         let _ = self.nodes.push(node);
     }
 

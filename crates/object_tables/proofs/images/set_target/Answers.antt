@@ -1,7 +1,7 @@
 use Rattle.std.proofs.Common.{◌∷◌, [], ◌∙◌}
 use Rattle.meta_types.specs.Rows.{image_key}
 use Rattle.object_tables.specs.Edits.{with_target}
-use Rattle.object_tables.proofs.ChangedThere.{became}
+use Rattle.row_tables.proofs.ChangedThere.{became}
 use Rattle.object_tables.proofs.OrderStays.{nothing_to_change}
 use Rattle.object_tables.proofs.images.set_target.Goals as goal
 

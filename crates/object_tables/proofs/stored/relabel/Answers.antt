@@ -1,7 +1,7 @@
 use Rattle.std.proofs.Common.{◌∷◌}
 use Rattle.meta_types.specs.Labels.{put_label}
 use Rattle.row_tables.specs.Namespaces.{full_key}
-use Rattle.object_tables.proofs.ChangedThere.{became, stayed}
+use Rattle.row_tables.proofs.ChangedThere.{became, stayed}
 use Rattle.object_tables.proofs.stored.relabel.Goals as goal
 
 -- the row that was found took the label

@@ -2,7 +2,7 @@ use Rattle.std.proofs.Common.{◌∷◌, []}
 use Rattle.meta_types.specs.Labels.{put_label}
 use Rattle.meta_types.specs.Rows.{snap_key}
 use Rattle.meta_types.specs.declared.rows.SnapRow.{SnapRow}
-use Rattle.object_tables.proofs.ChangedThere.{became, stayed}
+use Rattle.row_tables.proofs.ChangedThere.{became, stayed}
 use Rattle.object_tables.proofs.stored.relabel_snap.Goals as goal
 
 -- the row that was found took the label

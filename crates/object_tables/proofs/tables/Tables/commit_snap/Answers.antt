@@ -7,7 +7,7 @@ use Rattle.meta_types.specs.Rows.{Tables, snap_key}
 use Rattle.meta_types.specs.Ops.Snapshots.{is_active, committed}
 use Rattle.meta_types.specs.declared.rows.SnapRow.{SnapRow}
 use Rattle.object_tables.specs.Calls.{committing_fault}
-use Rattle.object_tables.proofs.Above.{passed}
+use Rattle.object_tables.proofs.NoFault.{passed}
 use Rattle.object_tables.proofs.Committing.{commit_steps}
 use Rattle.object_tables.proofs.SnapTablesKept.{snap_committed}
 use Rattle.object_tables.proofs.tables.Tables.commit_snap.Goals as goal

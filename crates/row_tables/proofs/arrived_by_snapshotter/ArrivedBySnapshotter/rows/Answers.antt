@@ -1,6 +1,6 @@
-use Rattle.std.proofs.Common.{◌≡◌, List, [], subst, ap, ◌∙◌}
+use Rattle.std.proofs.Common.{◌≡◌, List, subst, ap, ◌∙◌}
 use Rattle.row_tables.specs.Namespaces.{all_rows}
-use Rattle.std.specs.Prelude.{IfSome, IfNone, filter, bytes_eq, ◌&&◌}
+use Rattle.std.specs.Prelude.{IfSome, filter, bytes_eq, ◌&&◌}
 use Rattle.row_tables.proofs.arrived_by_snapshotter.ArrivedBySnapshotter.rows.Goals as goal
 
 pub returns-clause-rows : goal.returns-clause-rows

@@ -5,7 +5,7 @@ use Rattle.row_tables.specs.Namespaces.{all_rows}
 use Rattle.row_tables.proofs.ListLoops.{Retains}
 use Rattle.row_tables.proofs.namespaces.keep.retain_rows.Given as goal
 
--- so many namespaces are done; each still has its name and its own rows
+-- the namespaces so far are done; each still has its name and its own rows
 abbrev pub invariant-loop-group : goal.invariant-loop-group
 invariant-loop-group g l = record {
   rows : Retains (kept l.marks (all_rows l.initial.groups)) (map (λ group. group.1) l.groups) l.group-index l.rest;

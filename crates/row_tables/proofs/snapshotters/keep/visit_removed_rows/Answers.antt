@@ -1,8 +1,8 @@
-use Rattle.std.proofs.Common.{◌≡◌, ◌<◌, List, map, take, drop, length, refl, sym, ap, ◌∙◌, arith, ◌+◌}
+use Rattle.std.proofs.Common.{◌<◌, List, map, take, drop, length, refl, ap, ◌∙◌, arith}
 use Rattle.meta_types.specs.Text.{Text}
 use Rattle.row_tables.specs.Visiting.{gone, all_visited}
 use Rattle.row_tables.specs.Namespaces.{all_rows}
-use Rattle.row_tables.proofs.ListLoops.{Visits, visits_more, visits_all, visits_within, at_map}
+use Rattle.row_tables.proofs.ListLoops.{visits_more, visits_all, visits_within, at_map}
 use Rattle.row_tables.proofs.MappedLists.{length_map}
 use Rattle.row_tables.proofs.snapshotters.keep.visit_removed_rows.Goals as goal
 

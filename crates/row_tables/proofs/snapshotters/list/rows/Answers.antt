@@ -1,8 +1,6 @@
-use Rattle.std.proofs.Common.{◌++◌, List, map, take, sym, ap, ◌∙◌}
+use Rattle.std.proofs.Common.{◌++◌, map, take, sym, ap, ◌∙◌}
 use Rattle.std.proofs.lemmas.List.{map-append}
-use Rattle.meta_types.specs.Text.{Text}
 use Rattle.row_tables.specs.Namespaces.{own_texts, full_key, all_rows}
-use Rattle.row_tables.specs.Arrived.{sorted}
 use Rattle.row_tables.specs.Came.{listed}
 use Rattle.row_tables.proofs.NamespacesCame.{name}
 use Rattle.row_tables.proofs.NamespaceListings.{listed_more}

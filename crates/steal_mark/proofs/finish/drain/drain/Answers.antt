@@ -1,7 +1,6 @@
-use Rattle.std.proofs.Common.{◌≡◌, ◌<◌, ◌≤◌, ◌∷◌, [], ◌++◌, sym, ap, ◌∙◌, subst, arith}
+use Rattle.std.proofs.Common.{◌≡◌, ◌≤◌, ◌∷◌, [], ◌++◌, sym, ap, ◌∙◌, subst, arith}
 use Rattle.crossbeam_deque.specs.Handles.{worker_view}
 use Rattle.mark_core.specs.Reach.{Reached, node_count, targets}
-use Rattle.mark_core.proofs.Walks.{reached_in_range}
 use Rattle.steal_mark.specs.Claiming.{Knows}
 use Rattle.steal_mark.specs.Growing.{MayClaim}
 use Rattle.steal_mark.proofs.Stolen.{taken_reached}

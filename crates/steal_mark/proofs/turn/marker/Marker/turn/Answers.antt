@@ -1,7 +1,7 @@
-use Rattle.std.proofs.Common.{◌≡◌, ◌<◌, [], ◌∷◌, ◌++◌, sym, ap, ◌∙◌, subst, arith}
+use Rattle.std.proofs.Common.{◌≡◌, [], ◌∷◌, ◌++◌, sym, ap, ◌∙◌, subst}
 use Rattle.std.specs.Arc.{arc_value}
 use Rattle.crossbeam_deque.specs.Handles.{worker_view}
-use Rattle.mark_core.specs.Reach.{Reached, node_count, targets}
+use Rattle.mark_core.specs.Reach.{Reached, targets}
 use Rattle.steal_mark.specs.Growing.{MayClaim, Grows}
 use Rattle.steal_mark.specs.Working.{graph_of}
 use Rattle.steal_mark.proofs.Worked.{sound_like, sound_scanned, graph_kept, grows_from, may_claim, ok_fact}
