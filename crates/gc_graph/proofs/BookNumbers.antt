@@ -1,5 +1,5 @@
 -- What the book has no number for, and what stays true of it.
-use Rattle.std.proofs.Common.{◌≡◌, ℕ, ◌+◌, ◌<◌, ◌≤◌, Bool, true, false, List, [], ◌∷◌, ◌++◌, length, get_or, refl, sym, ap, ◌∙◌, arith, subst, inl, inr, Option, Some, None, length-append, append-nil, append_assoc, take}
+use Rattle.std.proofs.Common.{◌≡◌, ℕ, ◌+◌, ◌<◌, Bool, true, false, List, [], ◌∷◌, ◌++◌, length, get_or, refl, sym, ap, ◌∙◌, Option, Some, None, append-nil, append_assoc, take}
 use Rattle.std.proofs.Math.Numerals.{add-one}
 use Rattle.std.proofs.Math.Seq.{take-suc}
 use Rattle.std.proofs.lemmas.Grind.{flat_map-append}
@@ -8,8 +8,8 @@ use Rattle.meta_types.specs.Text.{Text}
 use Rattle.meta_types.specs.Labels.{LabelList}
 use Rattle.gc_graph.specs.Targets.{content_target, snapshot_target, label_targets}
 use Rattle.std.specs.Prelude.{Err}
-use Rattle.std.specs.List.{list_any, cons_option}
-use Rattle.std.proofs.lemmas.Bool.{cases_Bool, both_ways}
+use Rattle.std.specs.List.{cons_option}
+use Rattle.std.proofs.lemmas.Bool.{both_ways}
 use Rattle.std.proofs.lemmas.List.Quantifiers.{position-Some}
 use Rattle.meta_types.specs.Faults.{Refuses, unless}
 use Rattle.meta_types.specs.declared.fault.Fault.{Fault}
@@ -18,7 +18,6 @@ use Rattle.gc_graph.specs.declared.node.Node.{Node}
 use Rattle.gc_graph.specs.Nodes.{is_node, is_allowed, AreAllowed}
 use Rattle.gc_graph.specs.Built.{number_of, numbers_in}
 use Rattle.gc_graph.proofs.Same.{node_known}
-use Rattle.gc_graph.proofs.NodesApart.{All-append}
 
 pub no_number : (book : List Node) (n : Node) → AreAllowed book → is_allowed n.resource ≡ false → number_of book n ≡ None
 no_number book n allowed h = go (number_of book n) refl

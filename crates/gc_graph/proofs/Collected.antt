@@ -26,7 +26,7 @@ holds_at R [] (x ∷ xs) h k d lt = absurd h
 holds_at R (z ∷ zs) (x ∷ xs) h zero d lt = h.0
 holds_at R (z ∷ zs) (x ∷ xs) h (suc k) d lt = holds_at R zs xs h.1 k d (omega arith)
 
--- a chain is refused for want of memory where each of its items is
+-- a chain answers OutOfMemory where each of its items does
 pub refused_alike : {Z V A : Type 0} (r : Result (Vec V A) Fault) (P : Vec V A → Type 0) (zs : List Z) (xs : List (Result V Fault)) → AllZip (λ z x. Refuses x None) zs xs
     → MatchResult r P (λ e. Contains xs (Err e)) → Refuses r None
 refused_alike (Ok c) P zs xs each made = refl

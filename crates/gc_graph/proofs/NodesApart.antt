@@ -1,17 +1,9 @@
 -- Rows in the order of their keys have nodes of their own.
-use Rattle.std.proofs.Common.{◌≡◌, ◌≢◌, ℕ, zero, suc, true, false, List, [], ◌∷◌, ◌++◌, map, get_or, refl, sym, ap, ◌∙◌, arith, subst}
+use Rattle.std.proofs.Common.{◌≡◌, ◌≢◌, ℕ, zero, suc, true, List, [], ◌∷◌, ◌++◌, map, get_or, refl, sym, ap, ◌∙◌, arith}
 use Rattle.std.specs.Prelude.{All, AllPairs}
-use Rattle.std.specs.List.{list_any}
-use Rattle.std.specs.Ordering.{is_lt, ordering_reverse}
-use Rattle.std.specs.Cmp.Lexicographic.{slice_cmp}
-use Rattle.std.specs.declared.cmp.Ordering.{Ordering}
-use Rattle.std.specs.declared.cmp.Ordering.TheVariants.{Less, Equal, Greater}
-use Rattle.std.proofs.lemmas.Cmp.{lists_total, nat_list_cmp_total}
-use Rattle.std.proofs.lemmas.Bool.{and_parts, false_from_ne_true}
+use Rattle.std.proofs.lemmas.Bool.{and_parts}
 use Rattle.std.proofs.lemmas.List.Kept.{AllPairs-cons}
-use Rattle.std.proofs.lemmas.List.Folds.{list_any_none}
 use Rattle.meta_types.proofs.Ordered.{before_trans}
-use Rattle.meta_types.specs.Text.{text_cmp}
 use Rattle.meta_types.specs.Keys.{Key, is_before, is_first, are_in_order}
 use Rattle.meta_types.specs.Rows.{content_key, ingest_key, snap_key}
 use Rattle.meta_types.specs.Rows.{Records}
@@ -23,10 +15,8 @@ use Rattle.meta_types.specs.declared.resource.Mode.TheVariants.{Full, Flat}
 use Rattle.meta_types.specs.declared.resource.Resource.{Resource}
 use Rattle.meta_types.specs.declared.resource.Resource.TheVariants.{Content, Snapshot, Ingest}
 use Rattle.gc_graph.specs.declared.node.Node.{Node}
-use Rattle.gc_graph.specs.Nodes.{is_node}
 use Rattle.gc_graph.specs.Targets.{content_node, snapshot_node, ingest_node, nodes_in_both, nodes_of}
 use Rattle.gc_graph.specs.Built.{AreApart}
-use Rattle.gc_graph.proofs.Same.{node_known}
 
 -- ---- lists of pairs
 
@@ -55,14 +45,6 @@ AllPairs-append R (x ∷ xs) ys h k cross =
 
 -- ---- keys in order
 
-not_before_itself : (k : Key) → is_before k k ≡ true → ⊥
-not_before_itself k h = go (slice_cmp text_cmp k k) ((lists_total nat_list_cmp_total).antisymm k k) h
-  where
-    go : (r : Ordering) → r ≡ ordering_reverse r → is_lt r ≡ true → ⊥
-    go Less e h = absurd cc
-    go Equal e h = absurd cc
-    go Greater e h = absurd cc
-
 module _ {Row : Type 0} (key_of : Row → Key) where
   before_all : (row : Row) (rows : List Row) → is_first key_of row rows ≡ true → are_in_order key_of rows ≡ true → All (λ other. is_before (key_of row) (key_of other) ≡ true) rows
   before_all row [] p o i d lt = absurd (omega arith)
@@ -70,18 +52,6 @@ module _ {Row : Type 0} (key_of : Row → Key) where
   before_all row (next ∷ rows) p o (suc i) d lt =
       let parts = and_parts (is_first key_of next rows) (are_in_order key_of rows) o in
       before_trans (key_of row) (key_of next) (key_of (get_or rows i d)) p (before_all next rows parts.0 parts.1 i d (omega arith))
-
-  pub pairs_in_order : (rows : List Row) → are_in_order key_of rows ≡ true → AllPairs (λ a b. is_before (key_of a) (key_of b) ≡ true) rows
-  pairs_in_order [] o i j d lt within = absurd (omega arith)
-  pairs_in_order (row ∷ rows) o i j d lt within =
-      let parts = and_parts (is_first key_of row rows) (are_in_order key_of rows) o in
-      AllPairs-cons (λ a b. is_before (key_of a) (key_of b) ≡ true) row rows (before_all row rows parts.0 parts.1) (pairs_in_order rows parts.1) i j d lt within
-
-  -- rows in the order of their keys have keys of their own
-  pub distinct_in_order : (rows : List Row) → are_in_order key_of rows ≡ true → AllPairs (λ a b. key_of a ≢ key_of b) rows
-  distinct_in_order rows o i j d lt within e =
-      not_before_itself (key_of (get_or rows j d))
-      (subst (λ (k : Key). is_before k (key_of (get_or rows j d)) ≡ true) e (pairs_in_order rows o i j d lt within))
 
 -- ---- nodes
 

@@ -1,5 +1,5 @@
 -- The equality that the set of nodes tests.
-use Rattle.std.proofs.Common.{◌≡◌, Bool, true, false, refl, ap, ◌∙◌}
+use Rattle.std.proofs.Common.{◌≡◌, true, refl, ap}
 use Rattle.std.specs.Prelude.{◌&&◌, bytes_eq}
 use Rattle.std.proofs.lemmas.Bool.{and_parts, and_from}
 use Rattle.std.proofs.lemmas.Slice.Eq.{bytes_eq-Decides}
@@ -9,42 +9,9 @@ use Rattle.meta_types.specs.declared.resource.Mode.{Mode}
 use Rattle.meta_types.specs.declared.resource.Mode.TheVariants.{Full, Flat}
 use Rattle.meta_types.specs.declared.resource.Resource.{Resource}
 use Rattle.meta_types.specs.declared.resource.Resource.TheVariants.{Content, Snapshot, Ingest}
-use Rattle.meta_types.specs.contracts.resource.ResourcePartialEq.TheImpl as resource_eq
-use Rattle.meta_types.specs.contracts.resource.ModePartialEq.TheImpl as mode_eq
-use Rattle.gc_graph.specs.contracts.node.NodePartialEq.TheImpl as node_eq
 use Rattle.gc_graph.specs.declared.node.Node.{Node}
 use Rattle.gc_graph.specs.Nodes.{is_node, is_same_resource}
 use Rattle.gc_graph.specs.Targets.{node}
-
-rotate : (e r m : Bool) → (e && (r && m)) ≡ (m && r && e)
-rotate true true true = refl
-rotate true true false = refl
-rotate true false true = refl
-rotate true false false = refl
-rotate false true true = refl
-rotate false true false = refl
-rotate false false true = refl
-rotate false false false = refl
-
-resource_same : (a b : Resource) → (resource_eq.ghosts).eq a b ≡ is_same_resource a b
-resource_same (Content a) (Content b) = refl
-resource_same (Content a) (Snapshot t b) = refl
-resource_same (Content a) (Ingest b) = refl
-resource_same (Snapshot s a) (Content b) = refl
-resource_same (Snapshot s a) (Snapshot t b) = refl
-resource_same (Snapshot s a) (Ingest b) = refl
-resource_same (Ingest a) (Content b) = refl
-resource_same (Ingest a) (Snapshot t b) = refl
-resource_same (Ingest a) (Ingest b) = refl
-
-mode_same : (a b : Mode) → (mode_eq.ghosts).eq a b ≡ is_same_mode a b
-mode_same Full Full = refl
-mode_same Full Flat = refl
-mode_same Flat Full = refl
-mode_same Flat Flat = refl
-
-pub node_same : (a b : Node) → (node_eq.ghosts).eq a b ≡ is_node a b
-node_same a b = (λ i. bytes_eq a.ns b.ns && (resource_same a.resource b.resource i && mode_same a.mode b.mode i)) ∙ rotate (bytes_eq a.ns b.ns) (is_same_resource a.resource b.resource) (is_same_mode a.mode b.mode)
 
 -- ---- nodes that are equal by the test are equal
 

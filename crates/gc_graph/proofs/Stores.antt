@@ -1,5 +1,5 @@
 -- Whole stores, from the lists that the code made.
-use Rattle.std.proofs.Common.{◌≡◌, ℕ, ◌+◌, ◌*◌, false, List, [], ◌++◌, map, length, filter, refl, sym, ap, ◌∙◌, arith, ℤ, append_assoc, append-nil, Bor, length-append}
+use Rattle.std.proofs.Common.{◌≡◌, ℕ, ◌+◌, ◌*◌, false, List, ◌++◌, map, length, filter, refl, sym, ap, ◌∙◌, arith, ℤ, append_assoc, append-nil, Bor, length-append}
 use Rattle.std.specs.List.{flat_map}
 use Rattle.std.proofs.lemmas.List.{map-append, length-map}
 use Rattle.std.proofs.lemmas.List.Elements.{filter-append}
@@ -17,7 +17,7 @@ use Rattle.mark_core.specs.declared.graph.Graph.{Graph}
 use Rattle.mark_core.specs.Reach.{rows}
 use Rattle.gc_graph.specs.declared.node.Node.{Node}
 use Rattle.gc_graph.specs.declared.rows.StoreRows.{StoreRows}
-use Rattle.gc_graph.specs.Targets.{ingest_node, content_node, snapshot_node, nodes_of, node_things, root_things}
+use Rattle.gc_graph.specs.Targets.{nodes_of, node_things, root_things}
 use Rattle.gc_graph.specs.Built.{targets_in, root_targets, places, root_places, AreApart, IsBuilt}
 use Rattle.gc_graph.specs.Stored.{records_of}
 use Rattle.gc_graph.proofs.Things.{map_of_map}

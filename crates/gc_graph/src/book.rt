@@ -50,10 +50,11 @@ impl<'a> NodeBook<'a> {
     pub(crate) fn tell(&self)
         ensures { AreAllowed self.now }
     {
+        // To read the rows opens what the type keeps of them.
         let _rows = &self.rows;
     }
 
-    /// The number of a node. It takes no memory.
+    /// The number of a node.
     pub fn number(&self, node: &Node) -> Option<u32>
         ensures number { result ≡ number_of self.now node.now }
     {

@@ -1,4 +1,4 @@
-//! The whole graph.
+//! The graph of a store's rows: its edges, its roots and what is ignored.
 ghost use Rattle.std.specs.Prelude.{◌≡◌, ◌+◌, ◌*◌, ◌≤◌, ◌++◌, map, filter, length, None, IfOk, not};
 ghost use Rattle.std.specs.List.{flat_map};
 ghost use Rattle.meta_types.specs.Faults.{Refuses, unless};

@@ -1,21 +1,11 @@
 //! What has ended, and what holds itself.
 ghost use Rattle.std.specs.Prelude.{◌≡◌, ◌&&◌};
-ghost use Rattle.meta_types.specs.CollectorLabels.{is_expired, is_unreadable};
+ghost use Rattle.meta_types.specs.CollectorLabels.{is_unreadable};
 ghost use Rattle.meta_types.specs.Paths.{images_expire, image_stays, lease_stays, ingest_holds_itself};
 
-use gc_labels::{Expiry, expiry};
+use gc_labels::{is_expired, is_unreadable};
 use lease_book::Lease;
-use meta_types::{ImageRow, IngestRow, Instant, Labels};
-
-fn is_expired(labels: &Labels, at: Instant) -> bool
-    ensures { result ≡ is_expired labels.now at.0 }
-{
-    match expiry(labels) {
-        Expiry::Never => false,
-        Expiry::Unreadable => false,
-        Expiry::At(end) => end.0 < at.0,
-    }
-}
+use meta_types::{ImageRow, IngestRow, Instant};
 
 /// The image stays: it has no end that is past. Images end in profile 2 alone.
 pub fn image_stays(row: &ImageRow, profile: u8, at: Instant) -> bool
@@ -37,16 +27,6 @@ pub(crate) fn ingest_holds_itself(row: &IngestRow, at: Instant) -> bool
     match row.expires {
         None => false,
         Some(end) => at.0 <= end.0,
-    }
-}
-
-pub(crate) fn is_unreadable(labels: &Labels) -> bool
-    ensures { result ≡ is_unreadable labels.now }
-{
-    match expiry(labels) {
-        Expiry::Never => false,
-        Expiry::Unreadable => true,
-        Expiry::At(_) => false,
     }
 }
 

@@ -5,7 +5,8 @@ ghost use Rattle.meta_types.specs.Faults.{Refuses};
 ghost use Rattle.meta_types.specs.CollectorLabels.{is_unreadable};
 ghost use Rattle.meta_types.specs.Paths.{images_expire};
 
-use crate::ends::{image_is_unreadable, is_unreadable};
+use crate::ends::image_is_unreadable;
+use gc_labels::is_unreadable;
 use lease_book::Lease;
 use meta_types::{Fault, ImageRow, Name, ShortName};
 use std::alloc::Global;

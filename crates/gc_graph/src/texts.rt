@@ -1,4 +1,4 @@
-//! Tells proofs that the texts of rows are allowed. The compiler leaves these loops out.
+//! Tells proofs that the texts of rows are allowed. The loops read and keep nothing.
 ghost use Rattle.std.specs.Prelude.{All};
 ghost use Rattle.meta_types.specs.Text.{IsDigest, IsShortName, IsName};
 ghost use Rattle.gc_graph.specs.Nodes.{AreAllowed};
@@ -12,6 +12,7 @@ fn tell_ingests(rows: &[&IngestRow])
     ensures { All (λ row. IsName row.now.name) rows.now }
 {
     for row in rows {
+        // The text's clause says that it is allowed; nothing else is wanted of it.
         let _name = row.name.text();
     }
 }
@@ -20,6 +21,7 @@ fn tell_content(rows: &[&ContentRow])
     ensures { All (λ row. IsDigest row.now.digest) rows.now }
 {
     for row in rows {
+        // The text's clause says that it is allowed; nothing else is wanted of it.
         let _digest = row.digest.text();
     }
 }
@@ -28,6 +30,7 @@ fn tell_snapshotters(rows: &[&SnapRow])
     ensures { All (λ row. IsShortName row.now.key.snapshotter) rows.now }
 {
     for row in rows {
+        // The text's clause says that it is allowed; nothing else is wanted of it.
         let _snapshotter = row.key.snapshotter.text();
     }
 }
@@ -36,6 +39,7 @@ fn tell_snapshots(rows: &[&SnapRow])
     ensures { All (λ row. IsName row.now.key.name) rows.now }
 {
     for row in rows {
+        // The text's clause says that it is allowed; nothing else is wanted of it.
         let _name = row.key.name.text();
     }
 }

@@ -1,12 +1,12 @@
 //! Label keys, and what they say to the collector.
 ghost use Rattle.std.specs.Prelude.{◌≡◌, option_map};
 ghost use Rattle.meta_types.specs.Text.{begins_with};
-ghost use Rattle.meta_types.specs.CollectorLabels.{is_content_key, snapshotter_in, is_marked_root, is_flat, expiry_of, is_unreadable};
+ghost use Rattle.meta_types.specs.CollectorLabels.{is_content_key, snapshotter_in, is_marked_root, is_flat, expiry_of, is_expired, is_unreadable};
 ghost use Rattle.gc_labels.specs.ExpiryEnds.{end_of, is_unread};
 
 use crate::ends::Expiry;
 use crate::instants::read_instant;
-use meta_types::Labels;
+use meta_types::{Instant, Labels};
 
 /// Marks content or a snapshot as a root, whatever its value (containerd garbage-collection.md).
 const ROOT: &str = "containerd.io/gc.root";
@@ -71,6 +71,28 @@ pub fn expiry(labels: &Labels) -> Expiry
             Some(instant) => Expiry::At(instant),
             None => Expiry::Unreadable,
         },
+    }
+}
+
+/// Whether the end that labels say is past: at the end itself the object hasn't ended.
+pub fn is_expired(labels: &Labels, at: Instant) -> bool
+    ensures { result ≡ is_expired labels.now at.0 }
+{
+    match expiry(labels) {
+        Expiry::Never => false,
+        Expiry::Unreadable => false,
+        Expiry::At(end) => end.0 < at.0,
+    }
+}
+
+/// Whether labels have an expiry that can't be read: such an object never ends.
+pub fn is_unreadable(labels: &Labels) -> bool
+    ensures { result ≡ is_unreadable labels.now }
+{
+    match expiry(labels) {
+        Expiry::Never => false,
+        Expiry::Unreadable => true,
+        Expiry::At(_) => false,
     }
 }
 

@@ -9,4 +9,4 @@ mod keys;
 
 pub use ends::Expiry;
 pub use instants::read_instant;
-pub use keys::{content_ref, expiry, is_flat, is_root, snapshot_ref};
+pub use keys::{content_ref, expiry, is_expired, is_flat, is_root, is_unreadable, snapshot_ref};

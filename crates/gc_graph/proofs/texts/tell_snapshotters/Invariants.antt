@@ -3,6 +3,6 @@ use Rattle.std.specs.Prelude.{All}
 use Rattle.meta_types.specs.Text.{IsShortName}
 use Rattle.gc_graph.proofs.texts.tell_snapshotters.Given as goal
 
--- the rows so far are told
+-- the texts of the rows so far are allowed
 abbrev pub invariant-loop-row : goal.invariant-loop-row
 invariant-loop-row l = All (λ row. IsShortName row.now.key.snapshotter) (take l.row-index l.rows)
