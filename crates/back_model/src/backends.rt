@@ -6,6 +6,7 @@ ghost use Rattle.meta_types.specs.Backends.{is_named};
 ghost use Rattle.meta_types.specs.Faults.{Refuses};
 ghost use Rattle.meta_types.specs.Keys.{put_in_order};
 ghost use Rattle.meta_types.specs.Changes.{stands_before};
+ghost use Rattle.row_tables.specs.Arrived.{one_text, sorted};
 ghost use Rattle.std.specs.Borrow.{Lends, sem};
 ghost use Rattle.back_model.specs.contracts.backends.Backends.{the_row};
 ghost use Rattle.back_model.specs.Answers.{Makes, make_fails};
@@ -142,16 +143,26 @@ impl<S: SnapBackend, B: BlobBackend, I: IngestBackend> Backends<S, B, I> {
         &self.ingests
     }
 
-    /// What all backends hold. A shard without snapshots isn't seen.
+    /// All snapshots, by snapshotter and number, with their parents.
+    pub fn snaps(&self, alloc: Global) -> Result<Vec<(ShortName, u64, Option<u64>)>, Fault>
+        ensures fault { Refuses result None }
+        ensures ok { IfOk result (λ snaps. map listed_snap snaps.items
+            ≡ all_snaps self.now.shards) }
+    {
+        self.shards.snaps(alloc)
+    }
+
+    /// A copy of what all backends hold. A shard without snapshots isn't seen.
     pub fn lists(&self, alloc: Global) -> Result<BackLists, Fault>
         ensures fault { Refuses result None }
-        ensures blobs { IfOk result (λ lists. lists.blobs.items ≡ B.contents self.now.blobs) }
+        ensures blobs { IfOk result (λ lists. sorted one_text lists.blobs
+            ≡ B.contents self.now.blobs) }
         ensures snapshots { IfOk result (λ lists. map listed_snap lists.snapshots.items
             ≡ all_snaps self.now.shards) }
         ensures ingests { IfOk result (λ lists. lists.ingests.items ≡ I.contents self.now.ingests) }
     {
-        let blobs = self.blobs.digests(alloc)?;
-        let snapshots = self.shards.snaps(alloc)?;
+        let blobs = self.blobs.digests().copy(alloc)?;
+        let snapshots = self.snaps(alloc)?;
         let ingests = self.ingests.numbers(alloc)?;
         Ok(BackLists {
             blobs,

@@ -10,7 +10,8 @@ use crate::faults::{MakeFault, RemoveFault};
 use crate::fuse::Fuse;
 use crate::mem_blobs::MemBlobs;
 use crate::traits::BlobBackend;
-use meta_types::{Digest, Fault};
+use meta_types::Digest;
+use row_tables::RowTable;
 use std::alloc::Global;
 
 /// Blobs in memory, with a device that fails once where it is armed.
@@ -76,8 +77,8 @@ impl BlobBackend for FuseBlobs {
         self.inner.holds(digest)
     }
 
-    fn digests(&self, alloc: Global) -> Result<Vec<Digest>, Fault> {
-        self.inner.digests(alloc)
+    fn digests(&self) -> &RowTable<Digest, Digest> {
+        self.inner.digests()
     }
 
     fn failures(&self) -> u64 {

@@ -5,13 +5,14 @@ ghost use Rattle.back_model.specs.Shown.{shown, snaps_in, listed_snap};
 
 use crate::traits::SnapBackend;
 use meta_types::{Digest, Fault, ShortName};
+use row_tables::RowTable;
 use std::alloc::Global;
 
-/// All objects of the backends: digests, snapshots by snapshotter and number with their parents,
-/// and numbers of ingests.
+/// All objects of the backends: digests in any order, snapshots by snapshotter and number with
+/// their parents, and numbers of ingests.
 #[derive(Drop)]
 pub struct BackLists {
-    pub blobs: Vec<Digest>,
+    pub blobs: RowTable<Digest, Digest>,
     pub snapshots: Vec<(ShortName, u64, Option<u64>)>,
     pub ingests: Vec<u64>,
 }

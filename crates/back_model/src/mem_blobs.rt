@@ -2,7 +2,7 @@
 use crate::faults::{MakeFault, RemoveFault};
 use crate::traits::BlobBackend;
 use meta_types::{Digest, Fault};
-use row_tables::{RowTable, in_key_order};
+use row_tables::RowTable;
 use std::alloc::Global;
 use std::marker::Model;
 
@@ -64,12 +64,8 @@ impl BlobBackend for MemBlobs {
         self.digests.has(digest)
     }
 
-    fn digests(&self, alloc: Global) -> Result<Vec<Digest>, Fault> {
-        let mut digests = Vec::new(alloc);
-        for digest in in_key_order(alloc, &self.digests)? {
-            digests.push(digest.copy()?)?;
-        }
-        Ok(digests)
+    fn digests(&self) -> &RowTable<Digest, Digest> {
+        &self.digests
     }
 
     fn failures(&self) -> u64 {

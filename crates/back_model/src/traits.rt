@@ -4,12 +4,14 @@ ghost use Rattle.std.specs.FinMap as finmap;
 ghost use Rattle.meta_types.specs.Text.{Text};
 ghost use Rattle.meta_types.specs.Changes.{put_blob};
 ghost use Rattle.meta_types.specs.Faults.{Refuses};
+ghost use Rattle.row_tables.specs.Arrived.{one_text, sorted};
 ghost use Rattle.back_model.specs.Answers.{Makes, Removes, make_fails, remove_fails};
 ghost use Rattle.back_model.specs.Snaps.{Snaps, is_held, is_parent_held, parent_of, has_child};
 ghost use Rattle.back_model.specs.Objects.{has_blob, without_blob, AreOrderedBlobs, has_number, put_number, without_number, AreOrderedNumbers};
 
 use crate::faults::{MakeFault, RemoveFault};
 use meta_types::{Digest, Fault};
+use row_tables::RowTable;
 use std::alloc::Global;
 
 /// The snapshots of one snapshotter, by number.
@@ -92,10 +94,9 @@ pub trait BlobBackend: Send + Drop {
         ensures holds { result ≡ has_blob digest.now (contents self.now) }
         ensures order { AreOrderedBlobs (contents self.now) };
 
-    /// The digests, in the order of their bytes.
-    fn digests(&self, alloc: Global) -> Result<Vec<Digest>, Fault>
-        ensures fault { Refuses result None }
-        ensures ok { IfOk result (λ digests. digests.items ≡ contents self.now) };
+    /// Lends the digests in the order in which they are held, each found by its hash.
+    fn digests(&self) -> &RowTable<Digest, Digest>
+        ensures { sorted one_text result.now ≡ contents self.now };
 
     /// How often its device has failed.
     fn failures(&self) -> u64

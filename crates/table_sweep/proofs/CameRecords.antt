@@ -1,5 +1,5 @@
 -- Records as they came, and in the order of keys: what a report says is the same of both.
-use Rattle.std.proofs.Common.{◌≡◌, ◌+◌, ℕ, Bool, false, List, map, filter, length, refl, sym, ◌∙◌, ℤ, not, if◌then◌else◌}
+use Rattle.std.proofs.Common.{◌≡◌, ◌+◌, ℕ, Bool, false, List, map, filter, refl, sym, ◌∙◌, ℤ, not, if◌then◌else◌}
 use Rattle.std.specs.Prelude.{Contains, ◌↔◌, ◌&&◌, ◌||◌, ◌==◌, ◌*◌, nat_lt, bytes_eq}
 use Rattle.std.specs.List.{list_any}
 use Rattle.std.specs.List.Sorted.{IsPermutation}
@@ -15,7 +15,6 @@ use Rattle.meta_types.specs.Collected.{content_stays, snapshot_stays, ingest_sta
 use Rattle.meta_types.specs.Backends.{no_objects, removed_objects, goes_before, object_name, is_named, is_ancestor_of_one}
 use Rattle.meta_types.specs.Reports.{removed_of, kept_of, ignored_of, ignored_images_of, scanned_of, is_scanned}
 use Rattle.meta_types.specs.declared.rows.ImageRow.{ImageRow}
-use Rattle.meta_types.specs.declared.rows.ContainerRow.{ContainerRow}
 use Rattle.meta_types.specs.declared.rows.ContentRow.{ContentRow}
 use Rattle.meta_types.specs.declared.rows.IngestRow.{IngestRow}
 use Rattle.meta_types.specs.declared.rows.SnapRow.{SnapRow}

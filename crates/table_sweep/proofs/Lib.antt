@@ -4,6 +4,8 @@ pub mod Swept
 pub mod Gone
 pub mod Counted
 pub mod Owning
+pub mod OwnedBlobs
+pub mod Searched
 pub mod Named
 pub mod Steps
 pub mod Deep

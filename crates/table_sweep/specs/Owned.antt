@@ -1,49 +1,35 @@
--- Backend objects by their names, and which rows own them. Ours, unless a source stands beside.
-use Rattle.std.specs.Prelude.{ℕ, Bool, false, not, ◌&&◌, ◌==◌, bytes_eq, List, [], ◌∷◌, ◌++◌, if◌then◌else◌}
+-- Which rows own backend objects, and what goes. Ours, unless a source stands beside.
+use Rattle.std.specs.Prelude.{ℕ, Bool, not, ◌&&◌, ◌==◌, bytes_eq, List}
 use Rattle.std.specs.List.{list_any}
-use Rattle.meta_types.specs.Text.{Text}
+use Rattle.std.specs.Ordering.{nat_cmp, ordering_then}
+use Rattle.std.specs.declared.cmp.Ordering.{Ordering}
+use Rattle.meta_types.specs.Text.{Text, text_cmp}
 use Rattle.meta_types.specs.declared.rows.ContentRow.{ContentRow}
-use Rattle.meta_types.specs.declared.rows.IngestRow.{IngestRow}
 use Rattle.meta_types.specs.declared.rows.SnapRow.{SnapRow}
 use Rattle.table_sweep.specs.Depths.{Listed}
-use Rattle.table_sweep.specs.declared.owners.Object.{Object}
-use Rattle.table_sweep.specs.declared.owners.Object.TheVariants.{Blob, Begun, Snap}
 
--- the objects are of one kind and have the same name
-abbrev pub is_object : Object → Object → Bool
-is_object (Blob a) (Blob b) = bytes_eq a b
-is_object (Blob a) _ = false
-is_object (Begun a) (Begun b) = a == b
-is_object (Begun a) _ = false
-is_object (Snap s a) (Snap t b) = bytes_eq s t && a == b
-is_object (Snap s a) _ = false
+-- some row of content has the digest (containerd content-flow.md)
+abbrev pub owns_blob : List ContentRow → Text → Bool
+owns_blob rows digest = list_any (λ row. bytes_eq row.digest digest) rows
 
--- the objects with one more, unless it is there
-abbrev pub put_object : List Object → Object → List Object
-put_object objects object = if list_any (is_object object) objects then objects else objects ++ object ∷ []
+-- what a snapshot's row owns: a number of a snapshotter
+abbrev pub object_of : SnapRow → Text × ℕ
+object_of row = (row.key.snapshotter, row.number)
 
--- the object of a row of content (containerd content-flow.md)
-abbrev pub blob : ContentRow → Object
-blob row = Blob row.digest
+-- the name of a backend snapshot
+abbrev pub name_of : Listed → Text × ℕ
+name_of s = (s.0, s.1)
 
--- that of an ingest
-abbrev pub begun : IngestRow → Object
-begun row = Begun row.number
+-- by number, then by snapshotter: most numbers differ
+abbrev pub object_cmp : Text × ℕ → Text × ℕ → Ordering
+object_cmp a b = ordering_then (nat_cmp a.1 b.1) (text_cmp a.0 b.0)
 
--- that of a snapshot
-abbrev pub snap : SnapRow → Object
-snap row = Snap row.key.snapshotter row.number
-
--- ---- what goes, since nothing owns it
-
--- a blob (containerd content-flow.md)
-abbrev pub blob_goes : List Object → Text → Bool
-blob_goes owners digest = not (list_any (is_object (Blob digest)) owners)
+-- ---- what goes, since no row that stays owns it
 
 -- an ingest's object
-abbrev pub begun_goes : List Object → ℕ → Bool
-begun_goes owners number = not (list_any (is_object (Begun number)) owners)
+abbrev pub begun_goes : List ℕ → ℕ → Bool
+begun_goes owned number = not (list_any (λ other. other == number) owned)
 
 -- a snapshot's object
-abbrev pub snap_goes : List Object → Listed → Bool
-snap_goes owners s = not (list_any (is_object (Snap s.0 s.1)) owners)
+abbrev pub snap_goes : List SnapRow → Listed → Bool
+snap_goes owners s = not (list_any (λ row. bytes_eq row.key.snapshotter s.0 && row.number == s.1) owners)

@@ -1,6 +1,7 @@
 //! What a collection leaves of the tables, and what goes.
 #![tactic(auto)]
 
+mod blobs;
 mod copies;
 mod counts;
 mod depths;

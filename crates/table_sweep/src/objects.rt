@@ -6,84 +6,67 @@ ghost use Rattle.meta_types.specs.Backends.{no_objects, removed_objects};
 ghost use Rattle.gc_graph.specs.Stored.{records_of};
 ghost use Rattle.table_sweep.specs.Stays.{FitRows};
 ghost use Rattle.table_sweep.specs.Depths.{depth_in, key_at, key_of};
-ghost use Rattle.table_sweep.specs.Owned.{blob_goes, begun_goes, snap_goes};
+ghost use Rattle.table_sweep.specs.Owned.{object_of, object_cmp, begun_goes, snap_goes};
+ghost use Rattle.std.specs.List.Sorted.{IsSorted};
+ghost use Rattle.std.specs.Ordering.{nat_cmp};
 ghost use Rattle.table_sweep.specs.Backed.{lists_of, left_by};
 
+use crate::blobs::blobs_gone;
 use crate::depths::{BackSnap, Key, depths_of, in_order, names_of};
 use crate::masks::Masks;
-use crate::owners::{Object, Owners, owners_of};
+use crate::owners::{begun_goes, begun_owners, snap_goes, snapshot_owners};
 use gc_graph::StoreRows;
 use gc_report::Objects;
-use meta_types::{Digest, Fault};
+use meta_types::{Digest, Fault, SnapRow};
+use row_tables::RowTable;
 use std::alloc::Global;
 
-/// What the backends hold, borrowed: digests, snapshots and numbers of ingests, as they are listed.
+/// What the backends hold, borrowed: digests in any order, snapshots and numbers of ingests, as
+/// they are listed.
 #[derive(Clone, Copy)]
 pub struct BackRows<'a> {
-    pub blobs: &'a [Digest],
+    pub blobs: &'a RowTable<Digest, Digest>,
     pub snapshots: &'a [BackSnap],
     pub ingests: &'a [u64],
 }
 
-fn push_blob(owners: &Owners, digest: &Digest, blobs: &mut Vec<Digest>) -> Result<(), Fault>
-    ensures fault { Refuses result None }
-    ensures ok { OnOk result (blobs.new.items ≡ blobs.old.items
-        ++ (if blob_goes owners.now digest.now then digest.now ∷ [] else [])) }
-{
-    let object = Object::Blob(digest.copy()?);
-    if !owners.has(&object) {
-        blobs.push(digest.copy()?)?;
-    }
-    Ok(())
-}
-
-fn blobs_gone(alloc: Global, owners: &Owners, blobs: &[Digest]) -> Result<Vec<Digest>, Fault>
-    ensures fault { Refuses result None }
-    ensures ok { IfOk result (λ v. v.items ≡ flat_map
-        (λ digest. if blob_goes owners.now digest then digest ∷ [] else []) blobs.now) }
-{
-    let mut gone = Vec::new(alloc);
-    for digest in blobs {
-        push_blob(owners, digest, &mut gone)?;
-    }
-    Ok(gone)
-}
-
-fn push_ingest(owners: &Owners, number: u64, numbers: &mut Vec<u64>) -> Result<(), Fault>
+fn push_ingest(owned: &[u64], number: u64, numbers: &mut Vec<u64>) -> Result<(), Fault>
+    requires { IsSorted nat_cmp owned.now }
     ensures fault { Refuses result None }
     ensures ok { OnOk result (numbers.new.items ≡ numbers.old.items
-        ++ (if begun_goes owners.now number then number ∷ [] else [])) }
+        ++ (if begun_goes owned.now number then number ∷ [] else [])) }
 {
-    if !owners.has(&Object::Begun(number)) {
+    if begun_goes(owned, number) {
         numbers.push(number)?;
     }
     Ok(())
 }
 
-fn ingests_gone(alloc: Global, owners: &Owners, numbers: &[u64]) -> Result<Vec<u64>, Fault>
+fn ingests_gone(alloc: Global, owned: &[u64], numbers: &[u64]) -> Result<Vec<u64>, Fault>
+    requires { IsSorted nat_cmp owned.now }
     ensures fault { Refuses result None }
     ensures ok { IfOk result (λ v. v.items ≡ flat_map
-        (λ number. if begun_goes owners.now number then number ∷ [] else []) numbers.now) }
+        (λ number. if begun_goes owned.now number then number ∷ [] else []) numbers.now) }
 {
     let mut gone = Vec::new(alloc);
     for number in numbers {
-        push_ingest(owners, *number, &mut gone)?;
+        push_ingest(owned, *number, &mut gone)?;
     }
     Ok(gone)
 }
 
 fn push_key(
-    owners: &Owners,
+    owners: &[&SnapRow],
     snap: &BackSnap,
     depth: usize,
     keys: &mut Vec<Key>,
 ) -> Result<(), Fault>
+    requires { IsSorted (λ a b. object_cmp (object_of a.now) (object_of b.now)) owners.now }
     ensures fault { Refuses result None }
     ensures ok { OnOk result (keys.new.items ≡ keys.old.items
-        ++ (if snap_goes owners.now snap.now then key_at snap.now depth ∷ [] else [])) }
+        ++ (if snap_goes (map (λ owner. owner.now) owners.now) snap.now then key_at snap.now depth ∷ [] else [])) }
 {
-    let object = Object::Snap(snap.0.copy()?, snap.1);
-    if !owners.has(&object) {
+    if snap_goes(owners, snap) {
         let snapshotter = snap.0.copy()?;
         keys.push(Key {
             snapshotter,
@@ -96,14 +79,15 @@ fn push_key(
 
 fn keys_in(
     alloc: Global,
-    owners: &Owners,
+    owners: &[&SnapRow],
     snapshots: &[BackSnap],
     depths: &[usize],
 ) -> Result<Vec<Key>, Fault>
-    requires { depths.now ≡ map (depth_in (length snapshots.now) snapshots.now) snapshots.now }
+    requires order { IsSorted (λ a b. object_cmp (object_of a.now) (object_of b.now)) owners.now }
+    requires depths { depths.now ≡ map (depth_in (length snapshots.now) snapshots.now) snapshots.now }
     ensures fault { Refuses result None }
     ensures ok { IfOk result (λ v. v.items ≡ flat_map
-        (λ s. if snap_goes owners.now s then key_of snapshots.now s ∷ [] else []) snapshots.now) }
+        (λ s. if snap_goes (map (λ owner. owner.now) owners.now) s then key_of snapshots.now s ∷ [] else []) snapshots.now) }
 {
     let mut keys = Vec::new(alloc);
     for (i, snap) in snapshots.iter().enumerate() {
@@ -112,10 +96,11 @@ fn keys_in(
     Ok(keys)
 }
 
-fn keys_gone(alloc: Global, owners: &Owners, snapshots: &[BackSnap]) -> Result<Vec<Key>, Fault>
+fn keys_gone(alloc: Global, owners: &[&SnapRow], snapshots: &[BackSnap]) -> Result<Vec<Key>, Fault>
+    requires { IsSorted (λ a b. object_cmp (object_of a.now) (object_of b.now)) owners.now }
     ensures fault { Refuses result None }
     ensures ok { IfOk result (λ v. v.items ≡ flat_map
-        (λ s. if snap_goes owners.now s then key_of snapshots.now s ∷ [] else []) snapshots.now) }
+        (λ s. if snap_goes (map (λ owner. owner.now) owners.now) s then key_of snapshots.now s ∷ [] else []) snapshots.now) }
 {
     let depths = depths_of(alloc, snapshots)?;
     let keys = keys_in(alloc, owners, snapshots, &depths)?;
@@ -134,9 +119,10 @@ pub(crate) fn objects_of(
     ensures ok { IfOk result (λ objects. objects ≡ removed_objects
         (left_by (records_of rows.now) masks.now) no_objects (lists_of back.now)) }
 {
-    let owners = owners_of(alloc, rows, masks)?;
-    let blobs = blobs_gone(alloc, &owners, back.blobs)?;
-    let ingests = ingests_gone(alloc, &owners, back.ingests)?;
+    let blobs = blobs_gone(alloc, rows.content, &masks.content, back.blobs)?;
+    let owned = begun_owners(alloc, rows.ingests, &masks.ingests)?;
+    let ingests = ingests_gone(alloc, &owned, back.ingests)?;
+    let owners = snapshot_owners(alloc, rows.snapshots, &masks.snapshots)?;
     let keys = keys_gone(alloc, &owners, back.snapshots)?;
     let keys = in_order(keys)?;
     let snapshots = names_of(alloc, &keys)?;

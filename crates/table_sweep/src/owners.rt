@@ -1,148 +1,138 @@
-//! The backend objects that rows own.
-ghost use Rattle.std.specs.Prelude.{◌≡◌, ◌∷◌, [], map, fold, length, if◌then◌else◌, OnOk, None, IfOk};
+//! The rows that own objects of ingests and snapshots, in the order of their numbers.
+ghost use Rattle.std.specs.Prelude.{◌≡◌, ◌++◌, ◌∷◌, ◌&&◌, ◌==◌, [], map, length, bytes_eq, if◌then◌else◌, OnOk, None, IfOk};
 ghost use Rattle.std.specs.List.{list_any};
+ghost use Rattle.std.specs.List.Sorted.{IsSorted, IsPermutation};
+ghost use Rattle.std.specs.Ordering.{nat_cmp};
 ghost use Rattle.meta_types.specs.Faults.{Refuses};
 ghost use Rattle.object_tables.specs.Calls.{kept};
-ghost use Rattle.gc_graph.specs.Stored.{records_of};
-ghost use Rattle.table_sweep.specs.Stays.{FitRows};
-ghost use Rattle.table_sweep.specs.Owned.{is_object, put_object, blob, begun, snap};
+ghost use Rattle.table_sweep.specs.Owned.{object_of, object_cmp, name_of, begun_goes, snap_goes};
 
-use crate::masks::Masks;
-use gc_graph::StoreRows;
-use indexmap::IndexSet;
-use meta_types::{ContentRow, Digest, Fault, IngestRow, ShortName, SnapRow};
-use std::alloc::{AllocFailed, Global};
-use std::marker::Model;
+use crate::depths::BackSnap;
+use meta_types::{Fault, IngestRow, SnapRow};
+use std::alloc::Global;
+use std::cmp::Ordering;
 
-// An object of the backends, by its name.
-#[derive(PartialEq, Eq, Hash, Drop)]
-pub(crate) enum Object {
-    Blob(Digest),
-    Begun(u64),
-    Snap(ShortName, u64),
-}
-
-// Objects, each once.
-#[derive(Drop)]
-pub(crate) struct Owners {
-    objects: IndexSet<Object>,
-}
-
-impl Model for Owners {
-    ghost use Rattle.std.specs.Prelude.{List};
-    ghost use Rattle.table_sweep.specs.declared.owners.Object.{Object};
-
-    ghost Value = { List Object };
-
-    ghost view = { λ o. o.objects.keys };
-}
-
-impl Owners {
-    fn new(alloc: Global) -> Owners
-        ensures { result ≡ [] }
-    {
-        Owners {
-            objects: IndexSet::new(alloc),
-        }
-    }
-
-    fn add(&mut self, object: Object) -> Result<(), AllocFailed<Object>>
-        ensures { OnOk result (self.new ≡ put_object self.old object) }
-    {
-        self.objects.insert(object)?;
-        Ok(())
-    }
-
-    // Some row owns the object.
-    pub(crate) fn has(&self, object: &Object) -> bool
-        ensures { result ≡ list_any (is_object object.now) self.now }
-    {
-        self.objects.contains(object)
-    }
-}
-
-fn own_blob(owners: &mut Owners, row: &ContentRow, stays: bool) -> Result<(), Fault>
+fn push_number(row: &IngestRow, stays: bool, numbers: &mut Vec<u64>) -> Result<(), Fault>
     ensures fault { Refuses result None }
-    ensures ok { OnOk result (owners.new
-        ≡ fold put_object owners.old (if stays then blob row.now ∷ [] else [])) }
+    ensures ok { OnOk result (numbers.new.items ≡ numbers.old.items
+        ++ (if stays then row.now.number ∷ [] else [])) }
 {
     if stays {
-        owners.add(Object::Blob(row.digest.copy()?))?;
+        numbers.push(row.number)?;
     }
     Ok(())
 }
 
-fn own_blobs(owners: &mut Owners, rows: &[&ContentRow], mask: &[bool]) -> Result<(), Fault>
+// The numbers of the ingests that stay, as these came.
+fn numbers_of(alloc: Global, rows: &[&IngestRow], mask: &[bool]) -> Result<Vec<u64>, Fault>
     requires { length mask.now ≡ length rows.now }
     ensures fault { Refuses result None }
-    ensures ok { OnOk result (owners.new
-        ≡ fold put_object owners.old (map (λ row. blob row.now) (kept mask.now rows.now))) }
+    ensures ok { IfOk result (λ v. v.items ≡ map (λ row. row.now.number) (kept mask.now rows.now)) }
 {
+    let mut numbers = Vec::new(alloc);
     for (i, row) in rows.iter().enumerate() {
-        own_blob(owners, row, mask[i])?;
+        push_number(row, mask[i], &mut numbers)?;
     }
-    Ok(())
+    Ok(numbers)
 }
 
-fn own_ingest(owners: &mut Owners, row: &IngestRow, remains: bool) -> Result<(), Fault>
-    ensures fault { Refuses result None }
-    ensures ok { OnOk result (owners.new
-        ≡ fold put_object owners.old (if remains then begun row.now ∷ [] else [])) }
-{
-    if remains {
-        owners.add(Object::Begun(row.number))?;
-    }
-    Ok(())
-}
-
-fn own_ingests(owners: &mut Owners, rows: &[&IngestRow], mask: &[bool]) -> Result<(), Fault>
+// The numbers of the ingests that stay.
+pub(crate) fn begun_owners(
+    alloc: Global,
+    rows: &[&IngestRow],
+    mask: &[bool],
+) -> Result<Vec<u64>, Fault>
     requires { length mask.now ≡ length rows.now }
     ensures fault { Refuses result None }
-    ensures ok { OnOk result (owners.new
-        ≡ fold put_object owners.old (map (λ row. begun row.now) (kept mask.now rows.now))) }
+    ensures all { IfOk result (λ v. IsPermutation
+        (map (λ row. row.now.number) (kept mask.now rows.now)) v.items) }
+    ensures order { IfOk result (λ v. IsSorted nat_cmp v.items) }
 {
-    for (i, row) in rows.iter().enumerate() {
-        own_ingest(owners, row, mask[i])?;
-    }
-    Ok(())
+    let mut numbers = numbers_of(alloc, rows, mask)?;
+    numbers.sort_unstable();
+    Ok(numbers)
 }
 
-fn own_snapshot(owners: &mut Owners, row: &SnapRow, is_kept: bool) -> Result<(), Fault>
+// No row among the owners has the number.
+pub(crate) fn begun_goes(owned: &[u64], number: u64) -> bool
+    requires { IsSorted nat_cmp owned.now }
+    ensures { result ≡ begun_goes owned.now number }
+{
+    owned.binary_search(&number).is_err()
+}
+
+fn push_owner<'a>(row: &'a SnapRow, stays: bool, owners: &mut Vec<&'a SnapRow>) -> Result<(), Fault>
     ensures fault { Refuses result None }
-    ensures ok { OnOk result (owners.new
-        ≡ fold put_object owners.old (if is_kept then snap row.now ∷ [] else [])) }
+    ensures ok { OnOk result (map (λ owner. owner.now) owners.new.items
+        ≡ map (λ owner. owner.now) owners.old.items ++ (if stays then row.now ∷ [] else [])) }
 {
-    if is_kept {
-        owners.add(Object::Snap(row.key.snapshotter.copy()?, row.number))?;
+    if stays {
+        owners.push(row)?;
     }
     Ok(())
 }
 
-fn own_snapshots(owners: &mut Owners, rows: &[&SnapRow], mask: &[bool]) -> Result<(), Fault>
+// The rows that stay, as they came.
+fn owners_of<'a>(
+    alloc: Global,
+    rows: &[&'a SnapRow],
+    mask: &[bool],
+) -> Result<Vec<&'a SnapRow>, Fault>
     requires { length mask.now ≡ length rows.now }
     ensures fault { Refuses result None }
-    ensures ok { OnOk result (owners.new
-        ≡ fold put_object owners.old (map (λ row. snap row.now) (kept mask.now rows.now))) }
+    ensures ok { IfOk result (λ v. map (λ owner. owner.now) v.items
+        ≡ map (λ row. row.now) (kept mask.now rows.now)) }
 {
+    let mut owners = Vec::new(alloc);
     for (i, row) in rows.iter().enumerate() {
-        own_snapshot(owners, row, mask[i])?;
+        push_owner(row, mask[i], &mut owners)?;
     }
-    Ok(())
-}
-
-// The objects of the rows that stay.
-pub(crate) fn owners_of(alloc: Global, rows: &StoreRows<'_>, masks: &Masks) -> Result<Owners, Fault>
-    requires { FitRows (records_of rows.now).tables (records_of rows.now).leases masks.now }
-    ensures fault { Refuses result None }
-    ensures ok { IfOk result (λ owners. owners
-        ≡ fold put_object (fold put_object (fold put_object []
-        (map (λ row. blob row.now) (kept masks.now.content.items rows.now.content.now)))
-        (map (λ row. begun row.now) (kept masks.now.ingests.items rows.now.ingests.now)))
-        (map (λ row. snap row.now) (kept masks.now.snapshots.items rows.now.snapshots.now))) }
-{
-    let mut owners = Owners::new(alloc);
-    own_blobs(&mut owners, rows.content, &masks.content)?;
-    own_ingests(&mut owners, rows.ingests, &masks.ingests)?;
-    own_snapshots(&mut owners, rows.snapshots, &masks.snapshots)?;
     Ok(owners)
+}
+
+fn compare(a: &SnapRow, b: &SnapRow) -> Ordering
+    ensures { result ≡ object_cmp (object_of a.now) (object_of b.now) }
+{
+    a.number
+        .cmp(&b.number)
+        .then(a.key.snapshotter.cmp(&b.key.snapshotter))
+}
+
+// The rows that stay, by number and snapshotter.
+pub(crate) fn snapshot_owners<'a>(
+    alloc: Global,
+    rows: &[&'a SnapRow],
+    mask: &[bool],
+) -> Result<Vec<&'a SnapRow>, Fault>
+    requires { length mask.now ≡ length rows.now }
+    ensures fault { Refuses result None }
+    ensures all { IfOk result (λ v. IsPermutation (map (λ row. row.now) (kept mask.now rows.now))
+        (map (λ owner. owner.now) v.items)) }
+    ensures order { IfOk result (λ v. IsSorted
+        (λ a b. object_cmp (object_of a.now) (object_of b.now)) v.items) }
+{
+    let mut owners = owners_of(alloc, rows, mask)?;
+    owners.sort_by(|a, b| compare(a, b))?;
+    Ok(owners)
+}
+
+fn compare_name(row: &SnapRow, snap: &BackSnap) -> Ordering
+    ensures { result ≡ object_cmp (object_of row.now) (name_of snap.now) }
+{
+    row.number
+        .cmp(&snap.1)
+        .then(row.key.snapshotter.cmp(&snap.0))
+}
+
+// No row among the owners has the snapshot's name.
+pub(crate) fn snap_goes(owners: &[&SnapRow], snap: &BackSnap) -> bool
+    requires { IsSorted (λ a b. object_cmp (object_of a.now) (object_of b.now)) owners.now }
+    ensures { result ≡ snap_goes (map (λ owner. owner.now) owners.now) snap.now }
+{
+    let found = owners.binary_search_by(
+        |row: &&SnapRow| -> Ordering
+            ensures { result ≡ object_cmp (object_of row.now.now) (name_of snap.entry.now) }
+        { compare_name(row, snap) },
+    );
+    found.is_err()
 }

@@ -5,4 +5,4 @@ use Rattle.table_sweep.proofs.objects.ingests_gone.Given as goal
 
 -- those so far that go are there
 abbrev pub invariant-loop-number : goal.invariant-loop-number
-invariant-loop-number l = l.gone.items ≡ flat_map (λ number. if begun_goes l.owners number then number ∷ [] else []) (take l.number-index l.numbers)
+invariant-loop-number l = l.gone.items ≡ flat_map (λ number. if begun_goes l.owned number then number ∷ [] else []) (take l.number-index l.numbers)

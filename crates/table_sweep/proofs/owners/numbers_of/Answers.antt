@@ -1,0 +1,9 @@
+use Rattle.std.proofs.Common.{Bor}
+use Rattle.meta_types.specs.declared.rows.IngestRow.{IngestRow}
+use Rattle.table_sweep.proofs.Owning.{kept_step}
+use Rattle.table_sweep.proofs.owners.numbers_of.Goals as goal
+
+pub loop-i-preserved : goal.loop-i-preserved
+loop-i-preserved c =
+    kept_step (λ (row : Bor IngestRow). row.now.number) c.args.mask.now c.args.rows.now c.loop-i.i _ c.index-rows-i.result
+    c.loop-i.numbers.items c.push_number.new.numbers.items c.requires c.loop-i-test.true c.index-rows-i.is c.loop-i.invariant c.in_ok-push_number.ensures.ok

@@ -1,0 +1,7 @@
+use Rattle.std.proofs.Common.{◌≡◌, map, take}
+use Rattle.object_tables.specs.Calls.{kept}
+use Rattle.table_sweep.proofs.owners.owners_of.Given as goal
+
+-- the rows so far that stay are there
+abbrev pub invariant-loop-i : goal.invariant-loop-i
+invariant-loop-i l = map (λ owner. owner.now) l.owners.items ≡ map (λ row. row.now) (kept (take l.i l.mask) (take l.i l.rows))

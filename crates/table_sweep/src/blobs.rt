@@ -1,0 +1,115 @@
+//! The blobs that no row owns, in the order of their digests.
+ghost use Rattle.std.specs.Prelude.{◌≡◌, ◌++◌, ◌∷◌, [], map, filter, length, not, bytes_eq, ◌&&◌, ◌||◌, if◌then◌else◌, OnOk, None, IfOk, Bool};
+ghost use Rattle.meta_types.specs.Text.{Text, text_cmp};
+ghost use Rattle.meta_types.specs.Faults.{Refuses};
+ghost use Rattle.object_tables.specs.Calls.{kept};
+ghost use Rattle.row_tables.specs.Arrived.{one_text, sorted};
+ghost use Rattle.table_sweep.specs.Masks.{gone};
+ghost use Rattle.table_sweep.specs.Owned.{owns_blob};
+
+use meta_types::{ContentRow, Digest, Fault};
+use row_tables::RowTable;
+use std::alloc::Global;
+use std::cmp::Ordering;
+
+// Marks the place of the digest, where the backend has it.
+fn mark_blob(blobs: &RowTable<Digest, Digest>, digest: &Digest, owned: &mut Vec<bool>)
+    requires { length owned.old.items ≡ length blobs.now }
+    ensures { (before : Text → Bool) → owned.old.items ≡ map before blobs.now
+        → owned.new.items ≡ map (λ other. bytes_eq digest.now other || before other) blobs.now }
+{
+    // No digest stands twice.
+    let _digests = blobs.rows();
+    let Some(place) = blobs.place(digest) else {
+        return;
+    };
+    owned[place] = true;
+}
+
+fn own_blob(blobs: &RowTable<Digest, Digest>, row: &ContentRow, stays: bool, owned: &mut Vec<bool>)
+    requires { length owned.old.items ≡ length blobs.now }
+    ensures { (before : Text → Bool) → owned.old.items ≡ map before blobs.now → owned.new.items
+        ≡ map (λ other. (stays && bytes_eq row.now.digest other) || before other) blobs.now }
+{
+    if !stays {
+        return;
+    }
+    mark_blob(blobs, &row.digest, owned);
+}
+
+// For each place of a blob, whether a row that stays owns it.
+fn owned_blobs(
+    alloc: Global,
+    rows: &[&ContentRow],
+    mask: &[bool],
+    blobs: &RowTable<Digest, Digest>,
+) -> Result<Vec<bool>, Fault>
+    requires { length mask.now ≡ length rows.now }
+    ensures fault { Refuses result None }
+    ensures ok { IfOk result (λ owned. owned.items
+        ≡ map (owns_blob (map (λ row. row.now) (kept mask.now rows.now))) blobs.now) }
+{
+    let mut owned = Vec::from_elem(alloc, false, blobs.len())?;
+    for (i, row) in rows.iter().enumerate() {
+        own_blob(blobs, row, mask[i], &mut owned);
+    }
+    Ok(owned)
+}
+
+fn push_blob(digest: &Digest, is_owned: bool, gone: &mut Vec<Digest>) -> Result<(), Fault>
+    ensures fault { Refuses result None }
+    ensures ok { OnOk result (gone.new.items ≡ gone.old.items
+        ++ (if is_owned then [] else digest.now ∷ [])) }
+{
+    if !is_owned {
+        gone.push(digest.copy()?)?;
+    }
+    Ok(())
+}
+
+// The blobs whose places aren't marked, as they came.
+fn unowned(alloc: Global, blobs: &[Digest], owned: &[bool]) -> Result<Vec<Digest>, Fault>
+    requires { length owned.now ≡ length blobs.now }
+    ensures fault { Refuses result None }
+    ensures ok { IfOk result (λ gone_ones. gone_ones.items ≡ gone owned.now blobs.now) }
+{
+    let mut gone = Vec::new(alloc);
+    for (i, digest) in blobs.iter().enumerate() {
+        push_blob(digest, owned[i], &mut gone)?;
+    }
+    Ok(gone)
+}
+
+fn compare(a: &Digest, b: &Digest) -> Ordering
+    ensures { result ≡ text_cmp a.now b.now }
+{
+    a.cmp(b)
+}
+
+fn digests_in_order(digests: Vec<Digest>) -> Result<Vec<Digest>, Fault>
+    ensures fault { Refuses result None }
+    ensures ok { IfOk result (λ list. list.items ≡ sorted one_text digests.items) }
+{
+    let mut digests = digests;
+    digests.sort_by(|a, b| compare(a, b))?;
+    Ok(digests)
+}
+
+// The blobs that no row that stays owns: only these are sorted.
+pub(crate) fn blobs_gone(
+    alloc: Global,
+    rows: &[&ContentRow],
+    mask: &[bool],
+    blobs: &RowTable<Digest, Digest>,
+) -> Result<Vec<Digest>, Fault>
+    requires { length mask.now ≡ length rows.now }
+    ensures fault { Refuses result None }
+    ensures ok { IfOk result (λ v. v.items ≡ filter (λ digest. not
+        (owns_blob (map (λ row. row.now) (kept mask.now rows.now)) digest))
+        (sorted one_text blobs.now)) }
+{
+    let owned = owned_blobs(alloc, rows, mask, blobs)?;
+    let gone = unowned(alloc, blobs.rows(), &owned)?;
+    let digests = digests_in_order(gone)?;
+    Ok(digests)
+}
