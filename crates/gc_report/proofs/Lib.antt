@@ -1,1 +1,2 @@
-pub mod Plain
+pub mod Adding
+mod LeftOut

@@ -2,13 +2,14 @@
 #![tactic(auto)]
 
 mod copies;
-mod lists;
 mod objects;
 mod report;
 mod rows;
 mod same;
+mod writing;
 
 pub use copies::copy_names;
 pub use objects::Objects;
 pub use report::Report;
 pub use rows::{Kept, Removed};
+pub use writing::{WriteJson, write_list, write_member};

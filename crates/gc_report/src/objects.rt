@@ -1,14 +1,11 @@
 //! Names of backend objects.
-ghost use Rattle.std.specs.Prelude.{◌≡◌, [], IfOk, None};
-ghost use Rattle.serde_json.specs.View.{view, items_view};
-ghost use Rattle.serde_json.specs.Data.{array};
-ghost use Rattle.meta_types.specs.Faults.{Refuses};
+ghost use Rattle.std.specs.Prelude.{◌≡◌};
 ghost use Rattle.meta_types.specs.Backends.{no_objects};
-ghost use Rattle.gc_report.specs.Reports.{objects_with, objects_data};
+ghost use Rattle.gc_report.specs.Reports.{objects_data};
 
-use crate::lists::{digest_values, number_values, snapshot_values};
-use meta_types::{Digest, Fault, ShortName};
-use serde_json::{Value, json};
+use crate::writing::{WriteJson, write_member};
+use json::Writer;
+use meta_types::{Digest, ShortName};
 use std::alloc::{AllocError, Global};
 use std::marker::Model;
 
@@ -43,27 +40,16 @@ impl Objects {
             snapshots: Vec::new(alloc),
         }
     }
-
-    // Their JSON.
-    pub(crate) fn to_value(&self, alloc: Global) -> Result<Value, Fault>
-        ensures fault { Refuses result None }
-        ensures ok { IfOk result (λ v. view v ≡ objects_data self.now) }
-    {
-        let blobs = digest_values(alloc, &self.blobs)?;
-        let ingests = number_values(alloc, &self.ingests)?;
-        let snapshots = snapshot_values(alloc, &self.snapshots)?;
-        Ok(objects_value(alloc, blobs, ingests, snapshots)?)
-    }
 }
 
-fn objects_value(
-    alloc: Global,
-    blobs: Vec<Value>,
-    ingests: Vec<Value>,
-    snapshots: Vec<Value>,
-) -> Result<Value, AllocError>
-    ensures { IfOk result (λ v. view v ≡ objects_with (array (items_view blobs.items)) (array
-        (items_view ingests.items)) (array (items_view snapshots.items))) }
-{
-    json!(in alloc; {"blobs": blobs, "ingests": ingests, "snapshots": snapshots})
+impl WriteJson for Objects {
+    ghost as_data = { objects_data };
+
+    fn write(&self, out: &mut Writer) -> Result<(), AllocError> {
+        out.begin_object()?;
+        write_member(out, "blobs", &self.blobs)?;
+        write_member(out, "ingests", &self.ingests)?;
+        write_member(out, "snapshots", &self.snapshots)?;
+        out.end_object()
+    }
 }

@@ -1,16 +1,13 @@
 //! The report of a collection.
-ghost use Rattle.std.specs.Prelude.{◌≡◌, map, IfOk, Some, None};
-ghost use Rattle.serde_json.specs.View.{view, items_view};
-ghost use Rattle.serde_json.specs.Data.{array};
-ghost use Rattle.meta_types.specs.Faults.{Refuses};
-ghost use Rattle.gc_report.specs.Reports.{pair_data, objects_data, kept_data, removed_data, report_with, report_data};
+ghost use Rattle.std.specs.Prelude.{◌≡◌};
+ghost use Rattle.gc_report.specs.Reports.{report_data};
 ghost use Rattle.gc_report.specs.Empty.{empty_report};
 
-use crate::lists::name_values;
 use crate::objects::Objects;
 use crate::rows::{Kept, Removed};
-use meta_types::{Fault, Name, ShortName};
-use serde_json::{Value, json};
+use crate::writing::{WriteJson, write_member, write_member_if};
+use json::Writer;
+use meta_types::{Name, ShortName};
 use std::alloc::{AllocError, Global};
 use std::marker::Model;
 
@@ -64,92 +61,24 @@ impl Report {
             scanned: 0,
         }
     }
+}
 
-    /// Its JSON, whose compact text is that of a reply's report.
-    pub fn to_value(&self, alloc: Global) -> Result<Value, Fault>
-        ensures fault { Refuses result None }
-        ensures ok { IfOk result (λ v. view v ≡ report_data self.now) }
-    {
+// Its compact text is that of a reply's report.
+impl WriteJson for Report {
+    ghost as_data = { report_data };
+
+    fn write(&self, out: &mut Writer) -> Result<(), AllocError> {
         let with_images = self.profile == 2;
-        let parts = self.parts(alloc, with_images)?;
-        if !with_images {
-            return Ok(report_value(alloc, parts)?);
-        }
-        let images = name_values(alloc, &self.ignored_images)?;
-        Ok(report_images_value(alloc, parts, images)?)
+        out.begin_object()?;
+        write_member(out, "backend", &self.backend)?;
+        write_member(out, "dry", &self.dry)?;
+        write_member(out, "failed", &self.failed)?;
+        write_member(out, "ignored", &self.ignored)?;
+        write_member_if(out, with_images, "ignored_images", &self.ignored_images)?;
+        write_member(out, "kept", &self.kept)?;
+        out.key("removed")?;
+        self.removed.write(out, with_images)?;
+        write_member(out, "scanned", &self.scanned)?;
+        out.end_object()
     }
-
-    // The parts that each report has.
-    fn parts(&self, alloc: Global, with_images: bool) -> Result<Parts, Fault>
-        ensures fault { Refuses result None }
-        ensures backend { IfOk result (λ p. view p.backend ≡ objects_data self.now.backend) }
-        ensures dry { IfOk result (λ p. p.dry ≡ self.now.dry) }
-        ensures failed { IfOk result (λ p. view p.failed ≡ objects_data self.now.failed) }
-        ensures ignored { IfOk result (λ p. map view p.ignored.items
-            ≡ map pair_data self.now.ignored) }
-        ensures kept { IfOk result (λ p. view p.kept ≡ kept_data self.now.kept) }
-        ensures removed { IfOk result (λ p. view p.removed
-            ≡ removed_data with_images self.now.removed) }
-        ensures scanned { IfOk result (λ p. p.scanned ≡ self.now.scanned) }
-    {
-        let backend = self.backend.to_value(alloc)?;
-        let failed = self.failed.to_value(alloc)?;
-        let ignored = name_values(alloc, &self.ignored)?;
-        let kept = self.kept.to_value(alloc)?;
-        let removed = self.removed.to_value(alloc, with_images)?;
-        Ok(Parts {
-            backend,
-            dry: self.dry,
-            failed,
-            ignored,
-            kept,
-            removed,
-            scanned: self.scanned,
-        })
-    }
-}
-
-// The parts that each report has.
-#[derive(Drop)]
-struct Parts {
-    backend: Value,
-    dry: bool,
-    failed: Value,
-    ignored: Vec<Value>,
-    kept: Value,
-    removed: Value,
-    scanned: u64,
-}
-
-fn report_value(alloc: Global, parts: Parts) -> Result<Value, AllocError>
-    ensures { IfOk result (λ v. view v ≡ report_with (view parts.backend) parts.dry
-        (view parts.failed) (array (items_view parts.ignored.items)) None (view parts.kept)
-        (view parts.removed) parts.scanned) }
-{
-    json!(in alloc; {
-        "backend": parts.backend,
-        "dry": parts.dry,
-        "failed": parts.failed,
-        "ignored": parts.ignored,
-        "kept": parts.kept,
-        "removed": parts.removed,
-        "scanned": parts.scanned
-    })
-}
-
-fn report_images_value(alloc: Global, parts: Parts, images: Vec<Value>) -> Result<Value, AllocError>
-    ensures { IfOk result (λ v. view v ≡ report_with (view parts.backend) parts.dry
-        (view parts.failed) (array (items_view parts.ignored.items)) (Some (array
-        (items_view images.items))) (view parts.kept) (view parts.removed) parts.scanned) }
-{
-    json!(in alloc; {
-        "backend": parts.backend,
-        "dry": parts.dry,
-        "failed": parts.failed,
-        "ignored": parts.ignored,
-        "ignored_images": images,
-        "kept": parts.kept,
-        "removed": parts.removed,
-        "scanned": parts.scanned
-    })
 }

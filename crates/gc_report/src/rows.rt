@@ -1,14 +1,12 @@
 //! Which rows remain, and which went.
-ghost use Rattle.std.specs.Prelude.{◌≡◌, IfOk, Some, None};
-ghost use Rattle.serde_json.specs.View.{view, items_view};
-ghost use Rattle.serde_json.specs.Data.{array};
-ghost use Rattle.meta_types.specs.Faults.{Refuses};
-ghost use Rattle.gc_report.specs.Reports.{kept_data, removed_with, removed_data};
+ghost use Rattle.std.specs.Prelude.{◌≡◌, OnOk};
+ghost use Rattle.gc_report.specs.Reports.{kept_data, removed_data};
 ghost use Rattle.gc_report.specs.Empty.{no_rows, none_kept};
+ghost use Rattle.gc_report.specs.Writing.{tokens_of, Adds};
 
-use crate::lists::{content_values, key_values, name_values};
-use meta_types::{Digest, Fault, Name, ShortName};
-use serde_json::{Value, json};
+use crate::writing::{WriteJson, write_member, write_member_if};
+use json::Writer;
+use meta_types::{Digest, Name, ShortName};
 use std::alloc::{AllocError, Global};
 use std::marker::Model;
 
@@ -65,22 +63,21 @@ impl Kept {
             snapshots: 0,
         }
     }
+}
 
-    // Its JSON.
-    pub(crate) fn to_value(self, alloc: Global) -> Result<Value, Fault>
-        ensures fault { Refuses result None }
-        ensures ok { IfOk result (λ v. view v ≡ kept_data self) }
-    {
-        let value = json!(in alloc; {
-            "containers": self.containers,
-            "content": self.content,
-            "images": self.images,
-            "ingests": self.ingests,
-            "leases": self.leases,
-            "namespaces": self.namespaces,
-            "snapshots": self.snapshots
-        })?;
-        Ok(value)
+impl WriteJson for Kept {
+    ghost as_data = { kept_data };
+
+    fn write(&self, out: &mut Writer) -> Result<(), AllocError> {
+        out.begin_object()?;
+        write_member(out, "containers", &self.containers)?;
+        write_member(out, "content", &self.content)?;
+        write_member(out, "images", &self.images)?;
+        write_member(out, "ingests", &self.ingests)?;
+        write_member(out, "leases", &self.leases)?;
+        write_member(out, "namespaces", &self.namespaces)?;
+        write_member(out, "snapshots", &self.snapshots)?;
+        out.end_object()
     }
 }
 
@@ -122,60 +119,17 @@ impl Removed {
         }
     }
 
-    // Their JSON, with images or without.
-    pub(crate) fn to_value(&self, alloc: Global, with_images: bool) -> Result<Value, Fault>
-        ensures fault { Refuses result None }
-        ensures ok { IfOk result (λ v. view v ≡ removed_data with_images self.now) }
+    // Writes them, with images or without.
+    pub(crate) fn write(&self, out: &mut Writer, with_images: bool) -> Result<(), AllocError>
+        ensures { OnOk result (Adds out.old out.new
+            (tokens_of (removed_data with_images self.now))) }
     {
-        let content = content_values(alloc, &self.content)?;
-        let ingests = name_values(alloc, &self.ingests)?;
-        let leases = name_values(alloc, &self.leases)?;
-        let snapshots = key_values(alloc, &self.snapshots)?;
-        if with_images {
-            let images = name_values(alloc, &self.images)?;
-            Ok(removed_images_value(alloc, content, images, ingests, leases, snapshots)?)
-        } else {
-            Ok(removed_value(alloc, content, ingests, leases, snapshots)?)
-        }
+        out.begin_object()?;
+        write_member(out, "content", &self.content)?;
+        write_member_if(out, with_images, "images", &self.images)?;
+        write_member(out, "ingests", &self.ingests)?;
+        write_member(out, "leases", &self.leases)?;
+        write_member(out, "snapshots", &self.snapshots)?;
+        out.end_object()
     }
-}
-
-fn removed_value(
-    alloc: Global,
-    content: Vec<Value>,
-    ingests: Vec<Value>,
-    leases: Vec<Value>,
-    snapshots: Vec<Value>,
-) -> Result<Value, AllocError>
-    ensures { IfOk result (λ v. view v ≡ removed_with (array (items_view content.items)) None
-        (array (items_view ingests.items)) (array (items_view leases.items)) (array
-        (items_view snapshots.items))) }
-{
-    json!(in alloc; {
-        "content": content,
-        "ingests": ingests,
-        "leases": leases,
-        "snapshots": snapshots
-    })
-}
-
-fn removed_images_value(
-    alloc: Global,
-    content: Vec<Value>,
-    images: Vec<Value>,
-    ingests: Vec<Value>,
-    leases: Vec<Value>,
-    snapshots: Vec<Value>,
-) -> Result<Value, AllocError>
-    ensures { IfOk result (λ v. view v ≡ removed_with (array (items_view content.items)) (Some
-        (array (items_view images.items))) (array (items_view ingests.items)) (array
-        (items_view leases.items)) (array (items_view snapshots.items))) }
-{
-    json!(in alloc; {
-        "content": content,
-        "images": images,
-        "ingests": ingests,
-        "leases": leases,
-        "snapshots": snapshots
-    })
 }

@@ -1,2 +1,3 @@
-pub mod WithLabels
-pub mod Plain
+mod LabelsInOrder
+mod Printed
+mod ConstantTexts

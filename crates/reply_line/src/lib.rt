@@ -2,9 +2,11 @@
 #![tactic(auto)]
 
 mod answer;
+mod constants;
 mod parts;
 mod reply;
 mod rows;
 
 pub use answer::Answer;
-pub use reply::reply_text;
+pub use constants::refusal_text;
+pub use reply::{lent_text, reply_text};

@@ -1,80 +1,60 @@
-//! Parts of replies as JSON.
-ghost use Rattle.std.specs.Prelude.{◌≡◌, ◌++◌, map, codes, string_bytes, IfOk};
-ghost use Rattle.std.specs.Arc.{arc_str_bytes};
-ghost use Rattle.serde_json.specs.Data.{string, no_members};
-ghost use Rattle.serde_json.specs.View.{view, members_view};
+//! Parts of replies, written as JSON.
+ghost use Rattle.std.specs.Prelude.{◌≡◌, ◌++◌, codes, string_bytes, IfOk, OnOk, IsTrue};
+ghost use Rattle.meta_types.specs.Keys.{are_in_order};
+ghost use Rattle.meta_types.specs.Labels.{label_key};
 ghost use Rattle.meta_types.specs.Text.{texts_of};
-ghost use Rattle.reply_line.specs.Replies.{with_labels, labels_data, if_any, kind_text, resource_data};
-ghost use Rattle.gc_report.specs.Reports.{pair_data};
+ghost use Rattle.gc_report.specs.Reports.{pair_data, list_data};
+ghost use Rattle.gc_report.specs.Writing.{tokens_of, member_tokens, Adds};
+ghost use Rattle.reply_line.specs.Replies.{labels_data, if_any, kind_text, resource_data};
 
-use meta_types::{Digest, Labels, Name, Resource, ShortName, SnapKind};
-use serde_json::{Map, Value, json};
+use gc_report::WriteJson;
+use json::Writer;
+use meta_types::{Labels, Resource, ShortName, SnapKind};
 use std::alloc::{AllocError, Global};
-use std::sync::ArcStr;
 
-// The names of a listing.
-pub(crate) fn name_values(alloc: Global, names: &[ArcStr]) -> Result<Vec<Value>, AllocError>
-    ensures { IfOk result (λ v. map view v.items ≡ map string (map arc_str_bytes names.now)) }
+// Keys and values in the order of the keys.
+fn write_entries(out: &mut Writer, entries: &[(String, String)]) -> Result<(), AllocError>
+    requires { IsTrue (are_in_order label_key (texts_of entries.now)) }
+    ensures { OnOk result (Adds out.old out.new (tokens_of (labels_data (texts_of entries.now)))) }
 {
-    let mut items = Vec::new(alloc);
-    for name in names {
-        items.push(Value::try_from_str(alloc, name.as_str())?)?;
-    }
-    Ok(items)
-}
-
-fn label_members(
-    alloc: Global,
-    entries: &[(String, String)],
-) -> Result<Map<String, Value>, AllocError>
-    ensures { IfOk result (λ m.
-        members_view m.entries ≡ with_labels no_members (texts_of entries.now)) }
-{
-    let mut members = Map::new(alloc);
+    out.begin_object()?;
     for (key, value) in entries {
-        serde_json::put(&mut members, alloc, key, Value::try_from_str(alloc, value)?)?;
+        out.key(key)?;
+        out.string(value)?;
     }
-    Ok(members)
+    out.end_object()
 }
 
-// All labels of an object.
-pub(crate) fn labels_value(alloc: Global, labels: &Labels) -> Result<Value, AllocError>
-    ensures { IfOk result (λ v. view v ≡ labels_data labels.now) }
+// The member of an object's labels.
+pub(crate) fn write_labels(out: &mut Writer, labels: &Labels) -> Result<(), AllocError>
+    ensures { OnOk result (Adds out.old out.new
+        (member_tokens (codes "labels") (labels_data labels.now))) }
 {
-    Ok(Value::Object(label_members(alloc, labels.entries())?))
+    out.key("labels")?;
+    write_entries(out, labels.entries())
 }
 
-// A digest, or null.
-pub(crate) fn digest_value(alloc: Global, digest: &Option<Digest>) -> Result<Value, AllocError>
-    ensures { IfOk result (λ v. view v ≡ if_any string digest.now) }
+// A value, or null.
+fn write_or_null<T: WriteJson>(out: &mut Writer, found: &Option<T>) -> Result<(), AllocError>
+    ensures { OnOk result (Adds out.old out.new (tokens_of (if_any T.as_data found.now))) }
 {
-    match digest {
-        Some(digest) => Value::try_from_str(alloc, digest.text()),
-        None => Ok(Value::Null),
-    }
-}
-
-// A name, or null.
-pub(crate) fn name_value(alloc: Global, name: &Option<Name>) -> Result<Value, AllocError>
-    ensures { IfOk result (λ v. view v ≡ if_any string name.now) }
-{
-    match name {
-        Some(name) => Value::try_from_str(alloc, name.text()),
-        None => Ok(Value::Null),
+    match found {
+        Some(value) => value.write(out),
+        None => out.null(),
     }
 }
 
-// A snapshot's snapshotter and name, or null.
-pub(crate) fn snapshot_value(
-    alloc: Global,
-    snapshot: &Option<(ShortName, Name)>,
-) -> Result<Value, AllocError>
-    ensures { IfOk result (λ v. view v ≡ if_any pair_data snapshot.now) }
+// A member with a value, or with null.
+pub(crate) fn write_if_any<T: WriteJson>(
+    out: &mut Writer,
+    key: &str,
+    found: &Option<T>,
+) -> Result<(), AllocError>
+    ensures { OnOk result (Adds out.old out.new
+        (member_tokens key.now (if_any T.as_data found.now))) }
 {
-    match snapshot {
-        Some((snapshotter, name)) => json!(in alloc; [snapshotter.text(), name.text()]),
-        None => Ok(Value::Null),
-    }
+    out.key(key)?;
+    write_or_null(out, found)
 }
 
 // What may be done with a snapshot.
@@ -96,29 +76,40 @@ fn type_text(alloc: Global, snapshotter: &ShortName) -> Result<String, AllocErro
     Ok(text)
 }
 
-fn resource_value(alloc: Global, resource: &Resource) -> Result<Value, AllocError>
-    ensures { IfOk result (λ v. view v ≡ resource_data resource.now) }
+fn write_pair(out: &mut Writer, kind: &str, id: &str) -> Result<(), AllocError>
+    ensures { OnOk result (Adds out.old out.new (tokens_of (pair_data (kind.now, id.now)))) }
+{
+    out.begin_array()?;
+    out.string(kind)?;
+    out.string(id)?;
+    out.end_array()
+}
+
+fn write_resource(out: &mut Writer, alloc: Global, resource: &Resource) -> Result<(), AllocError>
+    ensures { OnOk result (Adds out.old out.new (tokens_of (resource_data resource.now))) }
 {
     match resource {
-        Resource::Content(digest) => json!(in alloc; ["content", digest.text()]),
+        Resource::Content(digest) => write_pair(out, "content", digest.text()),
         Resource::Snapshot(snapshotter, name) => {
             let kind = type_text(alloc, snapshotter)?;
-            json!(in alloc; [&kind, name.text()])
+            write_pair(out, &kind, name.text())
         }
-        Resource::Ingest(name) => json!(in alloc; ["ingests", name.text()]),
+        Resource::Ingest(name) => write_pair(out, "ingests", name.text()),
     }
 }
 
 // Resources, in their order.
-pub(crate) fn resource_values(
+pub(crate) fn write_resources(
+    out: &mut Writer,
     alloc: Global,
     resources: &[Resource],
-) -> Result<Vec<Value>, AllocError>
-    ensures { IfOk result (λ v. map view v.items ≡ map resource_data resources.now) }
+) -> Result<(), AllocError>
+    ensures { OnOk result (Adds out.old out.new
+        (tokens_of (list_data resource_data resources.now))) }
 {
-    let mut items = Vec::new(alloc);
+    out.begin_array()?;
     for resource in resources {
-        items.push(resource_value(alloc, resource)?)?;
+        write_resource(out, alloc, resource)?;
     }
-    Ok(items)
+    out.end_array()
 }

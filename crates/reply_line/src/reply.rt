@@ -1,85 +1,117 @@
 //! Answers as text.
-ghost use Rattle.std.specs.Prelude.{◌≡◌, IfOk, None, codes, string_bytes};
-ghost use Rattle.serde_json.specs.View.{view};
+ghost use Rattle.std.specs.Prelude.{◌≡◌, [], true, IfOk, IsOk, None, string_bytes};
+ghost use Rattle.std.specs.Cow.{cow_str_bytes};
+ghost use Rattle.json.specs.Print.{print};
 ghost use Rattle.meta_types.specs.Faults.{Refuses};
-ghost use Rattle.meta_types.specs.Steps.{answered, reported, refused};
+ghost use Rattle.meta_types.specs.Steps.{answered, reported};
 ghost use Rattle.reply_line.specs.Answers.{answer_of};
-ghost use Rattle.reply_line.specs.Replies.{accepted, reply_data, answer_data, answer_text};
+ghost use Rattle.reply_line.specs.Fixed.{is_done, is_fixed};
+ghost use Rattle.reply_line.specs.Replies.{answer_text};
 
 use crate::answer::Answer;
-use crate::parts::{name_values, resource_values};
-use crate::rows::row_value;
-use gc_report::Report;
+use crate::constants::{done_text, refusal_text};
+use crate::parts::write_resources;
+use crate::rows::write_row;
+use gc_report::{Report, write_list, write_member};
+use json::Writer;
 use meta_types::{Fault, Holdings, Listing, Reply, ReplyRow};
-use serde_json::{Value, json};
 use std::alloc::{AllocError, Global};
+use std::borrow::CowStr;
 
-fn done_value(alloc: Global) -> Result<Value, AllocError>
-    ensures { IfOk result (λ v. view v ≡ reply_data Reply.Done) }
+// What was written, as a text: a writer writes UTF-8 alone.
+fn into_text(out: Writer) -> String
+    requires { out.before ≡ [] }
+    ensures { string_bytes result ≡ print out.tokens }
 {
-    json!(in alloc; {"ok": true})
-}
-
-fn listing_value(alloc: Global, listing: &Listing) -> Result<Value, AllocError>
-    ensures { IfOk result (λ v. view v ≡ reply_data (Reply.Names listing.now)) }
-{
-    let names = Value::Array(name_values(alloc, listing.texts())?);
-    json!(in alloc; {"names": names, "ok": true})
-}
-
-fn row_reply(alloc: Global, row: &ReplyRow) -> Result<Value, AllocError>
-    ensures { IfOk result (λ v. view v ≡ reply_data (Reply.Row row.now)) }
-{
-    let row = row_value(alloc, row)?;
-    json!(in alloc; {"ok": true, "row": row})
-}
-
-fn holdings_value(alloc: Global, holdings: &Holdings) -> Result<Value, AllocError>
-    ensures { IfOk result (λ v. view v ≡ reply_data (Reply.Resources holdings.now)) }
-{
-    let resources = Value::Array(resource_values(alloc, holdings.resources())?);
-    json!(in alloc; {"ok": true, "resources": resources})
-}
-
-fn reply_value(alloc: Global, reply: &Reply) -> Result<Value, AllocError>
-    ensures { IfOk result (λ v. view v ≡ reply_data reply.now) }
-{
-    match reply {
-        Reply::Done => done_value(alloc),
-        Reply::Names(listing) => listing_value(alloc, listing),
-        Reply::Row(row) => row_reply(alloc, row),
-        Reply::Resources(holdings) => holdings_value(alloc, holdings),
+    match String::from_utf8(out.into_inner()) {
+        Ok(text) => text,
+        Err(_) => unreachable!(),
     }
 }
 
-fn accept_report(alloc: Global, report: Value) -> Result<Value, AllocError>
-    ensures { IfOk result (λ v. view v ≡ accepted (codes "report") (view report)) }
+fn listing_text(alloc: Global, listing: &Listing) -> Result<String, AllocError>
+    ensures { IfOk result (λ text. string_bytes text
+        ≡ answer_text (answered (Reply.Names listing.now))) }
 {
-    json!(in alloc; {"ok": true, "report": report})
+    let mut out = Writer::new(Vec::new(alloc));
+    out.begin_object()?;
+    out.key("names")?;
+    write_list(&mut out, listing.texts())?;
+    write_member(&mut out, "ok", &true)?;
+    out.end_object()?;
+    Ok(into_text(out))
 }
 
-fn report_value(alloc: Global, report: &Report) -> Result<Value, Fault>
-    ensures fault { Refuses result None }
-    ensures ok { IfOk result (λ v. view v ≡ answer_data (reported report.now)) }
+fn row_text(alloc: Global, row: &ReplyRow) -> Result<String, AllocError>
+    ensures { IfOk result (λ text. string_bytes text
+        ≡ answer_text (answered (Reply.Row row.now))) }
 {
-    let report = report.to_value(alloc)?;
-    Ok(accept_report(alloc, report)?)
+    let mut out = Writer::new(Vec::new(alloc));
+    out.begin_object()?;
+    write_member(&mut out, "ok", &true)?;
+    out.key("row")?;
+    write_row(&mut out, row)?;
+    out.end_object()?;
+    Ok(into_text(out))
 }
 
-fn refusal_value(alloc: Global, fault: Fault) -> Result<Value, AllocError>
-    ensures { IfOk result (λ v. view v ≡ answer_data (refused fault)) }
+fn holdings_text(alloc: Global, holdings: &Holdings) -> Result<String, AllocError>
+    ensures { IfOk result (λ text. string_bytes text
+        ≡ answer_text (answered (Reply.Resources holdings.now))) }
 {
-    json!(in alloc; {"fault": fault.number(), "name": fault.name()})
+    let mut out = Writer::new(Vec::new(alloc));
+    out.begin_object()?;
+    write_member(&mut out, "ok", &true)?;
+    out.key("resources")?;
+    write_resources(&mut out, alloc, holdings.resources())?;
+    out.end_object()?;
+    Ok(into_text(out))
 }
 
-fn answer_value(alloc: Global, answer: &Answer) -> Result<Value, Fault>
-    ensures fault { Refuses result None }
-    ensures ok { IfOk result (λ v. view v ≡ answer_data (answer_of answer.now)) }
+fn report_text(alloc: Global, report: &Report) -> Result<String, AllocError>
+    ensures { IfOk result (λ text. string_bytes text ≡ answer_text (reported report.now)) }
+{
+    let mut out = Writer::new(Vec::new(alloc));
+    out.begin_object()?;
+    write_member(&mut out, "ok", &true)?;
+    write_member(&mut out, "report", report)?;
+    out.end_object()?;
+    Ok(into_text(out))
+}
+
+fn replied_text(alloc: Global, reply: &Reply) -> Result<CowStr<'static, Global>, AllocError>
+    ensures ok { IfOk result (λ text. cow_str_bytes text ≡ answer_text (answered reply.now)) }
+    ensures fixed { is_done reply.now ≡ true → IsOk result }
+{
+    match reply {
+        Reply::Done => Ok(CowStr::Borrowed(done_text())),
+        Reply::Names(listing) => Ok(CowStr::Owned(listing_text(alloc, listing)?)),
+        Reply::Row(row) => Ok(CowStr::Owned(row_text(alloc, row)?)),
+        Reply::Resources(holdings) => Ok(CowStr::Owned(holdings_text(alloc, holdings)?)),
+    }
+}
+
+fn answered_text(alloc: Global, answer: &Answer) -> Result<CowStr<'static, Global>, AllocError>
+    ensures ok { IfOk result (λ text. cow_str_bytes text ≡ answer_text (answer_of answer.now)) }
+    ensures fixed { is_fixed (answer_of answer.now) ≡ true → IsOk result }
 {
     match answer {
-        Answer::Replied(reply) => Ok(reply_value(alloc, reply)?),
-        Answer::Reported(report) => report_value(alloc, report),
-        Answer::Refused(fault) => Ok(refusal_value(alloc, *fault)?),
+        Answer::Replied(reply) => replied_text(alloc, reply),
+        Answer::Reported(report) => Ok(CowStr::Owned(report_text(alloc, report)?)),
+        Answer::Refused(fault) => Ok(CowStr::Borrowed(refusal_text(*fault))),
+    }
+}
+
+/// The compact JSON of an answer, with no line feed, as it is at hand: what names nothing stands
+/// in the program, and takes no memory.
+pub fn lent_text(alloc: Global, answer: &Answer) -> Result<CowStr<'static, Global>, Fault>
+    ensures fault { Refuses result None }
+    ensures ok { IfOk result (λ text. cow_str_bytes text ≡ answer_text (answer_of answer.now)) }
+    ensures fixed { is_fixed (answer_of answer.now) ≡ true → IsOk result }
+{
+    match answered_text(alloc, answer) {
+        Ok(text) => Ok(text),
+        Err(_) => Err(Fault::OutOfMemory),
     }
 }
 
@@ -88,7 +120,5 @@ pub fn reply_text(alloc: Global, answer: &Answer) -> Result<String, Fault>
     ensures fault { Refuses result None }
     ensures ok { IfOk result (λ text. string_bytes text ≡ answer_text (answer_of answer.now)) }
 {
-    let value = answer_value(alloc, answer)?;
-    let text = value.to_string(alloc)?;
-    Ok(text)
+    Ok(answered_text(alloc, answer)?.into_owned(alloc)?)
 }

@@ -1,78 +1,88 @@
 //! Rows as JSON.
-ghost use Rattle.std.specs.Prelude.{◌≡◌, IfOk};
-ghost use Rattle.serde_json.specs.View.{view};
+ghost use Rattle.std.specs.Prelude.{OnOk};
+ghost use Rattle.gc_report.specs.Writing.{tokens_of, Adds};
 ghost use Rattle.reply_line.specs.Replies.{row_data};
 
-use crate::parts::{digest_value, kind_text, labels_value, name_value, snapshot_value};
+use crate::parts::{kind_text, write_if_any, write_labels};
+use gc_report::write_member;
+use json::Writer;
 use meta_types::{ContainerRow, ContentRow, ImageRow, IngestRow, Labels, Name, ReplyRow, SnapRow};
-use serde_json::{Value, json};
-use std::alloc::{AllocError, Global};
+use std::alloc::AllocError;
 
-fn image_value(alloc: Global, row: &ImageRow) -> Result<Value, AllocError>
-    ensures { IfOk result (λ v. view v ≡ row_data (ReplyRow.Image row.now)) }
+fn write_image(out: &mut Writer, row: &ImageRow) -> Result<(), AllocError>
+    ensures { OnOk result (Adds out.old out.new (tokens_of (row_data (ReplyRow.Image row.now)))) }
 {
-    let labels = labels_value(alloc, &row.labels)?;
-    json!(in alloc; {"labels": labels, "name": row.name.text(), "target": row.target.text()})
+    out.begin_object()?;
+    write_labels(out, &row.labels)?;
+    write_member(out, "name", &row.name)?;
+    write_member(out, "target", &row.target)?;
+    out.end_object()
 }
 
-fn container_value(alloc: Global, row: &ContainerRow) -> Result<Value, AllocError>
-    ensures { IfOk result (λ v. view v ≡ row_data (ReplyRow.Container row.now)) }
+fn write_container(out: &mut Writer, row: &ContainerRow) -> Result<(), AllocError>
+    ensures { OnOk result (Adds out.old out.new
+        (tokens_of (row_data (ReplyRow.Container row.now)))) }
 {
-    let labels = labels_value(alloc, &row.labels)?;
-    let snapshot = snapshot_value(alloc, &row.snapshot)?;
-    json!(in alloc; {"labels": labels, "name": row.name.text(), "snapshot": snapshot})
+    out.begin_object()?;
+    write_labels(out, &row.labels)?;
+    write_member(out, "name", &row.name)?;
+    write_if_any(out, "snapshot", &row.snapshot)?;
+    out.end_object()
 }
 
-fn content_value(alloc: Global, row: &ContentRow) -> Result<Value, AllocError>
-    ensures { IfOk result (λ v. view v ≡ row_data (ReplyRow.Content row.now)) }
+fn write_content(out: &mut Writer, row: &ContentRow) -> Result<(), AllocError>
+    ensures { OnOk result (Adds out.old out.new (tokens_of (row_data (ReplyRow.Content row.now)))) }
 {
-    let labels = labels_value(alloc, &row.labels)?;
-    json!(in alloc; {"digest": row.digest.text(), "labels": labels})
+    out.begin_object()?;
+    write_member(out, "digest", &row.digest)?;
+    write_labels(out, &row.labels)?;
+    out.end_object()
 }
 
-fn ingest_value(alloc: Global, row: &IngestRow) -> Result<Value, AllocError>
-    ensures { IfOk result (λ v. view v ≡ row_data (ReplyRow.Ingest row.now)) }
+fn write_ingest(out: &mut Writer, row: &IngestRow) -> Result<(), AllocError>
+    ensures { OnOk result (Adds out.old out.new (tokens_of (row_data (ReplyRow.Ingest row.now)))) }
 {
-    let expected = digest_value(alloc, &row.expected)?;
-    json!(in alloc; {
-        "expected": expected,
-        "number": row.number,
-        "own": row.expires.is_some(),
-        "ref": row.name.text()
-    })
+    out.begin_object()?;
+    write_if_any(out, "expected", &row.expected)?;
+    write_member(out, "number", &row.number)?;
+    write_member(out, "own", &row.expires.is_some())?;
+    write_member(out, "ref", &row.name)?;
+    out.end_object()
 }
 
-fn snap_value(alloc: Global, row: &SnapRow) -> Result<Value, AllocError>
-    ensures { IfOk result (λ v. view v ≡ row_data (ReplyRow.Snap row.now)) }
+fn write_snap(out: &mut Writer, row: &SnapRow) -> Result<(), AllocError>
+    ensures { OnOk result (Adds out.old out.new (tokens_of (row_data (ReplyRow.Snap row.now)))) }
 {
-    let labels = labels_value(alloc, &row.labels)?;
-    let parent = name_value(alloc, &row.parent)?;
-    json!(in alloc; {
-        "key": row.key.name.text(),
-        "kind": kind_text(row.kind),
-        "labels": labels,
-        "number": row.number,
-        "parent": parent
-    })
+    out.begin_object()?;
+    write_member(out, "key", &row.key.name)?;
+    out.key("kind")?;
+    out.string(kind_text(row.kind))?;
+    write_labels(out, &row.labels)?;
+    write_member(out, "number", &row.number)?;
+    write_if_any(out, "parent", &row.parent)?;
+    out.end_object()
 }
 
-fn lease_value(alloc: Global, id: &Name, labels: &Labels) -> Result<Value, AllocError>
-    ensures { IfOk result (λ v. view v ≡ row_data (ReplyRow.Lease id.now labels.now)) }
+fn write_lease(out: &mut Writer, id: &Name, labels: &Labels) -> Result<(), AllocError>
+    ensures { OnOk result (Adds out.old out.new
+        (tokens_of (row_data (ReplyRow.Lease id.now labels.now)))) }
 {
-    let labels = labels_value(alloc, labels)?;
-    json!(in alloc; {"id": id.text(), "labels": labels})
+    out.begin_object()?;
+    write_member(out, "id", id)?;
+    write_labels(out, labels)?;
+    out.end_object()
 }
 
 // A row that was asked for.
-pub(crate) fn row_value(alloc: Global, row: &ReplyRow) -> Result<Value, AllocError>
-    ensures { IfOk result (λ v. view v ≡ row_data row.now) }
+pub(crate) fn write_row(out: &mut Writer, row: &ReplyRow) -> Result<(), AllocError>
+    ensures { OnOk result (Adds out.old out.new (tokens_of (row_data row.now))) }
 {
     match row {
-        ReplyRow::Image(row) => image_value(alloc, row),
-        ReplyRow::Container(row) => container_value(alloc, row),
-        ReplyRow::Content(row) => content_value(alloc, row),
-        ReplyRow::Ingest(row) => ingest_value(alloc, row),
-        ReplyRow::Snap(row) => snap_value(alloc, row),
-        ReplyRow::Lease(id, labels) => lease_value(alloc, id, labels),
+        ReplyRow::Image(row) => write_image(out, row),
+        ReplyRow::Container(row) => write_container(out, row),
+        ReplyRow::Content(row) => write_content(out, row),
+        ReplyRow::Ingest(row) => write_ingest(out, row),
+        ReplyRow::Snap(row) => write_snap(out, row),
+        ReplyRow::Lease(id, labels) => write_lease(out, id, labels),
     }
 }
