@@ -1,4 +1,5 @@
 pub mod LineAnswers
+mod Unchanged
 pub mod Scripts
 pub mod Writers
 pub mod Runs

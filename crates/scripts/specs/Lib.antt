@@ -2,6 +2,7 @@ pub mod Lines
 pub mod EventSteps
 pub mod EventLaws
 pub mod LineSteps
+pub mod Telling
 pub mod Served
 pub mod Output
 pub mod WholeScripts

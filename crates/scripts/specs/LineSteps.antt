@@ -1,5 +1,7 @@
 -- What one line of a script is answered, and what it leaves. Ours, unless a source stands beside.
-use Rattle.std.specs.Prelude.{ℕ, ◌==◌, List, [], ◌∷◌, ◌++◌, length, Bool, true, false, nat_lt, if◌then◌else◌, Option, Some, None, option_map, String, string_bytes}
+use Rattle.std.specs.Prelude.{ℕ, ◌==◌, List, [], ◌∷◌, ◌++◌, length, Bool, true, false, nat_lt, if◌then◌else◌, Option, Some, None, option_map}
+use Rattle.std.specs.Cow.{cow_str_bytes}
+use Rattle.std.specs.declared.borrow.CowStr.{CowStr}
 use Rattle.std.specs.Option.{option_map_or}
 use Rattle.std.specs.declared.alloc.Global.{Global}
 use Rattle.meta_types.specs.Time.{instant_of}
@@ -58,6 +60,6 @@ line_step state refusal line =
     else (with_line_feed (answer_text (answer_step state refusal line).0), (answer_step state refusal line).1)
 
 -- the bytes that a reply is written as, where there is one
-abbrev pub reply_bytes : Option (String Global) → List ℕ
+abbrev pub reply_bytes : Option (CowStr Global) → List ℕ
 reply_bytes None = []
-reply_bytes (Some text) = with_line_feed (string_bytes text)
+reply_bytes (Some text) = with_line_feed (cow_str_bytes text)

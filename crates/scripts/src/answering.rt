@@ -1,5 +1,6 @@
 //! Answers one line of a script.
-ghost use Rattle.std.specs.Prelude.{◌≡◌, ◌≤◌, ◌<◌, length, true, IfOk, IfErr, OnErr, Option, None, string_bytes};
+ghost use Rattle.std.specs.Prelude.{◌≡◌, ◌≤◌, ◌<◌, length, true, IfOk, IfErr, OnErr, Option, None};
+ghost use Rattle.std.specs.Cow.{cow_str_bytes};
 ghost use Rattle.meta_types.specs.Faults.{Refuses};
 ghost use Rattle.meta_types.specs.Limits.{is_worker_count};
 ghost use Rattle.meta_types.specs.Steps.{refused};
@@ -7,12 +8,14 @@ ghost use Rattle.meta_types.specs.declared.fault.Fault.TheVariants.{TooLong as t
 ghost use Rattle.reply_line.specs.Answers.{answer_of};
 ghost use Rattle.reply_line.specs.Replies.{answer_text};
 ghost use Rattle.scripts.specs.LineSteps.{Refusal, answer_step, line_step, reply_bytes};
+ghost use Rattle.scripts.specs.Telling.{only_tells, IsSaid};
 
 use crate::serving::do_asked;
-use meta_types::Fault;
-use reply_line::{Answer, reply_text};
+use meta_types::{Fault, Reply};
+use reply_line::{Answer, lent_text, refusal_text};
 use request_line::read_line;
 use std::alloc::Global;
+use std::borrow::CowStr;
 use std::mem::drop;
 use std::sync::Wait;
 use std::sync::ledger::Ledger;
@@ -68,8 +71,34 @@ fn line_outcome<L: Ledger, K: Keeps, R: Threads + Wait + Sync>(
     }
 }
 
-/// Answers one line, without its line feed: nothing for an empty one. Where the text of an
-/// answer can't be made, what the line asked for is done all the same.
+// Whether an answer only tells, so that the store is as before.
+fn only_tells(answer: &Answer) -> bool
+    ensures { result ≡ only_tells (answer_of answer.now) }
+{
+    match answer {
+        Answer::Replied(Reply::Done) => false,
+        Answer::Replied(_) => true,
+        Answer::Reported(report) => report.dry,
+        Answer::Refused(_) => false,
+    }
+}
+
+// The text of an answer. Where it can't be made for one that only tells, memory refuses the line.
+fn said(alloc: Global, answer: &Answer) -> Result<CowStr<'static, Global>, Fault>
+    ensures fault { Refuses result None }
+    ensures ok { IfOk result (λ text. IsSaid (answer_of answer.now) (cow_str_bytes text)) }
+{
+    if let Ok(text) = lent_text(alloc, answer) {
+        return Ok(text);
+    }
+    if only_tells(answer) {
+        return Ok(CowStr::Borrowed(refusal_text(Fault::OutOfMemory)));
+    }
+    Err(Fault::OutOfMemory)
+}
+
+/// Answers one line, without its line feed: nothing for an empty one. Where the text of a
+/// collection's report can't be made, what the line asked for is done all the same.
 pub fn answer_line<L: Ledger, K: Keeps, R: Threads + Wait + Sync>(
     locked: &mut MemLocked<L, K>,
     rt: &R,
@@ -77,7 +106,7 @@ pub fn answer_line<L: Ledger, K: Keeps, R: Threads + Wait + Sync>(
     session: &mut Session<L>,
     line: &[u8],
     workers: usize,
-) -> Result<Option<String>, Fault>
+) -> Result<Option<CowStr<'static, Global>>, Fault>
     requires opened { session.old.number < locked.old.opened }
     requires length { length line.now ≤ 65536 }
     requires workers { is_worker_count workers ≡ true }
@@ -93,15 +122,14 @@ pub fn answer_line<L: Ledger, K: Keeps, R: Threads + Wait + Sync>(
         return Ok(None);
     }
     let answer = line_outcome(locked, rt, alloc, session, line, workers);
-    let text = reply_text(alloc, &answer);
+    let text = said(alloc, &answer);
     drop(answer);
     Ok(Some(text?))
 }
 
 /// The reply to a line that is too long.
-pub fn too_long(alloc: Global) -> Result<String, Fault>
-    ensures fault { Refuses result None }
-    ensures ok { IfOk result (λ text. string_bytes text ≡ answer_text (refused too_long_fault)) }
+pub fn too_long() -> CowStr<'static, Global>
+    ensures { cow_str_bytes result ≡ answer_text (refused too_long_fault) }
 {
-    reply_text(alloc, &Answer::Refused(Fault::TooLong))
+    CowStr::Borrowed(refusal_text(Fault::TooLong))
 }

@@ -17,6 +17,7 @@ use crate::script_store::ScriptStore;
 use crate::writing::{flush, write_line};
 use meta_types::{Fault, is_worker_count};
 use std::alloc::Global;
+use std::borrow::CowStr;
 use std::io::{Read, Write};
 use std::marker::Brand;
 use std::mem::ManuallyDrop;
@@ -33,13 +34,13 @@ fn buffered_reply<T: Threads + Wait + Sync, L: Ledger>(
     alloc: Global,
     store: &mut ScriptStore<L>,
     buffer: &LineBuffer,
-) -> Result<Option<String>, Fault>
+) -> Result<Option<CowStr<'static, Global>>, Fault>
     ensures ok { IfOk result (λ reply. (line : List ℕ) →
         IsLine buffer.now line → Answers store.old line (reply_bytes reply) store.new) }
     ensures fault { Refuses result None }
 {
     if buffer.is_too_long {
-        return Ok(Some(too_long(alloc)?));
+        return Ok(Some(too_long()));
     }
     store.reply(rt, alloc, &buffer.bytes)
 }
@@ -60,7 +61,7 @@ fn write_reply<T: Threads + Wait + Sync, L: Ledger, W: Write>(
 {
     match buffered_reply(rt, alloc, store, buffer)? {
         None => Ok(()),
-        Some(text) => write_line(writer, &text),
+        Some(text) => write_line(writer, text.as_str()),
     }
 }
 

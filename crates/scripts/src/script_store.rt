@@ -9,6 +9,7 @@ use crate::answering::answer_line;
 use meta_types::Fault;
 use request_core::State;
 use std::alloc::Global;
+use std::borrow::CowStr;
 use std::marker::Model;
 use std::sync::Wait;
 use std::sync::ledger::{Blank, Ledger};
@@ -63,7 +64,7 @@ impl<L: Ledger> ScriptStore<L> {
         rt: &R,
         alloc: Global,
         line: &[u8],
-    ) -> Result<Option<String>, Fault>
+    ) -> Result<Option<CowStr<'static, Global>>, Fault>
         requires { length line.now ≤ 65536 }
         ensures fault { Refuses result None }
         ensures ok { IfOk result (λ reply. (refusal : Option Refusal)

@@ -1,5 +1,5 @@
 //! Writing by a loop of its own: a writer that fails holds a beginning of what was meant.
-ghost use Rattle.std.specs.Prelude.{◌≡◌, ℕ, List, OnOk, OnErr, IfErr, string_bytes};
+ghost use Rattle.std.specs.Prelude.{◌≡◌, ℕ, List, OnOk, OnErr, IfErr};
 ghost use Rattle.std.specs.Io.KnownBytes.{Appends, Keeps};
 ghost use Rattle.scripts.specs.LineSteps.{with_line_feed};
 ghost use Rattle.scripts.specs.Progress.{WritesFront};
@@ -26,12 +26,12 @@ fn write_bytes<W: Write>(writer: &mut W, bytes: &[u8]) -> Result<(), Fault>
 }
 
 /// Writes a text and a line feed.
-pub fn write_line<W: Write>(writer: &mut W, text: &String) -> Result<(), Fault>
+pub fn write_line<W: Write>(writer: &mut W, text: &str) -> Result<(), Fault>
     ensures ok { OnOk result (Appends (W.contents writer.old) (W.contents writer.new)
-        (with_line_feed (string_bytes text.now))) }
+        (with_line_feed text.now)) }
     ensures err { OnErr result ((rest : List ℕ)
         × WritesFront (W.contents writer.old) (W.contents writer.new) rest
-        (with_line_feed (string_bytes text.now))) }
+        (with_line_feed text.now)) }
     ensures fault { IfErr result (λ fault. fault ≡ Fault.WriteFailed) }
 {
     write_bytes(writer, text.as_bytes())?;

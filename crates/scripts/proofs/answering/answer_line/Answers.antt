@@ -1,7 +1,7 @@
 use Rattle.std.proofs.Common.{◌∙◌, None, ap, sym}
 use Rattle.scripts.proofs.Writers.{holds_on_err}
-use Rattle.scripts.specs.LineSteps.{with_line_feed}
 use Rattle.scripts.proofs.LineAnswers.{line_step-empty, line_step-answer}
+use Rattle.scripts.proofs.Unchanged.{line_step-said}
 use Rattle.scripts.proofs.answering.answer_line.Goals as goal
 
 -- an empty line
@@ -14,11 +14,8 @@ returns-in_err-text-clause-err g c =
     let answer = c.line_outcome-answer.ensures.answer in
     holds_on_err c.from_residual.result (answer.0, sym (ap (λ step. step.1) (line_step-answer c.args.locked.now.store.state answer.0 c.args.line.now _ _ (sym c.if-is_empty.ensures) answer.1)))
 
--- the text of the answer
+-- what is said for the answer
 pub returns-clause-ok : goal.returns-clause-ok
 returns-clause-ok g c =
-    let answer = c.line_outcome-answer.ensures.answer in (
-      answer.0,
-      line_step-answer c.args.locked.now.store.state answer.0 c.args.line.now _ _ (sym c.if-is_empty.ensures) answer.1
-          ∙ (λ i. (with_line_feed (sym c.in_ok-text.ensures.ok i), c.line_outcome-answer.new.locked.store.state)),
-    )
+    let answer = c.line_outcome-answer.ensures.answer in
+    line_step-said c.args.locked.now.store.state answer.0 c.args.line.now _ _ _ (sym c.if-is_empty.ensures) answer.1 c.in_ok-text.ensures.ok

@@ -5,4 +5,4 @@ use Rattle.scripts.proofs.script.buffered_reply.Goals as goal
 pub returns-then-buffer-clause-ok : goal.returns-then-buffer-clause-ok
 returns-then-buffer-clause-ok g c = λ line is_line.
     let long : 65536 < length line = rw c.if-buffer.true at is_line in
-    (None, rw (line_step-long c.args.store.now line long, c.in_ok-too_long.ensures.ok) refl)
+    (None, rw (line_step-long c.args.store.now line long, c.too_long.ensures) refl)

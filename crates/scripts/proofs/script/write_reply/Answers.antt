@@ -1,4 +1,5 @@
-use Rattle.std.proofs.Common.{None, refl, string_bytes}
+use Rattle.std.proofs.Common.{None, refl}
+use Rattle.std.specs.Cow.{cow_str_bytes}
 use Rattle.std.proofs.lemmas.Result.{on_err_weaker}
 use Rattle.scripts.specs.LineSteps.{line_step, with_line_feed}
 use Rattle.scripts.proofs.Writers.{WritesFront-none, holds_on_err}
@@ -13,5 +14,5 @@ pub returns-in-Some-clause-err : goal.returns-in-Some-clause-err
 returns-in-Some-clause-err g c = on_err_weaker c.write_line.result
     (λ w. λ line is_line.
     let known = rw c.in-Some.is at (c.in_ok-buffered_reply.ensures.ok line is_line) in
-    (with_line_feed (string_bytes c.in-Some.text), w.0, _, known, w.1))
-    c.write_line.ensures.err
+    (with_line_feed (cow_str_bytes c.in-Some.text), w.0, _, known, w.1))
+    (rw c.as_str.ensures.value at c.write_line.ensures.err)
