@@ -2,6 +2,7 @@
 use Rattle.std.specs.Prelude.{ℕ, List, map}
 use Rattle.meta_types.specs.Text.{Text}
 use Rattle.meta_types.specs.Rows.{Records, BackLists, State}
+use Rattle.row_tables.specs.Arrived.{one_text, sorted}
 use Rattle.back_model.specs.Shown.{Shard, listed_snap}
 use Rattle.backend_sweep.specs.Swept.{held_in}
 use Rattle.back_model.specs.declared.lists.BackLists.{BackLists as Listed}
@@ -13,7 +14,7 @@ records_in r = record { tables = r.tables; leases = r.leases; next = r.next; pro
 
 -- what was listed of the backends
 abbrev pub lists_in : Listed → BackLists
-lists_in l = record { blobs = l.blobs.items; snapshots = map listed_snap l.snapshots.items; ingests = l.ingests.items }
+lists_in l = record { blobs = sorted one_text l.blobs; snapshots = map listed_snap l.snapshots.items; ingests = l.ingests.items }
 
 -- the store
 abbrev pub store_in : Kept → List Shard → List Text → List ℕ → State

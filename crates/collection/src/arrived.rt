@@ -4,10 +4,10 @@ ghost use Rattle.meta_types.specs.Limits.{is_worker_count, is_too_large};
 ghost use Rattle.steal_mark.specs.Refusing.{RefusesThreads};
 ghost use Rattle.table_sweep.specs.Plans.{IsPlanOfRows};
 ghost use Rattle.collection.specs.Arrived.{in_order, came_in};
-ghost use Rattle.collection.specs.Stores.{records_in, lists_in};
+ghost use Rattle.collection.specs.Stores.{records_in};
+ghost use Rattle.table_sweep.specs.Backed.{lists_of};
 
 use crate::planning::plan_came;
-use back_model::BackLists;
 use lease_book::{Lease, Leases};
 use meta_types::{Fault, Instant, Name};
 use object_tables::{ArrivedTables, Tables};
@@ -18,7 +18,7 @@ use std::mem;
 use std::sync::Wait;
 use std::thread::Threads;
 use steal_mark::Gate;
-use table_sweep::Plan;
+use table_sweep::{BackRows, Plan};
 
 /// The records of a store as they came. A row's place is its number.
 #[derive(Drop)]
@@ -36,7 +36,7 @@ impl ArrivedRecords {
         &self,
         rt: &R,
         alloc: Global,
-        back: &BackLists,
+        back: &BackRows<'_>,
         at: Instant,
         workers: usize,
         gate: &G,
@@ -45,7 +45,7 @@ impl ArrivedRecords {
         requires few { is_too_large (records_in (in_order self.now)) ≡ false }
         ensures fault { RefusesThreads result None }
         ensures ok { IfOk result (λ plan. IsPlanOfRows (came_in self.now)
-            (length self.now.tables.namespaces) (lists_in back.now) at.0 plan) }
+            (length self.now.tables.namespaces) (lists_of back.now) at.0 plan) }
     {
         let came = self.tables.rows();
         let namespaces = self.tables.count_ns();

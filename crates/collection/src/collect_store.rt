@@ -1,20 +1,21 @@
 //! A whole collection.
-ghost use Rattle.std.specs.Prelude.{◌≡◌, ◌+◌, None, IfOk, OnErr, true, false};
+ghost use Rattle.std.specs.Prelude.{◌≡◌, ◌+◌, length, None, IfOk, OnErr, true, false};
 ghost use Rattle.meta_types.specs.Limits.{is_worker_count, is_too_large};
 ghost use Rattle.meta_types.specs.Reports.{Collects};
 ghost use Rattle.meta_types.specs.Sound.{IsSound};
 ghost use Rattle.meta_types.specs.Steps.{collect_fault};
 ghost use Rattle.back_model.specs.Shown.{all_failures};
 ghost use Rattle.steal_mark.specs.Refusing.{RefusesThreads};
-ghost use Rattle.collection.specs.Arrived.{in_order};
-ghost use Rattle.collection.specs.Stores.{records_in, lists_in, store_in};
+ghost use Rattle.table_sweep.specs.Plans.{IsPlanOfRows};
+ghost use Rattle.collection.specs.Arrived.{in_order, came_in};
+ghost use Rattle.collection.specs.Stores.{records_in, store_in};
 ghost use Rattle.backend_sweep.specs.Swept.{count_names, held_in};
 
 use crate::arrived::{ArrivedRecords, put_back, take_out};
 use crate::checks::check;
 use crate::reports::Reports;
 use crate::spare::{Spare, reports_of};
-use back_model::{BackLists, Backends, BlobBackend, IngestBackend, SnapBackend};
+use back_model::{Backends, BlobBackend, IngestBackend, SnapBackend};
 use backend_sweep::{SweepGate, sweep_shards};
 use meta_types::{Fault, Instant};
 use request_core::Records;
@@ -22,7 +23,36 @@ use std::alloc::Global;
 use std::sync::Wait;
 use std::thread::Threads;
 use steal_mark::Gate;
-use table_sweep::sweep;
+use table_sweep::{BackRows, Plan, sweep};
+
+// The plan of a collection of these records and of what the backends hold: digests are lent, and
+// no blob is copied to be listed.
+fn plan_held<R: Threads + Wait + Sync, S: SnapBackend, B: BlobBackend, I: IngestBackend, G: Gate>(
+    rt: &R,
+    alloc: Global,
+    came: &ArrivedRecords,
+    backends: &Backends<S, B, I>,
+    at: Instant,
+    workers: usize,
+    gate: &G,
+) -> Result<Plan, Fault>
+    requires workers { is_worker_count workers ≡ true }
+    requires few { is_too_large (records_in (in_order came.now)) ≡ false }
+    ensures fault { RefusesThreads result None }
+    ensures ok { IfOk result (λ plan. IsPlanOfRows (came_in came.now)
+        (length came.now.tables.namespaces) (held_in backends.now.shards
+        (B.contents backends.now.blobs) (I.contents backends.now.ingests)) at.0 plan) }
+{
+    let snapshots = backends.snaps(alloc)?;
+    let ingests = backends.ingests().numbers(alloc)?;
+    let back = BackRows {
+        blobs: backends.blobs().digests(),
+        snapshots: &snapshots,
+        ingests: &ingests,
+    };
+    let plan = came.plan(rt, alloc, &back, at, workers, gate)?;
+    Ok(plan)
+}
 
 // Collects records as they came. From the first removal on nothing is refused; what is refused
 // leaves all as it was.
@@ -38,7 +68,6 @@ fn collect_came<
     alloc: Global,
     came: &mut ArrivedRecords,
     backends: &mut Backends<S, B, I>,
-    lists: &BackLists,
     at: Instant,
     workers: usize,
     gate: &G,
@@ -46,8 +75,6 @@ fn collect_came<
 ) -> Result<Reports, Fault>
     requires sound { IsSound (store_in (in_order came.old) backends.old.shards
         (B.contents backends.old.blobs) (I.contents backends.old.ingests)) }
-    requires held { lists_in lists.now ≡ held_in backends.old.shards
-        (B.contents backends.old.blobs) (I.contents backends.old.ingests) }
     requires workers { is_worker_count workers ≡ true }
     requires few { is_too_large (records_in (in_order came.old)) ≡ false }
     ensures fault { RefusesThreads result None }
@@ -64,7 +91,7 @@ fn collect_came<
     ensures sound { IsSound (store_in (in_order came.new) backends.new.shards
         (B.contents backends.new.blobs) (I.contents backends.new.ingests)) }
 {
-    let plan = came.plan(rt, alloc, lists, at, workers, gate)?;
+    let plan = plan_held(rt, alloc, came, backends, at, workers, gate)?;
     let log = Spare::of(alloc, &plan)?;
     let list = Spare::of(alloc, &plan)?;
     let swept = sweep_shards(rt, alloc, backends, &plan, workers, sweep_gate)?;
@@ -107,10 +134,9 @@ pub fn collect<
         (I.contents backends.new.ingests)) }
 {
     check(records, workers)?;
-    let lists = backends.lists(alloc)?;
     let mut came = take_out(alloc, records);
     let reports = collect_came(
-        rt, alloc, &mut came, backends, &lists, at, workers, gate, sweep_gate,
+        rt, alloc, &mut came, backends, at, workers, gate, sweep_gate,
     );
     put_back(records, came);
     reports

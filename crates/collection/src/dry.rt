@@ -4,6 +4,7 @@ ghost use Rattle.meta_types.specs.Reports.{Plans};
 ghost use Rattle.meta_types.specs.Sound.{AreTables};
 ghost use Rattle.meta_types.specs.Steps.{collect_fault};
 ghost use Rattle.steal_mark.specs.Refusing.{RefusesThreads};
+ghost use Rattle.table_sweep.specs.Backed.{lists_of};
 ghost use Rattle.collection.specs.Stores.{records_in, lists_in, store_in};
 
 use crate::checks::check;
@@ -19,6 +20,28 @@ use std::sync::Wait;
 use std::thread::Threads;
 use steal_mark::Gate;
 use sweep_report::report;
+use table_sweep::BackRows;
+
+// What a collection of these records and of what is lent would report.
+fn dry_lent<R: Threads + Wait + Sync, G: Gate>(
+    rt: &R,
+    alloc: Global,
+    records: &Records,
+    back: &BackRows<'_>,
+    at: Instant,
+    workers: usize,
+    gate: &G,
+) -> Result<Report, Fault>
+    requires { AreTables records.now.tables }
+    ensures fault { RefusesThreads result (collect_fault (records_in records.now) workers) }
+    ensures ok { IfOk result (λ report. Plans (record {
+      records = records_in records.now;
+      backends = lists_of back.now;
+    }) at.0 report) }
+{
+    let plan = plan_store(rt, alloc, records, back, at, workers, gate)?;
+    Ok(report(plan, Swept::empty(alloc), true))
+}
 
 /// What a collection of these records and lists would report.
 pub fn dry_report<R: Threads + Wait + Sync, G: Gate>(
@@ -37,8 +60,12 @@ pub fn dry_report<R: Threads + Wait + Sync, G: Gate>(
       backends = lists_in back.now;
     }) at.0 report) }
 {
-    let plan = plan_store(rt, alloc, records, back, at, workers, gate)?;
-    Ok(report(plan, Swept::empty(alloc), true))
+    let lent = BackRows {
+        blobs: &back.blobs,
+        snapshots: &back.snapshots,
+        ingests: &back.ingests,
+    };
+    dry_lent(rt, alloc, records, &lent, at, workers, gate)
 }
 
 /// What a collection of this store would report. Nothing is swept.
@@ -57,7 +84,13 @@ pub fn dry_run<R: Threads + Wait + Sync, S: SnapBackend, B: BlobBackend, I: Inge
         (B.contents backends.now.blobs) (I.contents backends.now.ingests)) at.0 report) }
 {
     check(records, workers)?;
-    let lists = backends.lists(alloc)?;
-    let report = dry_report(rt, alloc, records, &lists, at, workers, gate)?;
+    let snapshots = backends.snaps(alloc)?;
+    let ingests = backends.ingests().numbers(alloc)?;
+    let back = BackRows {
+        blobs: backends.blobs().digests(),
+        snapshots: &snapshots,
+        ingests: &ingests,
+    };
+    let report = dry_lent(rt, alloc, records, &back, at, workers, gate)?;
     Ok(Reports::of(alloc, report)?)
 }

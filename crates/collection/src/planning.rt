@@ -7,13 +7,13 @@ ghost use Rattle.gc_graph.specs.Built.{AreApart};
 ghost use Rattle.gc_graph.specs.Stored.{records_of, AreLent};
 ghost use Rattle.steal_mark.specs.Refusing.{RefusesThreads};
 ghost use Rattle.collection.specs.Arrived.{lent_in};
-ghost use Rattle.collection.specs.Stores.{records_in, lists_in};
+ghost use Rattle.collection.specs.Stores.{records_in};
+ghost use Rattle.table_sweep.specs.Backed.{lists_of};
 ghost use Rattle.table_sweep.specs.InKeyOrder.{records_in_key_order};
 ghost use Rattle.table_sweep.specs.Plans.{IsPlanOfRows};
 ghost use Rattle.backend_sweep.specs.Planned.{IsPlanOf};
 
 use crate::checks::check;
-use back_model::BackLists;
 use gc_graph::{RowPlaces, StoreRows, build};
 use lease_book::Lease;
 use meta_types::{Fault, Instant, Name};
@@ -31,7 +31,7 @@ fn plan_rows<R: Threads + Wait + Sync, G: Gate>(
     alloc: Global,
     rows: &StoreRows<'_>,
     namespaces: u64,
-    back: &BackLists,
+    back: &BackRows<'_>,
     at: Instant,
     workers: usize,
     gate: &G,
@@ -42,16 +42,11 @@ fn plan_rows<R: Threads + Wait + Sync, G: Gate>(
     requires few { is_too_large (records_of rows.now) ≡ false }
     ensures fault { RefusesThreads result None }
     ensures ok { IfOk result (λ plan. IsPlanOfRows (records_of rows.now) namespaces
-        (lists_in back.now) at.0 plan) }
+        (lists_of back.now) at.0 plan) }
 {
     let (book, graph, ignored) = build(rt, alloc, rows, at, workers)?;
     let (marks, _lists) = mark_workers(rt, alloc, &graph, workers, gate)?;
-    let lists = BackRows {
-        blobs: &back.blobs,
-        snapshots: &back.snapshots,
-        ingests: &back.ingests,
-    };
-    let plan = plan_of(alloc, rows, namespaces, &lists, &book, &marks, ignored, at)?;
+    let plan = plan_of(alloc, rows, namespaces, back, &book, &marks, ignored, at)?;
     Ok(plan)
 }
 
@@ -63,7 +58,7 @@ pub(crate) fn plan_came<R: Threads + Wait + Sync, G: Gate>(
     leases: &ArrivedByNamespace<Name, Lease>,
     profile: u8,
     namespaces: u64,
-    back: &BackLists,
+    back: &BackRows<'_>,
     at: Instant,
     workers: usize,
     gate: &G,
@@ -73,7 +68,7 @@ pub(crate) fn plan_came<R: Threads + Wait + Sync, G: Gate>(
         ≡ false }
     ensures fault { RefusesThreads result None }
     ensures ok { IfOk result (λ plan. IsPlanOfRows (lent_in came.now leases.now profile) namespaces
-        (lists_in back.now) at.0 plan) }
+        (lists_of back.now) at.0 plan) }
 {
     // The clauses of `len` say that no key stands twice.
     let _ = came.ingests.len();
@@ -108,7 +103,7 @@ pub fn plan_store<R: Threads + Wait + Sync, G: Gate>(
     rt: &R,
     alloc: Global,
     records: &Records,
-    back: &BackLists,
+    back: &BackRows<'_>,
     at: Instant,
     workers: usize,
     gate: &G,
@@ -116,7 +111,7 @@ pub fn plan_store<R: Threads + Wait + Sync, G: Gate>(
     requires { AreTables records.now.tables }
     ensures fault { RefusesThreads result (collect_fault (records_in records.now) workers) }
     ensures ok { IfOk result (λ plan. IsPlanOf (records_in records.now)
-        (length records.now.tables.namespaces) (lists_in back.now) at.0 plan) }
+        (length records.now.tables.namespaces) (lists_of back.now) at.0 plan) }
 {
     check(records, workers)?;
     let came = records.tables.came();

@@ -1,6 +1,6 @@
 -- Why a plan beside the lock is refused, from what refuses the copies and the dry run.
 use Rattle.std.proofs.Common.{◌≡◌, ℕ, Bool, true, false, not, List, refl, sym, subst, inl, inr}
-use Rattle.std.specs.Prelude.{Option, Some, None, Result, Ok, Err, IfErr, ⊤, if◌then◌else◌}
+use Rattle.std.specs.Prelude.{◌↔◌, Option, Some, None, Result, Ok, Err, IfErr, ⊤, if◌then◌else◌}
 use Rattle.std.specs.Result.{IsErrAnd}
 use Rattle.meta_types.specs.Rows.{State, Records}
 use Rattle.meta_types.specs.Histories.{Entry, IsLegal}
@@ -19,6 +19,12 @@ pub passed_on : {T : Type 0} (result : Result T Fault) (fault : Fault) (P : Faul
     → IfErr result P
 passed_on (Ok x) fault P same p = absurd same
 passed_on (Err other) fault P same p = subst P (sym same) p
+
+-- where the workers are allowed, they aren't what refuses the plan
+pub not_for_workers : {T : Type 0} (result : Result T Fault) (workers : ℕ) (session : Seat) → is_worker_count workers ≡ true → IfErr result (λ f. PlanFails f workers session)
+    → (result ≡ Err InvalidArgument) ↔ (is_worker_count workers ≡ false)
+not_for_workers result workers session allowed fails =
+    (λ is. subst (λ r. IfErr r (λ f. PlanFails f workers session)) is fails, λ no. absurd cc)
 
 -- what refuses the copies refuses the plan
 pub cut_refuses : (workers : ℕ) (session : Seat) (log : List Entry) (f : Fault)

@@ -14,6 +14,7 @@ use back_model::{
 };
 use meta_types::Fault;
 use request_core::{Records, State};
+use row_tables::RowTable;
 use std::alloc::Global;
 use std::marker::{Model, PhantomData};
 use std::sync::ledger::{Blank, Book, Ledger, Share};
@@ -178,7 +179,7 @@ fn empty_base(alloc: Global) -> Base
     Base {
         records: Records::empty(alloc),
         lists: BackLists {
-            blobs: Vec::new(alloc),
+            blobs: RowTable::new(alloc),
             snapshots: Vec::new(alloc),
             ingests: Vec::new(alloc),
         },

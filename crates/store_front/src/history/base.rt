@@ -16,6 +16,7 @@ impl Model for Base {
     ghost use Rattle.std.specs.Prelude.{map};
     ghost use Rattle.back_model.specs.Shown.{listed_snap};
     ghost use Rattle.meta_types.specs.Rows.{State};
+    ghost use Rattle.row_tables.specs.Arrived.{one_text, sorted};
 
     ghost Value = { State };
 
@@ -27,7 +28,7 @@ impl Model for Base {
         profile = b.records.profile;
       };
       backends = record {
-        blobs = b.lists.blobs.items;
+        blobs = sorted one_text b.lists.blobs;
         snapshots = map listed_snap b.lists.snapshots.items;
         ingests = b.lists.ingests.items;
       };

@@ -7,7 +7,7 @@ use crate::event::entry::Entry;
 use crate::event::event::{Answer, Asked, Event};
 use crate::history::base::{Base, History};
 use back_model::BackLists;
-use meta_types::{Digest, Fault, ShortName};
+use meta_types::{Fault, ShortName};
 use std::alloc::Global;
 
 impl Event {
@@ -67,17 +67,6 @@ fn copy_log(alloc: Global, log: &[Entry]) -> Result<Vec<Entry>, Fault>
     Ok(copies)
 }
 
-fn copy_blobs(alloc: Global, blobs: &[Digest]) -> Result<Vec<Digest>, Fault>
-    ensures fault { Refuses result None }
-    ensures ok { IfOk result (λ copies. copies.items ≡ blobs.now) }
-{
-    let mut copies = Vec::with_capacity(alloc, blobs.len())?;
-    for blob in blobs {
-        copies.push(blob.copy()?)?;
-    }
-    Ok(copies)
-}
-
 fn copy_snaps(
     alloc: Global,
     snaps: &[(ShortName, u64, Option<u64>)],
@@ -110,7 +99,7 @@ impl Base {
         ensures ok { IfOk result (λ base. base ≡ self.now) }
     {
         let records = self.records.copy(alloc)?;
-        let blobs = copy_blobs(alloc, &self.lists.blobs)?;
+        let blobs = self.lists.blobs.copy(alloc)?;
         let snapshots = copy_snaps(alloc, &self.lists.snapshots)?;
         let ingests = copy_numbers(alloc, &self.lists.ingests)?;
         Ok(Base {

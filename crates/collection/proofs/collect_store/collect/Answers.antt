@@ -16,10 +16,6 @@ pub collect_came-reports-requires-clause-sound : goal.collect_came-reports-requi
 collect_came-reports-requires-clause-sound g c κs within =
     subst (λ (r : Kept). IsSound (store_in r c.args.backends.now.shards (g.B.BlobBackend.contents c.args.backends.now.blobs) (g.I.IngestBackend.contents c.args.backends.now.ingests))) (sym c.take_out-came.ensures) c.requires
 
-pub collect_came-reports-requires-clause-held : goal.collect_came-reports-requires-clause-held
-collect_came-reports-requires-clause-held g c κs within =
-    λ i. record { blobs = c.in_ok-lists.ensures.blobs i; snapshots = c.in_ok-lists.ensures.snapshots i; ingests = c.in_ok-lists.ensures.ingests i }
-
 pub collect_came-reports-requires-clause-workers : goal.collect_came-reports-requires-clause-workers
 collect_came-reports-requires-clause-workers g c κs within =
     (no_fault (is_worker_count c.args.workers) (is_too_large (records_in c.args.records.now)) c.in_ok-check.ensures).0

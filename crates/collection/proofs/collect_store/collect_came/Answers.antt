@@ -5,9 +5,9 @@ use Rattle.meta_types.proofs.SoundAfter.{a_collected_store_is_sound}
 use Rattle.sweep_report.proofs.Wholes.{a_swept_plan_is_a_collection}
 use Rattle.backend_sweep.specs.Swept.{AllSwept, held_in}
 use Rattle.collection.specs.Arrived.{in_order, came_in}
-use Rattle.collection.specs.Stores.{records_in, lists_in, store_in}
+use Rattle.collection.specs.Stores.{records_in, store_in}
 use Rattle.collection.proofs.Bridges.{swept_fails, in_some_order}
-use Rattle.collection.proofs.Wholes.{fits, stays, plan_by, rows_swept}
+use Rattle.collection.proofs.Wholes.{fits, stays, rows_swept}
 use Rattle.collection.proofs.collect_store.collect_came.Goals as goal
 
 -- the plan is one of a sound store
@@ -16,7 +16,7 @@ sweep_shards-requires-after_bounds g c κs within =
     let came : Records = came_in c.args.came.now in
     let held : BackLists = held_in c.args.backends.now.shards (g.B.BlobBackend.contents c.args.backends.now.blobs) (g.I.IngestBackend.contents c.args.backends.now.ingests) in
     let n = length came.tables.namespaces in
-    let p = plan_by came n (lists_in c.args.lists.now) held c.args.at.0 c.in_ok-plan.plan c.requires.held c.in_ok-plan.ensures.ok in
+    let p = c.in_ok-plan.ensures.ok in
     record {
       state = store_in (in_order c.args.came.now) c.args.backends.now.shards (g.B.BlobBackend.contents c.args.backends.now.blobs) (g.I.IngestBackend.contents c.args.backends.now.ingests);
       sound = c.requires.sound;
@@ -35,7 +35,7 @@ sweep-requires-clause-rows g c =
     let came : Records = came_in c.args.came.now in
     let held : BackLists = held_in c.args.backends.now.shards (g.B.BlobBackend.contents c.args.backends.now.blobs) (g.I.IngestBackend.contents c.args.backends.now.ingests) in
     let n = length came.tables.namespaces in
-    let p = plan_by came n (lists_in c.args.lists.now) held c.args.at.0 c.in_ok-plan.plan c.requires.held c.in_ok-plan.ensures.ok in
+    let p = c.in_ok-plan.ensures.ok in
     fits came n held c.args.at.0 c.in_ok-plan.plan p
 
 pub sweep-requires-clause-numbered : goal.sweep-requires-clause-numbered
@@ -43,7 +43,7 @@ sweep-requires-clause-numbered g c =
     let came : Records = came_in c.args.came.now in
     let held : BackLists = held_in c.args.backends.now.shards (g.B.BlobBackend.contents c.args.backends.now.blobs) (g.I.IngestBackend.contents c.args.backends.now.ingests) in
     let n = length came.tables.namespaces in
-    let p = plan_by came n (lists_in c.args.lists.now) held c.args.at.0 c.in_ok-plan.plan c.requires.held c.in_ok-plan.ensures.ok in
+    let p = c.in_ok-plan.ensures.ok in
     stays came n held c.args.at.0 c.in_ok-plan.plan p c.requires.sound.tables
 
 -- the plan, both sweeps and the report are a collection
@@ -52,7 +52,7 @@ returns-clause-ok g c =
     let came : Records = came_in c.args.came.now in
     let held : BackLists = held_in c.args.backends.now.shards (g.B.BlobBackend.contents c.args.backends.now.blobs) (g.I.IngestBackend.contents c.args.backends.now.ingests) in
     let n = length came.tables.namespaces in
-    let p = plan_by came n (lists_in c.args.lists.now) held c.args.at.0 c.in_ok-plan.plan c.requires.held c.in_ok-plan.ensures.ok in
+    let p = c.in_ok-plan.ensures.ok in
     let state : State = store_in (in_order c.args.came.now) c.args.backends.now.shards (g.B.BlobBackend.contents c.args.backends.now.blobs) (g.I.IngestBackend.contents c.args.backends.now.ingests) in
     let plan = c.in_ok-plan.plan in
     let at = c.args.at.0 in

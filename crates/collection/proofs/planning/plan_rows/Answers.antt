@@ -1,5 +1,6 @@
 use Rattle.std.proofs.Common.{map, subst, ap, ◌≡◌}
 use Rattle.meta_types.specs.Rows.{Records, BackLists}
+use Rattle.row_tables.specs.Arrived.{sorted, one_text}
 use Rattle.back_model.specs.Shown.{listed_snap}
 use Rattle.gc_graph.specs.Stored.{records_of}
 use Rattle.gc_graph.specs.Marked.{reached_by}
@@ -20,7 +21,5 @@ returns-clause-ok g c =
       reached = reached;
       tells = told_in_order records c.args.at.0 reached (tells records c.args.at.0 book graph c.in_ok-book.ensures.ok marks c.in_ok-marks.ensures.marked.marks);
       masks = c.in_ok-plan.ensures.masks;
-      plan_is = subst (λ (back : BackLists). IsPlan (records_in_key_order records) c.args.namespaces back c.args.at.0 reached c.in_ok-plan.plan)
-          (λ i. record { blobs = c.deref.ensures.value i; snapshots = map listed_snap (c.deref-2.ensures.value i); ingests = c.deref-3.ensures.value i })
-          c.in_ok-plan.ensures.ok;
+      plan_is = c.in_ok-plan.ensures.ok;
     }

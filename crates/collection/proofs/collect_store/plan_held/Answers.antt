@@ -1,0 +1,18 @@
+use Rattle.std.proofs.Common.{◌≡◌, ◌∙◌, ap, map, length}
+use Rattle.back_model.specs.Shown.{listed_snap}
+use Rattle.backend_sweep.specs.Swept.{held_in}
+use Rattle.table_sweep.specs.Backed.{lists_of}
+use Rattle.collection.specs.Arrived.{came_in}
+use Rattle.collection.proofs.Wholes.{plan_by}
+use Rattle.collection.proofs.collect_store.plan_held.Goals as goal
+
+-- what is lent is what the backends hold
+pub returns-clause-ok : goal.returns-clause-ok
+returns-clause-ok g c =
+    plan_by (came_in c.args.came.now) (length c.args.came.now.tables.namespaces) _ (held_in c.args.backends.now.shards (g.B.BlobBackend.contents c.args.backends.now.blobs) (g.I.IngestBackend.contents c.args.backends.now.ingests)) c.args.at.0 c.in_ok-plan.plan
+    (λ i. record {
+      blobs = (c.digests.ensures ∙ ap g.B.BlobBackend.contents c.blobs.ensures) i;
+      snapshots = (ap (map listed_snap) c.deref.ensures.value ∙ c.in_ok-snapshots.ensures.ok) i;
+      ingests = (c.deref-2.ensures.value ∙ c.in_ok-ingests.ensures.ok ∙ ap g.I.IngestBackend.contents c.ingests.ensures) i;
+    })
+    c.in_ok-plan.ensures.ok
