@@ -1,3 +1,4 @@
 mod LabelsInOrder
 mod Printed
+mod StepTokens
 mod ConstantTexts

@@ -1,3 +1,4 @@
 pub mod Answers
 pub mod Replies
 pub mod Fixed
+pub mod Explained

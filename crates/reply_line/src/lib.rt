@@ -3,10 +3,12 @@
 
 mod answer;
 mod constants;
+mod explanation;
 mod parts;
 mod reply;
 mod rows;
 
 pub use answer::Answer;
 pub use constants::refusal_text;
+pub use explanation::explanation_text;
 pub use reply::{lent_text, reply_text};

@@ -68,7 +68,8 @@ pub(crate) fn kind_text(kind: SnapKind) -> &'static str
     }
 }
 
-fn type_text(alloc: Global, snapshotter: &ShortName) -> Result<String, AllocError>
+// The type of a snapshot.
+pub(crate) fn type_text(alloc: Global, snapshotter: &ShortName) -> Result<String, AllocError>
     ensures { IfOk result (λ s. string_bytes s ≡ codes "snapshots/" ++ snapshotter.now) }
 {
     let mut text = String::from_str(alloc, "snapshots/")?;

@@ -19,7 +19,7 @@ use std::alloc::{AllocError, Global};
 use std::borrow::CowStr;
 
 // What was written, as a text: a writer writes UTF-8 alone.
-fn into_text(out: Writer) -> String
+pub(crate) fn into_text(out: Writer) -> String
     requires { out.before ≡ [] }
     ensures { string_bytes result ≡ print out.tokens }
 {
