@@ -122,7 +122,7 @@ abbrev pub Explains : Records → ℤ → (Thing → Bool) → List Thing → Ty
 Explains records at asked [] = (thing : Thing) (path : List Thing) → IsTrue (asked thing) → IsPath records at thing path → ⊥
 Explains records at asked (last ∷ path) = IsFirstPath records at asked last path
 
--- ---- how it is told
+-- ---- the steps of a path
 
 abbrev pub object_in : Thing → Object
 object_in (image row) = Image row.name
@@ -159,14 +159,14 @@ AreTold profile word (last ∷ before ∷ path) steps = (by : By) × (told : Lis
 abbrev pub before_all_ends : ℤ
 before_all_ends = neg_ℤ (pos 62167305540000000000)
 
--- a path keeps what is asked for: it is told from its root on
+-- a path keeps what is asked for: its steps stand from the root on
 pub record IsKeptBy (records : Records) (at : ℤ) (asked : Thing → Bool) (steps : List PathStep) : Type 0 where
   pub last : Thing
   pub path : List Thing
   pub explains : Explains records at asked (last ∷ path)
   pub told : AreTold records.profile Root (last ∷ path) steps
 
--- no path does: what is told is the path before all ends, if there was one
+-- no path does: the steps are those of the path before all ends, if there was one
 pub record WasKeptBy (records : Records) (at : ℤ) (asked : Thing → Bool) (steps : List PathStep) : Type 0 where
   pub none : Explains records at asked []
   pub path : List Thing

@@ -1,4 +1,5 @@
--- Questions: each reads the store and leaves it as it was. None is an event, so no log and no list has one. Ours, unless a source stands beside.
+-- Questions: each reads the store and leaves it as it was. None is an event, so no log and no list
+-- has one. Ours, unless a source stands beside.
 use Rattle.std.specs.Prelude.{◌≡◌, ℤ, Bool, List, Option, Some, None}
 use Rattle.meta_types.specs.Text.{Text}
 use Rattle.meta_types.specs.Time.{instant_of}
@@ -8,17 +9,18 @@ use Rattle.meta_types.specs.Explanations.{object_of, is_asked, question_fault, I
 use Rattle.meta_types.specs.declared.object.Object.{Object}
 use Rattle.meta_types.specs.declared.explanation.PathStep.{PathStep}
 
--- what is told of a row: whether a path keeps it, and that path, else the one before all ends
+-- the answer about a row: whether a path keeps it, and that path, else the one before all ends
 pub record Told : Type 0 where
   pub kept : Bool
   pub path : List PathStep
 
--- what a line is answered: what an event is, or what keeps the row that it asks for
+-- the answer of a line: an event's, or what keeps the row that the line asks for
 pub data LineAnswer : Type 0 where
   of_event : Answer → LineAnswer
   explained : Told → LineAnswer
 
--- The question has no fault, and this explains the row that it asks for, at its moment. The texts are the namespace, the type, the name and the moment.
+-- The question has no fault, and this explains the row that it asks for, at its moment. The texts
+-- are the namespace, the type, the name and the moment.
 pub record Tells (records : Records) (ns kind name at : Text) (told : Told) : Type 0 where
   pub free : question_fault records ns kind name at ≡ None
   pub object : Object

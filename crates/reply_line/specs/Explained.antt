@@ -1,4 +1,5 @@
--- The JSON of explanations, and their text. Members stand in the byte order of their names. Ours, unless a source stands beside.
+-- The JSON of explanations, and their text. Members stand in the byte order of their names. Ours,
+-- unless a source stands beside.
 use Rattle.std.specs.Prelude.{true, List, [], Option, Some, None, codes, option_map}
 use Rattle.serde_json.specs.Data.{Data, boolean, string, object, no_members, member}
 use Rattle.serde_json.specs.Written.{compact_text}

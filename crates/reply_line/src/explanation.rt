@@ -1,4 +1,4 @@
-//! Explanations as text.
+//! The exact text of an explanation.
 ghost use Rattle.std.specs.Prelude.{◌≡◌, IfOk, OnOk, None, codes, option_map, string_bytes};
 ghost use Rattle.serde_json.specs.Data.{string};
 ghost use Rattle.meta_types.specs.Faults.{Refuses};
