@@ -29,6 +29,7 @@ pub mod WorkedScripts
 pub mod WorkedLaterScripts
 pub mod WorkedFailureScripts
 pub mod Sorted
+pub mod OrderThen
 pub mod GoingOrder
 pub mod ObjectsPromised
 pub mod ChildrenFirst
