@@ -13,7 +13,8 @@ use Rattle.meta_types.proofs.Ordered.{key_ties}
 use Rattle.meta_types.proofs.Searched.{one_way, not_key}
 use Rattle.row_tables.specs.Namespaces.{joined}
 
--- the list where the row of a key is, or would go: all rows before it have lesser keys, and all behind it greater ones
+-- the list where the row of a key is, or would go: all rows before it have lesser keys, and all
+-- behind it greater ones
 pub record IsPlace {Row : Type 0} (key_of : Row → Key) (key : Key) (lists : List (List Row)) (place : ℕ) : Type 0 where
   pub within : place < length lists
   pub before : All (λ row. is_before (key_of row) key ≡ true) (joined (take place lists))

@@ -1,4 +1,5 @@
--- Rows as they came, by namespace: sorted, they are the namespaces' rows in order, one behind the other.
+-- Rows as they came, by namespace: sorted, they are the namespaces' rows in order, one behind the
+-- other.
 use Rattle.std.proofs.Common.{◌≡◌, ℕ, ◌+◌, suc, Bool, true, false, List, [], ◌∷◌, ◌++◌, length, get_or, take, drop, map, Some, None, refl, sym, ap, ◌∙◌, subst, arith, inl, inr}
 use Rattle.std.specs.Prelude.{All, IfSome, IfNone, Option, Result, Ok, Err, OnOk, OnErr, is_some, slice_get, slice_set, ◌&&◌, bytes_eq}
 use Rattle.std.proofs.lemmas.List.{set-get_or, take-map}

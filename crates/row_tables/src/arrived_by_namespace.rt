@@ -109,7 +109,7 @@ impl<K: Named, R: GroupedRow<K>> ArrivedByNamespace<K, R> {
         find::first_in(&self.groups, ns)
     }
 
-    /// A row more, where none has its key: one look finds whether one has. It takes the text of its
+    /// Adds a row where none has its key; one look finds whether one has. It takes the text of its
     /// namespace that is there.
     pub fn add_new(&mut self, alloc: Global, row: R) -> Result<(), Fault>
         ensures fault { Refuses result (least_of false false
@@ -142,8 +142,7 @@ impl<K: Named, R: GroupedRow<K>> ArrivedByNamespace<K, R> {
         }
     }
 
-    /// The row of a namespace and a name goes, to the caller; the last of its namespace takes its
-    /// place.
+    /// Takes out the row of a namespace and a name; the last row of its namespace takes its place.
     pub fn take(&mut self, ns: &ShortName, name: &K) -> Option<R>
         ensures row { result ≡ row_at (full_key K.texts_of R.name_of R.group_of)
             (ns.now ∷ K.texts_of name.now)
@@ -157,8 +156,8 @@ impl<K: Named, R: GroupedRow<K>> ArrivedByNamespace<K, R> {
         Some(row)
     }
 
-    /// Changes the row of a namespace and a name in its place; nothing is answered where there is
-    /// none. It takes no memory but what the change takes.
+    /// Changes the row of a namespace and a name in its place, and gives the answer of the change.
+    /// Only the change itself may take memory.
     pub fn change<A, C: Change<K, R, A>>(
         &mut self,
         ns: &ShortName,
@@ -223,7 +222,7 @@ impl<K: Named, R: GroupedRow<K>> ArrivedByNamespace<K, R> {
         list::rows_came(&self.groups, alloc)
     }
 
-    /// The same rows once more, at the same places. They share their texts.
+    /// A copy, with the rows at the same places, which shares their texts.
     pub fn copy(&self, alloc: Global) -> Result<ArrivedByNamespace<K, R>, Fault>
         ensures fault { Refuses result None }
         ensures ok { IfOk result (λ table. table ≡ self.now) }

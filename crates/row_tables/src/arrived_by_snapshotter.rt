@@ -101,8 +101,8 @@ impl<K: Named, R: SnapshotterRow<K>> ArrivedBySnapshotter<K, R> {
         find::rows_of(&self.groups, ns, snapshotter)
     }
 
-    /// A row more, where none has its key: one look finds whether one has. It takes the texts of
-    /// its namespace and its snapshotter that are there.
+    /// Adds a row where none has its key; one look finds whether one has. It takes the texts of its
+    /// namespace and its snapshotter that are there.
     pub fn add_new(&mut self, alloc: Global, row: R) -> Result<(), Fault>
         ensures fault { Refuses result (least_of false false
             (has_row (layered_key K.texts_of R.name_of R.group_of R.ns_of)
@@ -136,8 +136,8 @@ impl<K: Named, R: SnapshotterRow<K>> ArrivedBySnapshotter<K, R> {
         }
     }
 
-    /// The row of a namespace, a snapshotter and a name goes, to the caller; the last of its
-    /// namespace takes its place.
+    /// Takes out the row of a namespace, a snapshotter and a name; the last row of its snapshotter
+    /// takes its place.
     pub fn take(&mut self, ns: &ShortName, snapshotter: &ShortName, name: &K) -> Option<R>
         ensures row { result ≡ row_at (layered_key K.texts_of R.name_of R.group_of R.ns_of)
             (ns.now ∷ snapshotter.now ∷ K.texts_of name.now)
@@ -152,9 +152,8 @@ impl<K: Named, R: SnapshotterRow<K>> ArrivedBySnapshotter<K, R> {
         Some(row)
     }
 
-    /// Changes the row of a namespace, a snapshotter and a name in its place; nothing is answered
-    /// where there is
-    /// none. It takes no memory but what the change takes.
+    /// Changes the row of a namespace, a snapshotter and a name in its place, and gives the answer
+    /// of the change. Only the change itself may take memory.
     pub fn change<A, C: Change<K, R, A>>(
         &mut self,
         ns: &ShortName,
@@ -239,7 +238,7 @@ impl<K: Named, R: SnapshotterRow<K>> ArrivedBySnapshotter<K, R> {
         list::rows_came(&self.groups, alloc)
     }
 
-    /// The same rows once more, at the same places. They share their texts.
+    /// A copy, with the rows at the same places, which shares their texts.
     pub fn copy(&self, alloc: Global) -> Result<ArrivedBySnapshotter<K, R>, Fault>
         ensures fault { Refuses result None }
         ensures ok { IfOk result (λ table. table ≡ self.now) }

@@ -41,21 +41,21 @@ impl<K: Named, R: GroupedRow<K>> ByNamespace<K, R> {
         }
     }
 
-    /// The rows as they came.
+    /// Lends the rows as they came.
     pub fn came(&self) -> &ArrivedByNamespace<K, R>
         ensures { sorted (full_key K.texts_of R.name_of R.group_of) result.now ≡ self.now }
     {
         &self.came
     }
 
-    /// The rows as they came.
+    /// Hands over the rows as they came; none is copied or sorted.
     pub fn into_came(self) -> ArrivedByNamespace<K, R>
         ensures { sorted (full_key K.texts_of R.name_of R.group_of) result ≡ self }
     {
         self.came
     }
 
-    /// The rows that came, seen in the order of their keys.
+    /// Takes over the rows as they came; none is copied or sorted.
     pub fn from_came(came: ArrivedByNamespace<K, R>) -> ByNamespace<K, R>
         ensures { result ≡ sorted (full_key K.texts_of R.name_of R.group_of) came }
     {
@@ -91,7 +91,7 @@ impl<K: Named, R: GroupedRow<K>> ByNamespace<K, R> {
         self.came.get(ns, name)
     }
 
-    /// A row more, where none has its key. It takes the text of its namespace that is there.
+    /// Adds a row where none has its key. It takes the text of its namespace that is there.
     pub fn add(&mut self, alloc: Global, row: R) -> Result<(), Fault>
         requires { has_row (full_key K.texts_of R.name_of R.group_of)
             (full_key K.texts_of R.name_of R.group_of row) self.old ≡ false }
@@ -103,7 +103,7 @@ impl<K: Named, R: GroupedRow<K>> ByNamespace<K, R> {
         self.came.add_new(alloc, row)
     }
 
-    /// A row more, where none has its key: one look finds whether one has. It takes the text of its
+    /// Adds a row where none has its key; one look finds whether one has. It takes the text of its
     /// namespace that is there.
     pub fn add_new(&mut self, alloc: Global, row: R) -> Result<(), Fault>
         ensures fault { Refuses result (least_of false false
@@ -116,7 +116,7 @@ impl<K: Named, R: GroupedRow<K>> ByNamespace<K, R> {
         self.came.add_new(alloc, row)
     }
 
-    /// The row of a namespace and a name goes, to the caller.
+    /// Takes out the row of a namespace and a name.
     pub fn take(&mut self, ns: &ShortName, name: &K) -> Option<R>
         ensures row { result ≡ row_at (full_key K.texts_of R.name_of R.group_of)
             (ns.now ∷ K.texts_of name.now) self.old }
@@ -126,7 +126,7 @@ impl<K: Named, R: GroupedRow<K>> ByNamespace<K, R> {
         self.came.take(ns, name)
     }
 
-    /// The row of a namespace and a name goes; says whether it was there.
+    /// Removes the row of a namespace and a name; says whether it was there.
     pub fn remove(&mut self, ns: &ShortName, name: &K) -> bool
         ensures found { result ≡ has_row (full_key K.texts_of R.name_of R.group_of)
             (ns.now ∷ K.texts_of name.now) self.old }
@@ -140,8 +140,8 @@ impl<K: Named, R: GroupedRow<K>> ByNamespace<K, R> {
         }
     }
 
-    /// Changes the row of a namespace and a name in its place; nothing is answered where there is
-    /// none. It takes no memory but what the change takes.
+    /// Changes the row of a namespace and a name in its place, and gives the answer of the change.
+    /// Only the change itself may take memory.
     pub fn change<A, C: Change<K, R, A>>(
         &mut self,
         ns: &ShortName,
@@ -194,7 +194,7 @@ impl<K: Named, R: GroupedRow<K>> ByNamespace<K, R> {
         self.came.list(alloc)
     }
 
-    /// The same rows once more. They share their texts.
+    /// A copy, which shares the texts of the rows.
     pub fn copy(&self, alloc: Global) -> Result<ByNamespace<K, R>, Fault>
         ensures fault { Refuses result None }
         ensures ok { IfOk result (λ table. table ≡ self.now) }

@@ -41,21 +41,21 @@ impl<K: Named, R: SnapshotterRow<K>> BySnapshotter<K, R> {
         }
     }
 
-    /// The rows as they came.
+    /// Lends the rows as they came.
     pub fn came(&self) -> &ArrivedBySnapshotter<K, R>
         ensures { sorted (layered_key K.texts_of R.name_of R.group_of R.ns_of) result.now ≡ self.now }
     {
         &self.came
     }
 
-    /// The rows as they came.
+    /// Hands over the rows as they came; none is copied or sorted.
     pub fn into_came(self) -> ArrivedBySnapshotter<K, R>
         ensures { sorted (layered_key K.texts_of R.name_of R.group_of R.ns_of) result ≡ self }
     {
         self.came
     }
 
-    /// The rows that came, seen in the order of their keys.
+    /// Takes over the rows as they came; none is copied or sorted.
     pub fn from_came(came: ArrivedBySnapshotter<K, R>) -> BySnapshotter<K, R>
         ensures { result ≡ sorted (layered_key K.texts_of R.name_of R.group_of R.ns_of) came }
     {
@@ -96,8 +96,8 @@ impl<K: Named, R: SnapshotterRow<K>> BySnapshotter<K, R> {
         self.came.get(ns, snapshotter, name)
     }
 
-    /// A row more, where none has its key. It takes the texts of its namespace and its
-    /// snapshotter that are there.
+    /// Adds a row where none has its key. It takes the texts of its namespace and its snapshotter
+    /// that are there.
     pub fn add(&mut self, alloc: Global, row: R) -> Result<(), Fault>
         requires { has_row (layered_key K.texts_of R.name_of R.group_of R.ns_of)
             (layered_key K.texts_of R.name_of R.group_of R.ns_of row) self.old ≡ false }
@@ -109,7 +109,7 @@ impl<K: Named, R: SnapshotterRow<K>> BySnapshotter<K, R> {
         self.came.add_new(alloc, row)
     }
 
-    /// The row of a namespace, a snapshotter and a name goes, to the caller.
+    /// Takes out the row of a namespace, a snapshotter and a name.
     pub fn take(&mut self, ns: &ShortName, snapshotter: &ShortName, name: &K) -> Option<R>
         ensures row { result ≡ row_at (layered_key K.texts_of R.name_of R.group_of R.ns_of)
             (ns.now ∷ snapshotter.now ∷ K.texts_of name.now) self.old }
@@ -119,7 +119,7 @@ impl<K: Named, R: SnapshotterRow<K>> BySnapshotter<K, R> {
         self.came.take(ns, snapshotter, name)
     }
 
-    /// The row of a namespace, a snapshotter and a name goes; says whether it was there.
+    /// Removes the row of a namespace, a snapshotter and a name; says whether it was there.
     pub fn remove(&mut self, ns: &ShortName, snapshotter: &ShortName, name: &K) -> bool
         ensures found { result ≡ has_row (layered_key K.texts_of R.name_of R.group_of R.ns_of)
             (ns.now ∷ snapshotter.now ∷ K.texts_of name.now) self.old }
@@ -133,8 +133,8 @@ impl<K: Named, R: SnapshotterRow<K>> BySnapshotter<K, R> {
         }
     }
 
-    /// Changes the row of a namespace, a snapshotter and a name in its place; nothing is answered
-    /// where there is none. It takes no memory but what the change takes.
+    /// Changes the row of a namespace, a snapshotter and a name in its place, and gives the answer
+    /// of the change. Only the change itself may take memory.
     pub fn change<A, C: Change<K, R, A>>(
         &mut self,
         ns: &ShortName,
@@ -208,7 +208,7 @@ impl<K: Named, R: SnapshotterRow<K>> BySnapshotter<K, R> {
         self.came.list(alloc)
     }
 
-    /// The same rows once more. They share their texts.
+    /// A copy, which shares the texts of the rows.
     pub fn copy(&self, alloc: Global) -> Result<BySnapshotter<K, R>, Fault>
         ensures fault { Refuses result None }
         ensures ok { IfOk result (λ table. table ≡ self.now) }

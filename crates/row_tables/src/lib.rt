@@ -1,4 +1,4 @@
-//! Rows as they came, each found by a hash of its name, and seen in the order of their keys.
+//! Rows in arrival order, each found by its name, and listed in key order.
 #![tactic(auto)]
 
 mod arrived_by_namespace;

@@ -19,7 +19,7 @@ pub trait Named: Eq + Hash + Drop {
     fn order(&self, other: &Self) -> Ordering
         ensures { result ≡ slice_cmp text_cmp (texts_of self.now) (texts_of other.now) };
 
-    /// The name once more. It shares its texts.
+    /// A copy, which shares its text.
     fn copy_name(&self) -> Result<Self, Fault>
         ensures fault { Refuses result None }
         ensures ok { IfOk result (λ name. name ≡ self.now) };

@@ -1,4 +1,4 @@
-//! Rows as they came.
+//! Rows of one kind, as they came.
 ghost use Rattle.std.specs.Prelude.{◌≡◌, ◌<◌, ◌≤◌, ◌^◌, ◌++◌, ◌∷◌, [], Bool, map, filter, false, None, Some, IfOk, IfErr, IfSome, IfNone, OnOk, OnErr, IsTrue, length, is_some, option_copied};
 ghost use Rattle.std.specs.Bool.{OnFalse};
 ghost use Rattle.std.specs.List.{IsDistinct, list_all, position};
@@ -97,7 +97,7 @@ impl<K: Named, R: NamedRow<K>> RowTable<K, R> {
         all_pass(self.rows(), test)
     }
 
-    /// The row goes behind all others; where memory is refused, it comes back.
+    /// Adds a row behind all others. Where memory is refused, the caller gets it back.
     pub fn add(&mut self, row: R) -> Result<(), AllocFailed<R>>
         requires { has_row (by_name K.texts_of R.name_of) (K.texts_of (R.name_of row)) (sorted
             (by_name K.texts_of R.name_of) self.old) ≡ false }
@@ -118,7 +118,7 @@ impl<K: Named, R: NamedRow<K>> RowTable<K, R> {
         }
     }
 
-    /// The row goes behind all others, where none has its name: one look finds whether one has.
+    /// Adds a row behind all others, where none has its name; one look finds whether one has.
     pub fn add_new(&mut self, row: R) -> Result<(), Fault>
         ensures fault { Refuses result (least_of false false (has_row
             (by_name K.texts_of R.name_of) (K.texts_of (R.name_of row)) (sorted
@@ -146,7 +146,7 @@ impl<K: Named, R: NamedRow<K>> RowTable<K, R> {
         }
     }
 
-    /// The row of a name goes, to the caller; the last one takes its place.
+    /// Takes out the row of a name; the last row takes its place.
     pub fn take(&mut self, name: &K) -> Option<R>
         ensures row { result ≡ row_at (by_name K.texts_of R.name_of) (K.texts_of name.now) (sorted
             (by_name K.texts_of R.name_of) self.old) }
@@ -164,8 +164,8 @@ impl<K: Named, R: NamedRow<K>> RowTable<K, R> {
         Some(row)
     }
 
-    /// Changes the row of a name in its place; nothing is answered where there is none. It takes no
-    /// memory but what the change takes.
+    /// Changes the row of a name in its place, and gives the answer of the change. Only the change
+    /// itself may take memory.
     pub fn change<A, C: Change<K, R, A>>(&mut self, name: &K, change: C) -> Option<A>
         ensures absent { IfNone result (has_row (by_name K.texts_of R.name_of)
             (K.texts_of name.now) (sorted (by_name K.texts_of R.name_of) self.old) ≡ false) }
@@ -183,7 +183,7 @@ impl<K: Named, R: NamedRow<K>> RowTable<K, R> {
         Some(change.change(&mut self.rows[place]))
     }
 
-    /// The same rows once more, at the same places.
+    /// A copy, with the rows at the same places, which shares their texts.
     pub fn copy(&self, alloc: Global) -> Result<RowTable<K, R>, Fault>
         ensures fault { Refuses result None }
         ensures ok { IfOk result (λ table. table ≡ self.now) }

@@ -59,7 +59,7 @@ fn add_there<K: Named, R: GroupedRow<K>>(
     home.1.add_new(row)
 }
 
-/// A row more, where none has its key: one look in its namespace finds whether one has.
+/// Adds a row where none has its key; one look in its namespace finds whether one has.
 pub(crate) fn add_new_row<K: Named, R: GroupedRow<K>>(
     groups: &mut Vec<(ShortName, RowTable<K, R>)>,
     alloc: Global,
@@ -82,8 +82,7 @@ pub(crate) fn add_new_row<K: Named, R: GroupedRow<K>>(
     add_there(&mut groups[home], row)
 }
 
-/// The row of a namespace and a name goes, to the caller; the last of its namespace takes its
-/// place.
+/// Takes out the row of a namespace and a name; the last row of its namespace takes its place.
 pub(crate) fn take_row<K: Named, R: GroupedRow<K>>(
     groups: &mut Vec<(ShortName, RowTable<K, R>)>,
     ns: &ShortName,

@@ -65,7 +65,7 @@ pub(crate) fn rows_came<'a, K: Named, R: GroupedRow<K>>(
     Ok(list)
 }
 
-/// The same namespaces once more, with the same rows.
+/// A copy of the namespaces and of their rows, which shares their texts.
 pub(crate) fn copy_groups<K: Named, R: GroupedRow<K>>(
     groups: &[(ShortName, RowTable<K, R>)],
     alloc: Global,

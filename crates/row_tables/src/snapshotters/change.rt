@@ -66,7 +66,7 @@ fn add_there<K: Named, R: SnapshotterRow<K>>(
     home.1.add_new(alloc, row)
 }
 
-/// A row more, where none has its key: one look in its namespace finds whether one has.
+/// Adds a row where none has its key; one look in its namespace finds whether one has.
 pub(crate) fn add_new_row<K: Named, R: SnapshotterRow<K>>(
     groups: &mut Vec<(ShortName, ArrivedByNamespace<K, R>)>,
     alloc: Global,
@@ -93,7 +93,7 @@ pub(crate) fn add_new_row<K: Named, R: SnapshotterRow<K>>(
     add_there(&mut groups[home], alloc, row)
 }
 
-/// The row of a namespace, a snapshotter and a name goes, to the caller; the last of its namespace
+/// Takes out the row of a namespace, a snapshotter and a name; the last row of its snapshotter
 /// takes its place.
 pub(crate) fn take_row<K: Named, R: SnapshotterRow<K>>(
     groups: &mut Vec<(ShortName, ArrivedByNamespace<K, R>)>,

@@ -85,7 +85,7 @@ pub(crate) fn rows_came<'a, K: Named, R: SnapshotterRow<K>>(
     Ok(list)
 }
 
-/// The same namespaces once more, with the same rows.
+/// A copy of the namespaces and of their rows, which shares their texts.
 pub(crate) fn copy_groups<K: Named, R: SnapshotterRow<K>>(
     groups: &[(ShortName, ArrivedByNamespace<K, R>)],
     alloc: Global,
