@@ -1,4 +1,5 @@
--- The names of each snapshot's children, and the families that hold them. Ours, unless a source stands beside.
+-- The names of each snapshot's children, and the families that hold them. Ours, unless a source
+-- stands beside.
 use Rattle.std.specs.Prelude.{◌≡◌, Bool, false, List, [], ◌∷◌, map, filter, length, Option, Some, None, Result, Ok, Err, OnOk, OnErr, if◌then◌else◌, ◌==◌}
 use Rattle.std.proofs.Common.{ap, ◌∙◌}
 use Rattle.meta_types.specs.Text.{Text}

@@ -16,7 +16,7 @@ use meta_types::{ContainerRow, ContentRow, Digest, ImageRow, IngestRow, Name, Sh
 use row_tables::{ArrivedByNamespace, ArrivedBySnapshotter, ByNamespace};
 use std::marker::Model;
 
-/// The rows of each kind as they came, lent.
+/// Lends the rows of each kind as they came.
 #[derive(Clone, Copy)]
 pub struct ArrivedRows<'a> {
     pub images: &'a ArrivedByNamespace<Name, ImageRow>,
@@ -144,7 +144,7 @@ impl ArrivedTables {
 }
 
 impl Tables {
-    /// The rows of each kind as they came, lent.
+    /// Lends the rows of each kind as they came.
     pub fn came(&self) -> ArrivedRows<'_>
         ensures images { sorted image_key result.images.now ≡ self.now.images }
         ensures containers { sorted container_key result.containers.now ≡ self.now.containers }
@@ -161,7 +161,7 @@ impl Tables {
         }
     }
 
-    /// The tables as they came.
+    /// Hands over the tables as they came; no row is copied or sorted.
     pub fn into_came(self) -> ArrivedTables
         ensures { in_key_order result ≡ self }
     {
@@ -175,7 +175,7 @@ impl Tables {
         }
     }
 
-    /// The tables that came, seen in the order of their keys.
+    /// Takes over the tables as they came; no row is copied or sorted.
     pub fn from_came(came: ArrivedTables) -> Tables
         ensures { result ≡ in_key_order came }
     {

@@ -49,7 +49,7 @@ impl Tables {
         self.containers.add_new(alloc, row)
     }
 
-    /// Removes a container's row. It takes no memory.
+    /// Removes a container's row.
     pub fn remove_container(&mut self, ns: &ShortName, name: &Name) -> Result<(), Fault>
         ensures fault { OnlyRefuses result (missing_fault (has_row container_key (ns.now
             ∷ name.now ∷ []) self.old.containers)) }

@@ -49,7 +49,7 @@ impl Tables {
         self.content.add_new(alloc, row)
     }
 
-    /// Removes a row of content. It takes no memory.
+    /// Removes a row of content.
     pub fn remove_content(&mut self, ns: &ShortName, digest: &Digest) -> Result<(), Fault>
         ensures fault { OnlyRefuses result (missing_fault (has_row content_key (ns.now
             ∷ digest.now ∷ []) self.old.content)) }

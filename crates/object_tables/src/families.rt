@@ -66,7 +66,7 @@ impl SnapshotterRow<Name> for Family {
     }
 }
 
-/// A child comes to a family.
+/// Adds a child to a family.
 #[derive(Drop)]
 struct OneMore {
     name: Name,
@@ -82,7 +82,7 @@ impl Change<Name, Family, Result<(), Fault>> for OneMore {
     }
 }
 
-/// A child goes from a family; says whether none is left.
+/// Removes a child from a family; says whether none is left.
 #[derive(Drop)]
 struct OneLess<'a> {
     name: &'a Name,
@@ -170,7 +170,7 @@ impl Families {
         }
     }
 
-    /// A snapshot comes under its parent.
+    /// Adds a snapshot under its parent.
     pub(crate) fn enter(&mut self, alloc: Global, key: &SnapKey, parent: &Name) -> Result<(), Fault>
         requires { has_row one_text (key.now.name ∷ []) (family_names self.old key.now.ns
             key.now.snapshotter parent.now) ≡ false }
@@ -193,7 +193,7 @@ impl Families {
         }
     }
 
-    /// A snapshot goes from under its parent, and a family with its last child.
+    /// Removes a snapshot from under its parent, and the family with its last child.
     pub(crate) fn leave(&mut self, key: &SnapKey, parent: &Name)
         ensures rows { self.new ≡ families_left key.now parent.now self.old }
         ensures names { family_names self.new ≡ left key.now parent.now (family_names self.old) }

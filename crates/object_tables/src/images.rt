@@ -68,7 +68,7 @@ impl Tables {
         self.images.add_new(alloc, row)
     }
 
-    /// Removes an image's row. It takes no memory.
+    /// Removes an image's row.
     pub fn remove_image(&mut self, ns: &ShortName, name: &Name) -> Result<(), Fault>
         ensures fault { OnlyRefuses result (missing_fault (has_row image_key (ns.now ∷ name.now
             ∷ []) self.old.images)) }
@@ -85,7 +85,7 @@ impl Tables {
         }
     }
 
-    /// Sets an image's target. It takes no memory.
+    /// Sets an image's target.
     pub fn set_target(&mut self, ns: &ShortName, name: &Name, target: Digest) -> Result<(), Fault>
         ensures fault { OnlyRefuses result (missing_fault (has_row image_key (ns.now ∷ name.now
             ∷ []) self.old.images)) }

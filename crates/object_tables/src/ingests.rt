@@ -67,7 +67,7 @@ impl Tables {
         self.ingests.add_new(alloc, row)
     }
 
-    /// Removes an ingest's row. It takes no memory.
+    /// Removes an ingest's row.
     pub fn remove_ingest(&mut self, ns: &ShortName, name: &Name) -> Result<(), Fault>
         ensures fault { OnlyRefuses result (missing_fault (has_row ingest_key (ns.now ∷ name.now
             ∷ []) self.old.ingests)) }

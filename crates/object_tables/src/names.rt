@@ -35,7 +35,7 @@ impl Names {
         }
     }
 
-    /// The same names once more. They share their texts.
+    /// A copy, which shares the texts.
     pub(crate) fn copy(&self, alloc: Global) -> Result<Names, Fault>
         ensures fault { Refuses result None }
         ensures ok { IfOk result (λ names. names ≡ self.now) }
@@ -59,7 +59,7 @@ impl Names {
         in_key_order(alloc, &self.rows)
     }
 
-    /// A name more, where it isn't there.
+    /// Adds a name where it isn't there.
     pub(crate) fn add(&mut self, name: Name) -> Result<(), Fault>
         ensures fault { Refuses result
             (least_of false false (has_row one_text (name ∷ []) self.old) false) }
@@ -69,7 +69,7 @@ impl Names {
         self.rows.add_new(name)
     }
 
-    /// A name goes, where it is there.
+    /// Removes a name where it is there.
     pub(crate) fn remove(&mut self, name: &Name)
         ensures { self.new ≡ remove_row one_text (name.now ∷ []) self.old }
     {

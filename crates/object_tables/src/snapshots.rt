@@ -161,7 +161,7 @@ impl Tables {
         Ok(())
     }
 
-    /// Removes a snapshot that is no parent. It takes no memory.
+    /// Removes a snapshot that is no parent.
     pub fn remove_snap(&mut self, key: &SnapKey) -> Result<(), Fault>
         ensures fault { OnlyRefuses result
             (removing_snap_fault key.now.ns key.now.snapshotter key.now.name self.old.snapshots) }

@@ -87,7 +87,7 @@ impl Tables {
         }
     }
 
-    /// Other tables of the same rows, which share their texts.
+    /// A copy, which shares the texts of the rows.
     pub fn copy(&self, alloc: Global) -> Result<Tables, Fault>
         ensures fault { Refuses result None }
         ensures ok { IfOk result (λ tables. tables ≡ self.now) }
