@@ -39,7 +39,8 @@ pub edits_keep : {X : Type 0} (refusal : LeaseRow → Option Fault) (after : Lea
 edits_keep refusal after part keeps old (Ok u) new e = ap part e.ok ∙ keeps old
 edits_keep refusal after part keeps old (Err f) new e = ap part e.err
 
--- the lease releases a resource, and answers whether it held it (containerd leases service, DeleteResource)
+-- the lease releases a resource, and answers whether it held it (containerd leases service,
+-- DeleteResource)
 pub record Releases (resource : Resource) (old : LeaseRow) (told : Bool) (new : LeaseRow) : Type 0 where
   pub found : told ≡ has_row resource_key (resource_key resource) old.resources
   pub left : new ≡ without_resource resource old

@@ -125,7 +125,7 @@ impl Leases {
         self.rows.add(alloc, Lease::new(alloc, ns, id, labels))
     }
 
-    /// Takes a lease away, with what it holds. It takes no memory.
+    /// Takes a lease away, with what it holds.
     pub fn remove(&mut self, ns: &ShortName, id: &Name) -> Result<(), Fault>
         ensures fault { OnlyRefuses result
             (missing_fault (has_row lease_key (ns.now ∷ id.now ∷ []) self.old)) }
@@ -182,7 +182,7 @@ impl Leases {
         }
     }
 
-    /// Takes a resource from a lease. It takes no memory.
+    /// Takes a resource from a lease.
     pub fn drop_resource(
         &mut self,
         ns: &ShortName,
@@ -217,7 +217,7 @@ impl Leases {
         ids_of(alloc, &rows)
     }
 
-    /// The same leases once more.
+    /// A copy, which shares the texts of the leases.
     pub fn copy(&self, alloc: Global) -> Result<Leases, Fault>
         ensures fault { Refuses result None }
         ensures ok { IfOk result (λ leases. leases ≡ self.now) }
@@ -226,21 +226,21 @@ impl Leases {
         Ok(Leases { rows })
     }
 
-    /// The leases as they came.
+    /// Lends the leases as they came.
     pub fn came(&self) -> &ArrivedByNamespace<Name, Lease>
         ensures { sorted lease_key result.now ≡ self.now }
     {
         self.rows.came()
     }
 
-    /// The leases as they came.
+    /// Hands over the leases as they came; none is copied or sorted.
     pub fn into_came(self) -> ArrivedByNamespace<Name, Lease>
         ensures { sorted lease_key result ≡ self }
     {
         self.rows.into_came()
     }
 
-    /// The leases that came, seen in the order of namespaces and ids.
+    /// Takes over the leases as they came; none is copied or sorted.
     pub fn from_came(came: ArrivedByNamespace<Name, Lease>) -> Leases
         ensures { result ≡ sorted lease_key came }
     {

@@ -1,4 +1,4 @@
-//! Leases, and what they hold.
+//! Leases by namespace and id, and what each holds.
 #![tactic(auto)]
 
 mod edits;
