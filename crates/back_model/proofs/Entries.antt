@@ -47,7 +47,8 @@ put_in new old m n p view is =
     ∙ ap (λ (b : Bool). cond b (Some p) (finmap.get m q)) ((eq_by_cmp_equiv nat_cmp_total).symm n q)
     ∙ sym (finmap.get-insert nat_cmp_total m n p q))
 
--- a map that has no value at the key, and elsewhere what it had, is the map with that entry taken out
+-- a map that has no value at the key, and elsewhere what it had, is the map with that entry taken
+-- out
 pub taken_out : (new old : Parents) (m : Snaps) (n : ℕ) → from_parents old ≡ m
     → ((q : ℕ) → lookup (is_at (nat_cmp q)) new ≡ cond (is_at (nat_cmp n) q) None (lookup (is_at (nat_cmp q)) old))
     → from_parents new ≡ finmap.remove m n

@@ -5,7 +5,8 @@ use Rattle.back_model.specs.declared.faults.MakeFault.TheVariants as M
 use Rattle.back_model.specs.declared.faults.RemoveFault.{RemoveFault}
 use Rattle.back_model.specs.declared.faults.RemoveFault.TheVariants as R
 
--- an object is Taken where it is held, else Missing where its parent isn't; else it is made, or the device failed, or memory ran out
+-- an object is Taken where it is held, else Missing where its parent isn't; else it is made, or the
+-- device failed, or memory ran out
 abbrev pub Makes : Result (Unit {0}) MakeFault → Bool → Bool → Type 0
 Makes (Ok _) held parent = (held ≡ false) × (parent ≡ true)
 Makes (Err M.Taken) held parent = held ≡ true
@@ -13,7 +14,9 @@ Makes (Err M.Missing) held parent = (held ≡ false) × (parent ≡ false)
 Makes (Err M.Device) held parent = (held ≡ false) × (parent ≡ true)
 Makes (Err M.Memory) held parent = (held ≡ false) × (parent ≡ true)
 
--- an object is Missing where it isn't held, else it HasChildren where it is a parent; else it is removed, or the device failed (containerd snapshots service: a parent isn't removed before its children)
+-- an object is Missing where it isn't held, else it HasChildren where it is a parent; else it is
+-- removed, or the device failed (containerd snapshots service: a parent isn't removed before its
+-- children)
 abbrev pub Removes : Result (Unit {0}) RemoveFault → Bool → Bool → Type 0
 Removes (Ok _) held child = (held ≡ true) × (child ≡ false)
 Removes (Err R.Missing) held child = held ≡ false

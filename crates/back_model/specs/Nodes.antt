@@ -1,4 +1,5 @@
--- The snapshots of a backend in memory, with how many children each has. Ours, unless a source stands beside.
+-- The snapshots of a backend in memory, with how many children each has. Ours, unless a source
+-- stands beside.
 use Rattle.std.specs.Prelude.{◌≡◌, ℕ, Option, List, map, sum_by, if◌then◌else◌}
 use Rattle.std.specs.BTreeMap.{BTreeMap, values, get, IsOrdered}
 use Rattle.std.specs.Option.{option_map_or}

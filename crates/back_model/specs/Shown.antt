@@ -1,4 +1,5 @@
--- The backends of a store, shard by shard, and as the lists that the store's definitions have. Ours, unless a source stands beside.
+-- The backends of a store, shard by shard, and as the lists that the store's definitions have.
+-- Ours, unless a source stands beside.
 use Rattle.std.specs.Prelude.{◌≡◌, ◌<◌, ◌≤◌, ◌+◌, ℕ, Option, Result, Ok, Err, List, [], ◌∷◌, map, length, get_or, find, flat_map, refl}
 use Rattle.std.specs.Coded.{Coded, code_by, coded×, coded_ℕ, coded_list, coded_option}
 use Rattle.std.specs.List.Sorted.{IsStrictlySortedBy}

@@ -5,7 +5,8 @@ use Rattle.std.specs.Option.{option_map_or}
 use Rattle.std.specs.Ordering.{nat_cmp}
 use Rattle.std.specs.FinMap as finmap
 
--- from each number to the number of the parent, if it has one (parents: containerd snapshots service)
+-- from each number to the number of the parent, if it has one (parents: containerd snapshots
+-- service)
 abbrev pub Snaps : Type 0
 Snaps = finmap.FinMap nat_cmp (Option ℕ)
 
@@ -33,6 +34,7 @@ has_child snaps number = list_any (λ entry. is_number number entry.1) (finmap.e
 abbrev pub accepts : Snaps → ℕ → Option ℕ → Bool
 accepts snaps number parent = not (is_held snaps number) && is_parent_held snaps parent
 
--- the contents don't refuse that the snapshot is removed (containerd snapshots service: a parent isn't removed before its children)
+-- the contents don't refuse that the snapshot is removed (containerd snapshots service: a parent
+-- isn't removed before its children)
 abbrev pub gives_up : Snaps → ℕ → Bool
 gives_up snaps number = is_held snaps number && not (has_child snaps number)

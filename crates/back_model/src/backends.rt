@@ -29,7 +29,7 @@ pub struct Backends<S: SnapBackend, B: BlobBackend, I: IngestBackend> {
 }
 
 impl<S: SnapBackend, B: BlobBackend, I: IngestBackend> Backends<S, B, I> {
-    /// No shard, and these blobs and ingests. It takes no memory.
+    /// No shard, and these blobs and ingests.
     pub fn new(alloc: Global, blobs: B, ingests: I) -> Backends<S, B, I>
         ensures { result ≡ record { shards = []; blobs = blobs; ingests = ingests } }
     {

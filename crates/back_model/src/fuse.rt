@@ -22,7 +22,7 @@ impl Fuse {
         }
     }
 
-    // Passes so many calls, fails the next, and passes all later ones.
+    // Passes this number of calls, fails the next, and passes all later ones.
     pub(crate) fn arm(&mut self, passes: u64)
         ensures { self.new ≡ armed_for passes self.old }
     {

@@ -1,4 +1,4 @@
-//! Backends of blobs, snapshots and ingests as models in memory, with devices that may fail.
+//! Backends of blobs, snapshots and ingests, as models whose devices may fail.
 #![tactic(auto)]
 
 mod backends;

@@ -22,7 +22,7 @@ pub trait SnapBackend: Send + Drop {
     /// How often its device has failed.
     ghost fails: { Self → ℕ };
 
-    /// An empty one. It touches no device and takes no memory.
+    /// An empty one. It touches no device.
     fn fresh(alloc: Global) -> Self
         ensures empty { contents result ≡ finmap.empty }
         ensures none { fails result ≡ 0 };
@@ -36,7 +36,7 @@ pub trait SnapBackend: Send + Drop {
         ensures err { OnErr result (contents self.new ≡ contents self.old) }
         ensures fails { fails self.new ≡ fails self.old + make_fails result };
 
-    /// Removes a snapshot that is no parent. It takes no memory.
+    /// Removes a snapshot that is no parent.
     fn remove(&mut self, number: u64) -> Result<(), RemoveFault>
         ensures fault { Removes result (is_held (contents self.old) number)
             (has_child (contents self.old) number) }
@@ -70,7 +70,7 @@ pub trait BlobBackend: Send + Drop {
     /// How often its device has failed.
     ghost fails: { Self → ℕ };
 
-    /// An empty one. It touches no device and takes no memory.
+    /// An empty one. It touches no device.
     fn fresh(alloc: Global) -> Self
         ensures empty { contents result ≡ [] }
         ensures none { fails result ≡ 0 };
@@ -82,7 +82,7 @@ pub trait BlobBackend: Send + Drop {
         ensures err { OnErr result (contents self.new ≡ contents self.old) }
         ensures fails { fails self.new ≡ fails self.old + make_fails result };
 
-    /// Removes a blob. It takes no memory.
+    /// Removes a blob.
     fn remove(&mut self, digest: &Digest) -> Result<(), RemoveFault>
         ensures fault { Removes result (has_blob digest.now (contents self.old)) false }
         ensures ok { OnOk result (contents self.new ≡ without_blob digest.now (contents self.old)) }
@@ -111,7 +111,7 @@ pub trait IngestBackend: Send + Drop {
     /// How often its device has failed.
     ghost fails: { Self → ℕ };
 
-    /// An empty one. It touches no device and takes no memory.
+    /// An empty one. It touches no device.
     fn fresh(alloc: Global) -> Self
         ensures empty { contents result ≡ [] }
         ensures none { fails result ≡ 0 };
@@ -123,7 +123,7 @@ pub trait IngestBackend: Send + Drop {
         ensures err { OnErr result (contents self.new ≡ contents self.old) }
         ensures fails { fails self.new ≡ fails self.old + make_fails result };
 
-    /// Removes an ingest's object. It takes no memory.
+    /// Removes an ingest's object.
     fn remove(&mut self, number: u64) -> Result<(), RemoveFault>
         ensures fault { Removes result (has_number number (contents self.old)) false }
         ensures ok { OnOk result (contents self.new ≡ without_number number (contents self.old)) }
