@@ -1,4 +1,5 @@
--- The mark machine: what the workers of a marking may do, one event after another. Ours, unless a source stands beside.
+-- The mark machine: what the workers of a marking may do, one event after another. Ours, unless a
+-- source stands beside.
 use Rattle.std.specs.Prelude.{◌≡◌, ℕ, ◌+◌, ◌<◌, ◌%◌, if◌then◌else◌, List, [], ◌∷◌, ◌++◌, length, replicate, take, slice_get, slice_index_or, slice_set, Option, Some, None}
 use Rattle.mark_core.specs.declared.graph.Graph.{Graph}
 use Rattle.mark_core.specs.declared.event.Hand.{Hand}

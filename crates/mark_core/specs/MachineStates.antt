@@ -5,7 +5,8 @@ use Rattle.mark_core.specs.declared.event.MarkEvent.{MarkEvent}
 use Rattle.mark_core.specs.declared.machine_state.MachineState.{MachineState}
 use Rattle.mark_core.specs.Machine.{Machine, Step, IsForbidden}
 
--- the state that the code's machine stands for: its bitmap says the same as its list, and is left out
+-- the state that the code's machine stands for: its bitmap says the same as its list, and is left
+-- out
 abbrev pub machine_of : MachineState → Machine
 machine_of b = record { claimed = b.found.order.items; workers = b.worker_states.items }
 

@@ -1,4 +1,5 @@
--- What holds of each state of the mark machine, and of an idle one. Ours, unless a source stands beside.
+-- What holds of each state of the mark machine, and of an idle one. Ours, unless a source stands
+-- beside.
 use Rattle.std.specs.Prelude.{◌≡◌, ℕ, ◌+◌, ◌≤◌, ◌↔◌, List, [], ◌∷◌, All, Contains, sum_by, Option, Some, None}
 use Rattle.mark_core.specs.declared.graph.Graph.{Graph}
 use Rattle.mark_core.specs.declared.event.Hand.{Hand}

@@ -1,4 +1,4 @@
-//! A numbered graph, its marking by one thread, and the mark machine: what workers may do.
+//! A numbered graph, its marking by one thread, and the mark machine.
 #![tactic(auto)]
 
 mod event;

@@ -10,7 +10,7 @@ use crate::graph::Graph;
 use crate::machine_state::MachineState;
 use std::alloc::AllocError;
 
-// The edge of a node at a place, if it has so many.
+// The edge of a node at a place, if it has one there.
 fn edge_at(graph: &Graph, node: u32, place: usize) -> Option<u32>
     ensures edge { result ≡ slice_get (targets graph.now node) place }
     ensures small { IfSome result (λ _. place < 2 ^ 62) }
