@@ -1,7 +1,13 @@
 -- Workers that come back from their threads are those of the marking.
-use Rattle.std.proofs.Common.{◌≡◌, ℕ, ◌<◌, List, [], ◌∷◌, length, get_or, map, refl, sym, ap, ◌∙◌, subst, arith}
+use Rattle.std.proofs.Common.{◌≡◌, ℕ, ◌<◌, List, [], ◌∷◌, ◌++◌, length, get_or, map, refl, sym, ap, ◌∙◌, subst, arith}
 use Rattle.std.specs.Arc.{arc_value}
-use Rattle.std.proofs.lemmas.List.{length-map, get_or-map}
+use Rattle.std.proofs.lemmas.List.{length-map, length-append, get_or-map, get_or_append_left}
+use Rattle.std.specs.Prelude.{All}
+use Rattle.std.proofs.lemmas.List.Elements.{All-push, All-take}
+use lib.Seq.{take-append_seam}
+use Rattle.std.proofs.Math.Seq.{get_or-append_seam}
+use native.Mathlib.Decide.{dec_lt}
+use mathlib.Core.Logic.{dite}
 use Rattle.std.specs.declared.thread.PromisedHandle.{PromisedHandle}
 use Rattle.crossbeam_deque.specs.Handles.{stealer_deque}
 use Rattle.steal_mark.specs.declared.start.roots.Rest.{Rest}
@@ -51,6 +57,43 @@ all_worked ms rs hs is many each =
           subst (λ z. SameMarker z (get_or rs k b)) at x.2;
       sound = λ k d h. (each k d (omega arith)).3;
     }
+
+-- one worker more, which took turns in the calling thread
+pub worked_and : (ms rs : List Marker) (own last : Marker) → AreWorked ms rs
+    → SameMarker own last → IsSound last → AreWorked (ms ++ own ∷ []) (rs ++ last ∷ [])
+worked_and ms rs own last w same sound =
+    let m = w.many in
+    let l = length-append ms (own ∷ []) in
+    let l' = length-append rs (last ∷ []) in
+    record {
+      many = omega arith;
+      same = λ k a b h. dite (dec_lt k (length ms))
+          (λ (left : k < length ms).
+          let e = get_or_append_left ms (own ∷ []) a k left in
+          let e' = get_or_append_left rs (last ∷ []) b k (omega arith) in
+          rw (e, e') (w.same k a b left))
+          (λ right.
+          let at : k ≡ length ms = omega arith in
+          let e : get_or (ms ++ own ∷ []) k a ≡ own =
+          ap (λ j. get_or (ms ++ own ∷ []) j a) at ∙ get_or-append_seam ms own [] a in
+          let e' : get_or (rs ++ last ∷ []) k b ≡ last =
+          ap (λ j. get_or (rs ++ last ∷ []) j b) (at ∙ sym m) ∙ get_or-append_seam rs last [] b in
+          rw (e, e') same);
+      sound = All-push IsSound rs last w.sound sound;
+    }
+
+-- what holds of all holds of all but the last
+pub all_but_last : (P : Marker → Type 0) (ms : List Marker) (own : Marker)
+    → All P (ms ++ own ∷ []) → All P ms
+all_but_last P ms own h =
+    subst (All P) (take-append_seam ms (own ∷ [])) (All-take P (length ms) (ms ++ own ∷ []) h)
+
+-- and of the last
+pub the_last : (P : Marker → Type 0) (ms : List Marker) (own : Marker)
+    → All P (ms ++ own ∷ []) → P own
+the_last P ms own h =
+    let l = length-append ms (own ∷ []) in
+    subst P (get_or-append_seam ms own [] own) (h (length ms) own (omega arith))
 
 -- a list of no length is empty
 pub empty_is : {A : Type 0} (xs : List A) → length xs ≡ 0 → xs ≡ []
