@@ -14,10 +14,14 @@ pub record Told : Type 0 where
   pub kept : Bool
   pub path : List PathStep
 
--- the answer of a line: an event's, or what keeps the row that the line asks for
+-- the answer to a question, each in the words of its own
+pub data Telling : Type 0 where
+  explained : Told → Telling
+
+-- the answer to a line: an event's, or a question's
 pub data LineAnswer : Type 0 where
   of_event : Answer → LineAnswer
-  explained : Told → LineAnswer
+  of_question : Telling → LineAnswer
 
 -- The question has no fault, and this explains the row that it asks for, at its moment. The texts
 -- are the namespace, the type, the name and the moment.

@@ -5,7 +5,7 @@ use Rattle.serde_json.specs.Data.{Data, boolean, string, object, no_members, mem
 use Rattle.serde_json.specs.Written.{compact_text}
 use Rattle.meta_types.specs.Text.{Text}
 use Rattle.meta_types.specs.Resources.{type_of, id_of}
-use Rattle.meta_types.specs.Questions.{Told, LineAnswer, of_event, explained}
+use Rattle.meta_types.specs.Questions.{Told, Telling, explained, LineAnswer, of_event, of_question}
 use Rattle.meta_types.specs.declared.resource.Mode.{Mode}
 use Rattle.meta_types.specs.declared.resource.Mode.TheVariants.{Full, Flat}
 use Rattle.meta_types.specs.declared.object.Object.{Object}
@@ -89,7 +89,11 @@ tokens_if key (Some d) = member_tokens key d
 unfoldable pub told_text : Told → Text
 told_text told = compact_text (told_data told)
 
+-- the text of the answer to a question
+abbrev pub telling_text : Telling → Text
+telling_text (explained told) = told_text told
+
 -- the text of what a line is answered
 abbrev pub line_answer_text : LineAnswer → Text
 line_answer_text (of_event answer) = answer_text answer
-line_answer_text (explained told) = told_text told
+line_answer_text (of_question telling) = telling_text telling
