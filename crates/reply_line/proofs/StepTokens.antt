@@ -9,7 +9,8 @@ use Rattle.meta_types.specs.Text.{Text}
 use Rattle.meta_types.specs.Questions.{Told}
 use Rattle.gc_report.specs.Reports.{member_if}
 use Rattle.gc_report.specs.Writing.{tokens_of, member_tokens, Adds}
-use Rattle.reply_line.specs.Explained.{told_data, told_text, tokens_if}
+use Rattle.reply_line.specs.Explained.{told_data, told_text}
+use Rattle.reply_line.specs.StepWriting.{tokens_if}
 
 -- member by member, each of three there or left out
 pub step_tokens : (by name type : Text) (expire label mode : Option Data) → tokens_of (object

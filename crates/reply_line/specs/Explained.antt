@@ -1,6 +1,6 @@
 -- The JSON of explanations, and their text. Members stand in the byte order of their names. Ours,
 -- unless a source stands beside.
-use Rattle.std.specs.Prelude.{true, List, [], Option, Some, None, codes, option_map}
+use Rattle.std.specs.Prelude.{true, Option, Some, None, codes, option_map}
 use Rattle.serde_json.specs.Data.{Data, boolean, string, object, no_members, member}
 use Rattle.serde_json.specs.Written.{compact_text}
 use Rattle.meta_types.specs.Text.{Text}
@@ -14,9 +14,7 @@ use Rattle.meta_types.specs.declared.explanation.By.{By}
 use Rattle.meta_types.specs.declared.explanation.By.TheVariants.{Root, Ended, Target, Snapshot, Resource, Expected, Parent, Label}
 use Rattle.meta_types.specs.declared.explanation.PathStep.{PathStep}
 use Rattle.meta_types.specs.declared.explanation.Explanation.{Explanation}
-use Rattle.json.specs.Token.{Token}
 use Rattle.gc_report.specs.Reports.{list_data, member_if}
-use Rattle.gc_report.specs.Writing.{member_tokens}
 use Rattle.reply_line.specs.Replies.{answer_text}
 
 -- ---- steps
@@ -79,11 +77,6 @@ told_data told = object
 -- what an explanation of the program tells
 abbrev pub told_of : Explanation → Told
 told_of explanation = record { kept = explanation.kept; path = explanation.path.items }
-
--- the tokens of a member that may be left out
-abbrev pub tokens_if : Text → Option Data → List Token
-tokens_if key None = []
-tokens_if key (Some d) = member_tokens key d
 
 -- the text of an explanation, without a line feed
 unfoldable pub told_text : Told → Text

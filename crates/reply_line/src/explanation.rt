@@ -4,7 +4,8 @@ ghost use Rattle.serde_json.specs.Data.{string};
 ghost use Rattle.meta_types.specs.Faults.{Refuses};
 ghost use Rattle.gc_report.specs.Reports.{list_data};
 ghost use Rattle.gc_report.specs.Writing.{tokens_of, member_tokens, Adds};
-ghost use Rattle.reply_line.specs.Explained.{by_text, label_in, mode_text, mode_in, object_name, object_type, step_data, told_of, told_text, tokens_if};
+ghost use Rattle.reply_line.specs.Explained.{by_text, label_in, mode_text, mode_in, object_name, object_type, step_data, told_of, told_text};
+ghost use Rattle.reply_line.specs.StepWriting.{tokens_if};
 
 use crate::parts::type_text;
 use crate::reply::into_text;
