@@ -8,7 +8,7 @@ pub mod Collected
 pub mod Backends
 pub mod Reports
 pub mod Promises
--- II. What requests do: what each of them comes to, what each event answers and leaves, which stores are sound, how it is explained that a row is kept, and what a question is told.
+-- II. What requests do: what each of them comes to, what each event answers and leaves, which stores are sound, how it is explained that a row is kept, what would go without it, and what a question is told.
 pub mod Ops
 pub mod Changes
 pub mod Requests
@@ -19,6 +19,7 @@ pub mod Finding
 pub mod EachKind
 pub mod Reasons
 pub mod Explanations
+pub mod Impacts
 pub mod Questions
 -- III. The words that the others use.
 pub mod Text

@@ -1,0 +1,93 @@
+-- What would go without a row. Ours, unless a source stands beside.
+use Rattle.std.specs.Prelude.{◌≡◌, ℕ, ℤ, Bool, false, not, ◌&&◌, ◌||◌, ◌==◌, List, filter, Option, Some, None, is_some, bytes_eq}
+use Rattle.std.specs.List.{list_any}
+use Rattle.std.specs.Option.{option_map_or}
+use Rattle.meta_types.specs.Text.{Text, is_short_name}
+use Rattle.meta_types.specs.Time.{instant_of}
+use Rattle.meta_types.specs.Faults.{least_of}
+use Rattle.meta_types.specs.Limits.{is_too_large}
+use Rattle.meta_types.specs.Rows.{State}
+use Rattle.meta_types.specs.Backends.{BackNames}
+use Rattle.meta_types.specs.Reports.{Report, Plans}
+use Rattle.meta_types.specs.Ops.{Outcome}
+use Rattle.meta_types.specs.Requests.{outcome}
+use Rattle.meta_types.specs.Explanations.{object_of}
+use Rattle.meta_types.specs.declared.fault.Fault.{Fault}
+use Rattle.meta_types.specs.declared.object.Object.{Object}
+use Rattle.meta_types.specs.declared.object.Object.TheVariants.{Image, Container, Lease, Held}
+use Rattle.meta_types.specs.declared.resource.Resource.TheVariants as R
+use Rattle.meta_types.specs.declared.request.Request.{Request}
+use Rattle.meta_types.specs.declared.request.Request.TheVariants.{ImageRemove, ContainerRemove, LeaseRemove, ContentRemove, IngestAbort, SnapRemove}
+
+-- ---- the removal of a row
+
+-- the request that removes the row of this namespace, kind and name
+abbrev pub removal_of : Text → Object → Request
+removal_of ns (Image name) = ImageRemove ns name
+removal_of ns (Container name) = ContainerRemove ns name
+removal_of ns (Lease id) = LeaseRemove ns id
+removal_of ns (Held (R.Content digest)) = ContentRemove ns digest
+removal_of ns (Held (R.Snapshot snapshotter name)) = SnapRemove ns snapshotter name
+removal_of ns (Held (R.Ingest name)) = IngestAbort ns name
+
+-- what that request comes to
+abbrev pub removed : State → Text → Object → Outcome
+removed state ns object = outcome state (removal_of ns object)
+
+-- the row isn't there; or it can't be removed, or there are too many nodes to mark
+abbrev pub impact_fault : State → Text → Object → Option Fault
+impact_fault state ns object =
+    let o = removed state ns object in
+    least_of false o.missing false (o.forbidden || is_too_large state.records)
+
+-- the same of a question's texts, where one may not be allowed
+abbrev pub impact_question_fault : State → Text → Text → Text → Text → Option Fault
+impact_question_fault state ns kind name at =
+    least_of (not (is_short_name ns && is_some (object_of kind name) && is_some (instant_of at)))
+    (option_map_or (λ object. (removed state ns object).missing) (object_of kind name) false) false
+    (option_map_or (λ object. (removed state ns object).forbidden) (object_of kind name) false || is_too_large state.records)
+
+-- ---- what goes then, and doesn't now
+
+-- the names of the rows that would go
+pub record ImpactRows : Type 0 where
+  pub content : List (Text × Text)
+  pub ingests : List (Text × Text)
+  pub snapshots : List (Text × Text × Text)
+
+-- the names of the objects and of the rows that would go
+pub record Impact : Type 0 where
+  pub backend : BackNames
+  pub removed : ImpactRows
+
+abbrev pub is_pair : Text × Text → Text × Text → Bool
+is_pair a b = bytes_eq a.0 b.0 && bytes_eq a.1 b.1
+
+abbrev pub is_triple : Text × Text × Text → Text × Text × Text → Bool
+is_triple a b = bytes_eq a.0 b.0 && bytes_eq a.1 b.1 && bytes_eq a.2 b.2
+
+abbrev pub is_object : Text × ℕ → Text × ℕ → Bool
+is_object a b = bytes_eq a.0 b.0 && a.1 == b.1
+
+-- a list without what another has, in its order
+abbrev pub less : {X : Type 0} → (X → X → Bool) → List X → List X → List X
+less is list other = filter (λ x. not (list_any (λ y. is y x) other)) list
+
+-- what the second report names, and the first doesn't; both name images and leases that ended, which nothing keeps
+abbrev pub impact_of : Report → Report → Impact
+impact_of now then = record {
+  backend = record {
+    blobs = less bytes_eq then.backend.blobs now.backend.blobs;
+    ingests = less (λ a b. a == b) then.backend.ingests now.backend.ingests;
+    snapshots = less is_object then.backend.snapshots now.backend.snapshots;
+  };
+  removed = record {
+    content = less is_pair then.removed.content now.removed.content;
+    ingests = less is_pair then.removed.ingests now.removed.ingests;
+    snapshots = less is_triple then.removed.snapshots now.removed.snapshots;
+  };
+}
+
+-- whatever dry runs of the two stores report, this is what that of the second names, and that of the first doesn't
+pub record IsImpact (now then : State) (at : ℤ) (impact : Impact) : Type 0 where
+  pub each : (here there : Report) → Plans now at here → Plans then at there → impact ≡ impact_of here there
