@@ -35,3 +35,4 @@ pub mod ObjectsPromised
 pub mod ChildrenFirst
 pub mod EachKind
 pub mod Finding
+mod WithoutRow

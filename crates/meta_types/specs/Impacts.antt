@@ -1,5 +1,6 @@
 -- What would go without a row. Ours, unless a source stands beside.
-use Rattle.std.specs.Prelude.{◌≡◌, ℕ, ℤ, Bool, false, not, ◌&&◌, ◌||◌, ◌==◌, List, filter, Option, Some, None, is_some, bytes_eq}
+use Rattle.std.specs.Prelude.{◌≡◌, ℕ, ℤ, Bool, false, not, ◌&&◌, ◌||◌, ◌==◌, List, filter, Option}
+use Rattle.std.specs.Prelude.{is_some, bytes_eq}
 use Rattle.std.specs.List.{list_any}
 use Rattle.std.specs.Option.{option_map_or}
 use Rattle.meta_types.specs.Text.{Text, is_short_name}
@@ -7,8 +8,9 @@ use Rattle.meta_types.specs.Time.{instant_of}
 use Rattle.meta_types.specs.Faults.{least_of}
 use Rattle.meta_types.specs.Limits.{is_too_large}
 use Rattle.meta_types.specs.Rows.{State}
+use Rattle.meta_types.specs.Paths.{Thing, IsPath}
 use Rattle.meta_types.specs.Backends.{BackNames}
-use Rattle.meta_types.specs.Reports.{Report, Plans}
+use Rattle.meta_types.specs.Reports.{Report, Removed, Plans}
 use Rattle.meta_types.specs.Ops.{Outcome}
 use Rattle.meta_types.specs.Requests.{outcome}
 use Rattle.meta_types.specs.Explanations.{object_of}
@@ -17,18 +19,18 @@ use Rattle.meta_types.specs.declared.object.Object.{Object}
 use Rattle.meta_types.specs.declared.object.Object.TheVariants.{Image, Container, Lease, Held}
 use Rattle.meta_types.specs.declared.resource.Resource.TheVariants as R
 use Rattle.meta_types.specs.declared.request.Request.{Request}
-use Rattle.meta_types.specs.declared.request.Request.TheVariants.{ImageRemove, ContainerRemove, LeaseRemove, ContentRemove, IngestAbort, SnapRemove}
+use Rattle.meta_types.specs.declared.request.Request.TheVariants as Q
 
 -- ---- the removal of a row
 
 -- the request that removes the row of this namespace, kind and name
 abbrev pub removal_of : Text → Object → Request
-removal_of ns (Image name) = ImageRemove ns name
-removal_of ns (Container name) = ContainerRemove ns name
-removal_of ns (Lease id) = LeaseRemove ns id
-removal_of ns (Held (R.Content digest)) = ContentRemove ns digest
-removal_of ns (Held (R.Snapshot snapshotter name)) = SnapRemove ns snapshotter name
-removal_of ns (Held (R.Ingest name)) = IngestAbort ns name
+removal_of ns (Image name) = Q.ImageRemove ns name
+removal_of ns (Container name) = Q.ContainerRemove ns name
+removal_of ns (Lease id) = Q.LeaseRemove ns id
+removal_of ns (Held (R.Content digest)) = Q.ContentRemove ns digest
+removal_of ns (Held (R.Snapshot snapshotter name)) = Q.SnapRemove ns snapshotter name
+removal_of ns (Held (R.Ingest name)) = Q.IngestAbort ns name
 
 -- what that request comes to
 abbrev pub removed : State → Text → Object → Outcome
@@ -45,7 +47,8 @@ abbrev pub impact_question_fault : State → Text → Text → Text → Text →
 impact_question_fault state ns kind name at =
     least_of (not (is_short_name ns && is_some (object_of kind name) && is_some (instant_of at)))
     (option_map_or (λ object. (removed state ns object).missing) (object_of kind name) false) false
-    (option_map_or (λ object. (removed state ns object).forbidden) (object_of kind name) false || is_too_large state.records)
+    (option_map_or (λ object. (removed state ns object).forbidden) (object_of kind name) false
+    || is_too_large state.records)
 
 -- ---- what goes then, and doesn't now
 
@@ -64,7 +67,7 @@ abbrev pub is_pair : Text × Text → Text × Text → Bool
 is_pair a b = bytes_eq a.0 b.0 && bytes_eq a.1 b.1
 
 abbrev pub is_triple : Text × Text × Text → Text × Text × Text → Bool
-is_triple a b = bytes_eq a.0 b.0 && bytes_eq a.1 b.1 && bytes_eq a.2 b.2
+is_triple a b = (bytes_eq a.0 b.0 && bytes_eq a.1 b.1) && bytes_eq a.2 b.2
 
 abbrev pub is_object : Text × ℕ → Text × ℕ → Bool
 is_object a b = bytes_eq a.0 b.0 && a.1 == b.1
@@ -73,21 +76,36 @@ is_object a b = bytes_eq a.0 b.0 && a.1 == b.1
 abbrev pub less : {X : Type 0} → (X → X → Bool) → List X → List X → List X
 less is list other = filter (λ x. not (list_any (λ y. is y x) other)) list
 
--- what the second report names, and the first doesn't; both name images and leases that ended, which nothing keeps
-abbrev pub impact_of : Report → Report → Impact
-impact_of now then = record {
-  backend = record {
-    blobs = less bytes_eq then.backend.blobs now.backend.blobs;
-    ingests = less (λ a b. a == b) then.backend.ingests now.backend.ingests;
-    snapshots = less is_object then.backend.snapshots now.backend.snapshots;
-  };
-  removed = record {
-    content = less is_pair then.removed.content now.removed.content;
-    ingests = less is_pair then.removed.ingests now.removed.ingests;
-    snapshots = less is_triple then.removed.snapshots now.removed.snapshots;
-  };
+-- objects without those of another report
+abbrev pub objects_less : BackNames → BackNames → BackNames
+objects_less objects other = record {
+  blobs = less bytes_eq objects.blobs other.blobs;
+  ingests = less (λ a b. a == b) objects.ingests other.ingests;
+  snapshots = less is_object objects.snapshots other.snapshots;
 }
 
--- whatever dry runs of the two stores report, this is what that of the second names, and that of the first doesn't
+-- rows without those of another report; images and leases go in both, where they ended
+abbrev pub rows_less : Removed → Removed → ImpactRows
+rows_less rows other = record {
+  content = less is_pair rows.content other.content;
+  ingests = less is_pair rows.ingests other.ingests;
+  snapshots = less is_triple rows.snapshots other.snapshots;
+}
+
+-- what the second report names, and the first doesn't
+abbrev pub impact_of : Report → Report → Impact
+impact_of here there = record {
+  backend = objects_less there.backend here.backend;
+  removed = rows_less there.removed here.removed;
+}
+
+-- whatever dry runs of the two stores report, this is what the second names and the first doesn't
 pub record IsImpact (now then : State) (at : ℤ) (impact : Impact) : Type 0 where
-  pub each : (here there : Report) → Plans now at here → Plans then at there → impact ≡ impact_of here there
+  pub each : (here there : Report) → Plans now at here → Plans then at there
+      → impact ≡ impact_of here there
+
+-- a removal makes no path, so what goes now, goes after it
+abbrev pub ARemovalMakesNoPath : Type 0
+ARemovalMakesNoPath = (state : State) (ns : Text) (object : Object) (at : ℤ)
+    → (last : Thing) (path : List Thing)
+    → IsPath (removed state ns object).after.records at last path → IsPath state.records at last path

@@ -2,6 +2,7 @@
 //! every collection promises, and compute worked examples; nothing else forces them.
 ghost use Rattle.meta_types.specs.Promises.{SomeTestTells, ACollectionHasOneOutcome, ADryRunHasOneReport, NothingReachedIsRemoved, WhatIsNotReachedIsRemoved, OwnedObjectsStay, UnownedObjectsGo, RemovedSnapshotsAreChildfirst, PlannedSnapshotsAreChildfirst, ASecondCollectionChangesNothing, ACollectedStoreIsSound, ThisTestTells};
 ghost use Rattle.meta_types.specs.EachKind.{ACollectionDividesTheRows, ACollectionDividesAll, ADryRunTellsWhatACollectionWould};
+ghost use Rattle.meta_types.specs.Impacts.{ARemovalMakesNoPath};
 ghost use Rattle.meta_types.specs.Worked.Times.{TimesAreRead, OthersAreNoTimes};
 ghost use Rattle.meta_types.specs.Worked.Images.{AnImageKeepsItsContent, ACycleGoes, ACycleUnderAnImageStays, BothModesAreScanned, AFlatLeaseFollowsNoLabels, ALeaseHoldsAtItsExpiry, AnExpiredLeaseGoes};
 ghost use Rattle.meta_types.specs.Worked.Objects.{AFlatLeaseKeepsParents, ChildrenGoBeforeParents, AnIngestHoldsForADay, AnIngestGoesAfterADay, OnlyReferenceKeysReference, ContainersAndRootLabelsHold};
@@ -60,6 +61,11 @@ pub fn collections_divide_each_kind()
     ensures rows { ACollectionDividesTheRows }
     ensures all { ACollectionDividesAll }
     ensures dry_runs { ADryRunTellsWhatACollectionWould }
+{}
+
+/// A path of the store without a row is a path with it: a removal keeps nothing that went.
+pub fn a_removal_makes_no_path()
+    ensures { ARemovalMakesNoPath }
 {}
 
 /// Times and other texts, as RFC 3339 and our years read them.
