@@ -1,2 +1,3 @@
 pub mod Adding
 mod LeftOut
+mod Among

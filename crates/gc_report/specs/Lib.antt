@@ -1,3 +1,4 @@
 pub mod Reports
 pub mod Empty
 pub mod Writing
+pub mod Impacts

@@ -1,7 +1,9 @@
-//! The report of a collection, and its JSON.
+//! The report of a collection, what would go without a row, and the JSON of both.
 #![tactic(auto)]
 
 mod copies;
+mod impact;
+mod less;
 mod objects;
 mod report;
 mod rows;
@@ -9,6 +11,7 @@ mod same;
 mod writing;
 
 pub use copies::copy_names;
+pub use impact::{Impact, ImpactRows};
 pub use objects::Objects;
 pub use report::Report;
 pub use rows::{Kept, Removed};
