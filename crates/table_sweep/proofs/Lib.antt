@@ -6,7 +6,8 @@ pub mod Counted
 pub mod Owning
 pub mod OwnedBlobs
 pub mod Searched
-pub mod Named
+pub mod FirstPlace
+pub mod Halved
 pub mod Steps
 pub mod Deep
 pub mod SortedObjects

@@ -8,7 +8,7 @@ use Rattle.std.proofs.lemmas.List.FromFn.{map-range_with_len_more}
 use Rattle.std.proofs.lemmas.Option.{slice_get-map}
 use Rattle.table_sweep.specs.Depths.{Listed, above_of, depth_in}
 use Rattle.table_sweep.specs.SnapshotPlaces.{above_from, above_place, deep, depths_to, has_name, name_of}
-use Rattle.table_sweep.proofs.Named.{AreTied, tied}
+use Rattle.table_sweep.proofs.FirstPlace.{AreTied, tied}
 
 -- ---- one step more
 

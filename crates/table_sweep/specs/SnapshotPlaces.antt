@@ -1,38 +1,31 @@
 -- Where backend snapshots and their parents stand in a list, and depths by places. Ours, unless a source stands beside.
-use Rattle.std.specs.Prelude.{◌≡◌, ℕ, suc, zero, Bool, ◌&&◌, ◌==◌, bytes_eq, is_some, List, [], ◌∷◌, ◌++◌, map, length, position, slice_get, Option, option_and_then, if◌then◌else◌}
+use Rattle.std.specs.Prelude.{◌≡◌, ℕ, suc, zero, ◌+◌, ◌<◌, Bool, true, ◌&&◌, ◌==◌, bytes_eq, List, map, length, position, slice_get, slice_index_or, Option, option_and_then}
 use Rattle.std.specs.Option.{option_map_or}
+use Rattle.std.specs.Ordering.{is_lt, nat_cmp, ordering_then}
+use Rattle.std.specs.declared.cmp.Ordering.{Ordering}
 use Rattle.std.specs.List.{range_with_len}
-use Rattle.std.specs.Map.{lookup}
+use Rattle.meta_types.specs.Text.{Text, text_cmp}
 use Rattle.table_sweep.specs.Depths.{Listed}
-use Rattle.table_sweep.specs.declared.places.SnapName.{SnapName}
-
--- the names are the same
-abbrev pub is_name : SnapName → SnapName → Bool
-is_name a b = bytes_eq a.snapshotter b.snapshotter && a.number == b.number
-
--- the place that a name has
-abbrev pub place_in : List (SnapName × ℕ) → SnapName → Option ℕ
-place_in places name = lookup (is_name name) places
-
--- the places with one more, unless the name has one
-abbrev pub put_place : List (SnapName × ℕ) → SnapName → ℕ → List (SnapName × ℕ)
-put_place places name place = if is_some (place_in places name) then places else places ++ (name, place) ∷ []
 
 -- the snapshot has the name
-abbrev pub has_name : SnapName → Listed → Bool
-has_name name s = bytes_eq s.0 name.snapshotter && s.1 == name.number
-
--- each name has the place of the first snapshot with it
-abbrev pub Finds : List (SnapName × ℕ) → List Listed → Type 0
-Finds places snapshots = (name : SnapName) → place_in places name ≡ position (has_name name) snapshots
+abbrev pub has_name : Text × ℕ → Listed → Bool
+has_name name s = bytes_eq s.0 name.0 && s.1 == name.1
 
 -- the name of the snapshotter and number
-abbrev pub name_of : Listed → ℕ → SnapName
-name_of snap number = record { snapshotter = snap.0; number = number }
+abbrev pub name_of : Listed → ℕ → Text × ℕ
+name_of snap number = (snap.0, number)
 
--- the place of the snapshot's parent, by the places of names
-abbrev pub above_in : List (SnapName × ℕ) → Listed → Option ℕ
-above_in places snap = option_and_then (λ number. place_in places (name_of snap number)) snap.2
+-- by snapshotter, then by number
+abbrev pub name_cmp : Text × ℕ → Text × ℕ → Ordering
+name_cmp a b = ordering_then (text_cmp a.0 b.0) (nat_cmp a.1 b.1)
+
+-- as backends list them
+abbrev pub stands_before : Listed → Listed → Bool
+stands_before a b = is_lt (name_cmp (name_of a a.1) (name_of b b.1))
+
+-- each snapshot stands before the next
+abbrev pub AreListed : List Listed → Type 0
+AreListed snapshots = (k : ℕ) (d : Listed) → k + 1 < length snapshots → stands_before (slice_index_or snapshots k d) (slice_index_or snapshots (k + 1) d) ≡ true
 
 -- the place of the snapshot's parent in the list (containerd snapshots service, parents)
 abbrev pub above_place : List Listed → Listed → Option ℕ

@@ -1,107 +1,87 @@
-//! Where backend snapshots and their parents stand in the backend's list.
-ghost use Rattle.std.specs.Prelude.{◌≡◌, [], map, OnOk, None, IfOk};
+//! Where the parents of backend snapshots stand in the backend's list.
+ghost use Rattle.std.specs.Prelude.{◌≡◌, true, map, position, None, IfOk};
 ghost use Rattle.meta_types.specs.Faults.{Refuses};
-ghost use Rattle.table_sweep.specs.SnapshotPlaces.{put_place, place_in, Finds, above_in, above_place};
+ghost use Rattle.table_sweep.specs.SnapshotPlaces.{has_name, name_of, name_cmp, stands_before, AreListed, above_place};
 
 use crate::depths::BackSnap;
-use indexmap::IndexMap;
 use meta_types::{Fault, ShortName};
-use std::alloc::{AllocError, AllocFailed, Global};
-use std::marker::Model;
+use std::alloc::Global;
+use std::cmp::Ordering;
 
-// The name of a backend snapshot.
-#[derive(PartialEq, Eq, Hash, Drop)]
-pub(crate) struct SnapName {
-    pub(crate) snapshotter: ShortName,
-    pub(crate) number: u64,
-}
-
-// Names of snapshots, each once, with a place in the backend's list.
-#[derive(Drop)]
-struct Places {
-    places: IndexMap<SnapName, usize>,
-}
-
-impl Model for Places {
-    ghost use Rattle.std.specs.Prelude.{List, ℕ};
-    ghost use Rattle.table_sweep.specs.declared.places.SnapName.{SnapName};
-
-    ghost Value = { List (SnapName × ℕ) };
-
-    ghost view = { λ p. p.places.entries };
-}
-
-impl Places {
-    fn with_room(alloc: Global, count: usize) -> Result<Places, AllocError>
-        ensures { IfOk result (λ p. p ≡ []) }
-    {
-        Ok(Places {
-            places: IndexMap::with_capacity(alloc, count)?,
-        })
-    }
-
-    // Gives the name the place, unless it has one.
-    fn add(&mut self, name: SnapName, place: usize) -> Result<(), AllocFailed<(SnapName, usize)>>
-        ensures { OnOk result (self.new ≡ put_place self.old name place) }
-    {
-        if self.places.get(&name).is_none() {
-            self.places.insert(name, place)?;
-        }
-        Ok(())
-    }
-
-    fn place(&self, name: &SnapName) -> Option<usize>
-        ensures { result ≡ place_in self.now name.now }
-    {
-        self.places.get(name).copied()
-    }
-}
-
-// The place of the first snapshot of each name.
-fn places_of(alloc: Global, snapshots: &[BackSnap]) -> Result<Places, Fault>
-    ensures fault { Refuses result None }
-    ensures ok { IfOk result (λ places. Finds places snapshots.now) }
+// How a snapshot's name compares with another: by snapshotter, then by number.
+fn compare(snap: &BackSnap, snapshotter: &ShortName, number: u64) -> Ordering
+    ensures { result ≡ name_cmp (name_of snap.now snap.now.1) (snapshotter.now, number) }
 {
-    let mut places = Places::with_room(alloc, snapshots.len())?;
-    for (i, snap) in snapshots.iter().enumerate() {
-        let name = SnapName {
-            snapshotter: snap.0.copy()?,
-            number: snap.1,
-        };
-        places.add(name, i)?;
-    }
-    Ok(places)
+    snap.0.cmp(snapshotter).then(snap.1.cmp(&number))
 }
 
-fn above(places: &Places, snap: &BackSnap) -> Result<Option<usize>, Fault>
-    ensures fault { Refuses result None }
-    ensures ok { IfOk result (λ place. place ≡ above_in places.now snap.now) }
+// Whether each snapshot stands before the next, as backends list them.
+fn are_listed(snapshots: &[BackSnap]) -> bool
+    ensures { result ≡ true → AreListed snapshots.now }
+{
+    snapshots.is_sorted_by(
+        |a: &BackSnap, b: &BackSnap| -> bool
+            ensures { result ≡ stands_before a.now b.now }
+        { compare(a, &b.0, b.1).is_lt() },
+    )
+}
+
+// The place of a name, by halving.
+fn halved_place(snapshots: &[BackSnap], snapshotter: &ShortName, number: u64) -> Option<usize>
+    requires { AreListed snapshots.now }
+    ensures { result ≡ position (has_name (snapshotter.now, number)) snapshots.now }
+{
+    let found = snapshots.binary_search_by(
+        |snap: &BackSnap| -> Ordering
+            ensures { result
+                ≡ name_cmp (name_of snap.now snap.now.1) (snapshotter.entry.now, number) }
+        { compare(snap, snapshotter, number) },
+    );
+    found.ok()
+}
+
+fn is_named(snap: &BackSnap, snapshotter: &ShortName, number: u64) -> bool
+    ensures { result ≡ has_name (snapshotter.now, number) snap.now }
+{
+    snap.0 == *snapshotter && snap.1 == number
+}
+
+// The place of the first snapshot with a name, in a list in any order.
+fn first_place(snapshots: &[BackSnap], snapshotter: &ShortName, number: u64) -> Option<usize>
+    ensures { result ≡ position (has_name (snapshotter.now, number)) snapshots.now }
+{
+    for (i, snap) in snapshots.iter().enumerate() {
+        if is_named(snap, snapshotter, number) {
+            return Some(i);
+        }
+    }
+    None
+}
+
+fn place(
+    snapshots: &[BackSnap],
+    listed: bool,
+    snapshotter: &ShortName,
+    number: u64,
+) -> Option<usize>
+    requires { listed ≡ true → AreListed snapshots.now }
+    ensures { result ≡ position (has_name (snapshotter.now, number)) snapshots.now }
+{
+    if listed {
+        halved_place(snapshots, snapshotter, number)
+    } else {
+        first_place(snapshots, snapshotter, number)
+    }
+}
+
+fn above(snapshots: &[BackSnap], listed: bool, snap: &BackSnap) -> Option<usize>
+    requires { listed ≡ true → AreListed snapshots.now }
+    ensures { result ≡ above_place snapshots.now snap.now }
 {
     match snap.2 {
-        Some(number) => {
-            let snapshotter = snap.0.copy()?;
-            Ok(places.place(&SnapName {
-                snapshotter,
-                number,
-            }))
-        }
-        None => Ok(None),
+        Some(number) => place(snapshots, listed, &snap.0, number),
+        None => None,
     }
-}
-
-fn aboves_in(
-    alloc: Global,
-    places: &Places,
-    snapshots: &[BackSnap],
-) -> Result<Vec<Option<usize>>, Fault>
-    ensures fault { Refuses result None }
-    ensures ok { IfOk result (λ aboves. aboves.items ≡ map (above_in places.now) snapshots.now) }
-{
-    let mut aboves = Vec::with_capacity(alloc, snapshots.len())?;
-    for snap in snapshots {
-        aboves.push(above(places, snap)?)?;
-    }
-    Ok(aboves)
 }
 
 // For each snapshot the place of its parent, where it has one that is listed.
@@ -109,7 +89,10 @@ pub(crate) fn aboves_of(alloc: Global, snapshots: &[BackSnap]) -> Result<Vec<Opt
     ensures fault { Refuses result None }
     ensures ok { IfOk result (λ aboves. aboves.items ≡ map (above_place snapshots.now) snapshots.now) }
 {
-    let places = places_of(alloc, snapshots)?;
-    let aboves = aboves_in(alloc, &places, snapshots)?;
+    let listed = are_listed(snapshots);
+    let mut aboves = Vec::with_capacity(alloc, snapshots.len())?;
+    for snap in snapshots {
+        aboves.push(above(snapshots, listed, snap))?;
+    }
     Ok(aboves)
 }

@@ -1,0 +1,7 @@
+use Rattle.std.proofs.Common.{◌≡◌, map, take}
+use Rattle.table_sweep.specs.SnapshotPlaces.{above_place}
+use Rattle.table_sweep.proofs.places.aboves_of.Given as goal
+
+-- the parents so far have their places
+abbrev pub invariant-loop-snap : goal.invariant-loop-snap
+invariant-loop-snap l = l.aboves.items ≡ map (above_place l.fn.snapshots) (take l.snap-index l.fn.snapshots)
