@@ -53,10 +53,10 @@ module _ (state : State) (at : ℤ) (plan : Plan) (p : IsPlanOf state.records (l
       (subst (λ (o : Option ℕ). IfSome o (λ number. IsTrue (list_any (is_named (snap.snapshotter, number)) state.backends.snapshots) × (number < snap.number))) up.1
       (All-contains (λ (one : BackSnap). IfSome one.parent (λ number. IsTrue (list_any (is_named (one.snapshotter, number)) state.backends.snapshots) × (number < one.number))) state.backends.snapshots snap s.backed.back_parents cs)).1
 
-  by_state : MaySweep state.backends plan.backend
+  by_state : MaySweep state.backends plan.report.backend
   by_state = record {
     tables = left.tables;
-    are = p.plan_is.backend;
+    are = ap (λ report. report.backend) p.report_is;
     closed = owned_above;
     falls = falls_above;
     ordered = s.backed.objects_in_order;
@@ -65,5 +65,6 @@ module _ (state : State) (at : ℤ) (plan : Plan) (p : IsPlanOf state.records (l
   }
 
 -- the plan's names may be swept
-pub may_sweep : (back : BackLists) (plan : Plan) → IsPlanned back plan → MaySweep back plan.backend
-may_sweep back plan p = subst (λ (b : BackLists). MaySweep b plan.backend) p.held (by_state p.state p.at plan p.plan_is p.sound)
+pub may_sweep : (back : BackLists) (plan : Plan) → IsPlanned back plan
+    → MaySweep back plan.report.backend
+may_sweep back plan p = subst (λ (b : BackLists). MaySweep b plan.report.backend) p.held (by_state p.state p.at plan p.plan_is p.sound)

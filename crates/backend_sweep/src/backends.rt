@@ -26,12 +26,12 @@ pub fn sweep_plain<S: SnapBackend, B: BlobBackend, I: IngestBackend>(
     requires { IsPlanned (held_in backends.old.shards (B.contents backends.old.blobs)
         (I.contents backends.old.ingests)) plan.now }
     ensures fault { Refuses result None }
-    ensures ok { IfOk result (SweepsNames plan.now.backend
+    ensures ok { IfOk result (SweepsNames plan.now.report.backend
         (held_in backends.old.shards (B.contents backends.old.blobs)
         (I.contents backends.old.ingests))
         (held_in backends.new.shards (B.contents backends.new.blobs)
         (I.contents backends.new.ingests))) }
-    ensures of { IfOk result (AreOf plan.now.backend) }
+    ensures of { IfOk result (AreOf plan.now.report.backend) }
     ensures count { IfOk result (λ swept. all_failures backends.new.shards
         + B.fails backends.new.blobs + I.fails backends.new.ingests
         ≡ all_failures backends.old.shards + B.fails backends.old.blobs
@@ -40,7 +40,7 @@ pub fn sweep_plain<S: SnapBackend, B: BlobBackend, I: IngestBackend>(
 {
     let room = Swept::room(alloc, plan)?;
     let shards = backends.take_shards();
-    let lanes = match lanes_of(alloc, &shards, &plan.backend.snapshots) {
+    let lanes = match lanes_of(alloc, &shards, &plan.report.backend.snapshots) {
         Ok(lanes) => lanes,
         Err(fault) => {
             backends.put_shards(shards);
@@ -66,12 +66,12 @@ pub fn sweep_shards<S: SnapBackend, B: BlobBackend, I: IngestBackend>(
     requires { IsPlanned (held_in backends.old.shards (B.contents backends.old.blobs)
         (I.contents backends.old.ingests)) plan.now }
     ensures fault { Refuses result (unless (is_worker_count workers) InvalidArgument) }
-    ensures ok { IfOk result (SweepsNames plan.now.backend
+    ensures ok { IfOk result (SweepsNames plan.now.report.backend
         (held_in backends.old.shards (B.contents backends.old.blobs)
         (I.contents backends.old.ingests))
         (held_in backends.new.shards (B.contents backends.new.blobs)
         (I.contents backends.new.ingests))) }
-    ensures of { IfOk result (AreOf plan.now.backend) }
+    ensures of { IfOk result (AreOf plan.now.report.backend) }
     ensures count { IfOk result (λ swept. all_failures backends.new.shards
         + B.fails backends.new.blobs + I.fails backends.new.ingests
         ≡ all_failures backends.old.shards + B.fails backends.old.blobs
@@ -83,7 +83,7 @@ pub fn sweep_shards<S: SnapBackend, B: BlobBackend, I: IngestBackend>(
     }
     let room = Swept::room(alloc, plan)?;
     let shards = backends.take_shards();
-    let (lanes, jobs) = match lanes_and_room(alloc, &shards, &plan.backend.snapshots) {
+    let (lanes, jobs) = match lanes_and_room(alloc, &shards, &plan.report.backend.snapshots) {
         Ok(made) => made,
         Err(fault) => {
             backends.put_shards(shards);

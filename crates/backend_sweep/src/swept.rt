@@ -69,11 +69,11 @@ impl Swept {
     pub fn room(alloc: Global, plan: &Plan) -> Result<Swept, Fault>
         ensures fault { Refuses result None }
         ensures ok { IfOk result (λ s. s
-            ≡ record { removed = no_objects; failed = no_objects; room = plan.now.backend }) }
+            ≡ record { removed = no_objects; failed = no_objects; room = plan.now.report.backend }) }
     {
-        let blobs = blobs_room(alloc, &plan.backend.blobs)?;
-        let ingests = ingests_room(alloc, &plan.backend.ingests)?;
-        let snapshots = snapshots_room(alloc, &plan.backend.snapshots)?;
+        let blobs = blobs_room(alloc, &plan.report.backend.blobs)?;
+        let ingests = ingests_room(alloc, &plan.report.backend.ingests)?;
+        let snapshots = snapshots_room(alloc, &plan.report.backend.snapshots)?;
         Ok(Swept {
             blobs,
             ingests,

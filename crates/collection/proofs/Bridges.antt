@@ -25,7 +25,7 @@ use Rattle.meta_types.specs.declared.rows.SnapRow.{SnapRow}
 use Rattle.gc_graph.specs.Built.{AreApart}
 use Rattle.meta_types.specs.Paths.{Thing, things, is_root, IsPath, TellsReached}
 use Rattle.table_sweep.specs.declared.planning.Plan.{Plan}
-use Rattle.table_sweep.specs.Plans.{IsPlan, IsPlanOfRows}
+use Rattle.table_sweep.specs.Plans.{dry_report_of, IsPlanOfRows}
 use Rattle.backend_sweep.specs.Planned.{IsPlanOf}
 
 -- ---- paths
@@ -116,15 +116,7 @@ plan_moved a b n back at plan p = record {
     content = p.masks.content;
     snapshots = p.masks.snapshots;
   };
-  plan_is = record {
-    backend = p.plan_is.backend;
-    removed = p.plan_is.removed;
-    kept = p.plan_is.kept;
-    ignored = p.plan_is.ignored;
-    ignored_images = p.plan_is.ignored_images;
-    profile = p.plan_is.profile;
-    scanned = p.plan_is.scanned;
-  };
+  report_is = p.report_is;
 }
 
 -- a plan of the one is a plan of the other
@@ -141,7 +133,7 @@ in_some_order came records n back at plan e p = record {
   came = came;
   in_order = e;
   masks = p.masks;
-  plan_is = subst (λ (r : Records). IsPlan r n back at p.reached plan) e p.plan_is;
+  report_is = subst (λ (r : Records). plan.report ≡ dry_report_of r n back at p.reached) e p.report_is;
 }
 
 -- so is one of rows that, in order, agree with the records

@@ -1,5 +1,5 @@
 -- A plan of a store, and the sweep of its records.
-use Rattle.std.proofs.Common.{◌≡◌, ℕ, false, List, refl, subst, ℤ}
+use Rattle.std.proofs.Common.{◌≡◌, ℕ, List, refl, subst, ℤ}
 use Rattle.meta_types.specs.Rows.{Records, BackLists, Tables, LeaseRow, lease_key}
 use Rattle.meta_types.specs.Collected.{collected_records}
 use Rattle.meta_types.specs.Sound.{AreTables}
@@ -8,12 +8,10 @@ use Rattle.object_tables.specs.InKeyOrder.{in_key_order}
 use Rattle.table_sweep.specs.InKeyOrder.{records_in_key_order}
 use Rattle.table_sweep.specs.Plans.{IsPlanOfRows}
 use Rattle.table_sweep.specs.declared.planning.Plan.{Plan}
-use Rattle.table_sweep.specs.Copies.{IsSame}
 use Rattle.table_sweep.specs.Stays.{AreMasks, Collection, FitRows, StayNumbered}
 use Rattle.table_sweep.proofs.Planned.{fit}
 use Rattle.table_sweep.proofs.NumbersLeft.{stay_numbered}
-use Rattle.backend_sweep.specs.Swept.{AllSwept}
-use Rattle.sweep_report.specs.Whole.{SweepsRecords, reported}
+use Rattle.sweep_report.specs.Whole.{SweepsRecords}
 
 module _ (came : Records) (n : ℕ) (back : BackLists) (at : ℤ) (plan : Plan) (p : IsPlanOfRows came n back at plan) where
   pub fits : FitRows came.tables came.leases plan.masks
@@ -39,19 +37,3 @@ pub rows_swept : (came : Records) (plan : Plan) (tables : Tables) (leases : List
 rows_swept came plan tables leases t l at reached masks =
     let of : Collection = record { records = came; at = at; reached = reached } in
     λ i. record { tables = t of refl masks i; leases = l of refl masks i; next = came.next; profile = came.profile }
-
--- a plan that says the same has the same report, whatever room there is
-pub report_same : (plan copy : Plan) (swept other : AllSwept) → IsSame plan copy
-    → other.removed ≡ swept.removed → other.failed ≡ swept.failed
-    → reported copy other false ≡ reported plan swept false
-report_same plan copy swept other h r f = λ i. record {
-  backend = r i;
-  dry = false;
-  failed = f i;
-  ignored = h.ignored i;
-  ignored_images = h.ignored_images i;
-  kept = h.kept i;
-  profile = h.profile i;
-  removed = h.removed i;
-  scanned = h.scanned i;
-}

@@ -11,7 +11,6 @@ use crate::checks::check;
 use crate::planning::plan_store;
 use crate::reports::Reports;
 use back_model::{BackLists, Backends, BlobBackend, IngestBackend, SnapBackend};
-use backend_sweep::Swept;
 use gc_report::Report;
 use meta_types::{Fault, Instant};
 use request_core::Records;
@@ -19,8 +18,7 @@ use std::alloc::Global;
 use std::sync::Wait;
 use std::thread::Threads;
 use steal_mark::Gate;
-use sweep_report::report;
-use table_sweep::BackRows;
+use table_sweep::{BackRows, Plan};
 
 // What a collection of these records and of what is lent would report.
 fn dry_lent<R: Threads + Wait + Sync, G: Gate>(
@@ -39,8 +37,8 @@ fn dry_lent<R: Threads + Wait + Sync, G: Gate>(
       backends = lists_of back.now;
     }) at.0 report) }
 {
-    let plan = plan_store(rt, alloc, records, back, at, workers, gate)?;
-    Ok(report(plan, Swept::empty(alloc), true))
+    let Plan { masks: _, report } = plan_store(rt, alloc, records, back, at, workers, gate)?;
+    Ok(report)
 }
 
 /// What a collection of these records and lists would report.

@@ -1,8 +1,7 @@
 //! Copies of a report, made before anything is removed.
-ghost use Rattle.std.specs.Prelude.{◌≡◌, None, IfOk, false};
+ghost use Rattle.std.specs.Prelude.{◌≡◌, None, IfOk};
 ghost use Rattle.meta_types.specs.Backends.{no_objects};
 ghost use Rattle.meta_types.specs.Faults.{Refuses};
-ghost use Rattle.table_sweep.specs.Copies.{IsSame};
 ghost use Rattle.backend_sweep.specs.Swept.{AreOf};
 ghost use Rattle.sweep_report.specs.Whole.{reported};
 ghost use Rattle.collection.specs.Planned.{IsSpare};
@@ -15,10 +14,10 @@ use std::alloc::Global;
 use sweep_report::report;
 use table_sweep::Plan;
 
-/// A plan once more, and room for what a sweep by it does.
+/// A plan's report once more, and room for what a sweep by it does.
 #[derive(Drop)]
 pub(crate) struct Spare {
-    pub(crate) plan: Plan,
+    pub(crate) report: Report,
     pub(crate) room: Swept,
 }
 
@@ -28,19 +27,22 @@ impl Spare {
         ensures ok { IfOk result (IsSpare plan.now) }
     {
         let room = Swept::room(alloc, plan)?;
-        let plan = plan.copy(alloc)?;
-        Ok(Spare { plan, room })
+        let report = plan.report.copy(alloc)?;
+        Ok(Spare { report, room })
     }
 
     // The report of what was swept. It takes no memory.
-    fn report(self, alloc: Global, swept: &Swept) -> Report
+    fn swept(self, alloc: Global, swept: &Swept) -> Report
         requires of { AreOf self.room.room swept.now }
         requires empty { (self.room.removed ≡ no_objects) × (self.room.failed ≡ no_objects) }
-        ensures { result ≡ reported self.plan (record swept.now { room = no_objects }) false }
+        ensures { result ≡ reported self.report (record swept.now { room = no_objects }) }
     {
-        let Spare { plan, mut room } = self;
+        let Spare {
+            report: planned,
+            mut room,
+        } = self;
         room.fill(alloc, swept);
-        report(plan, room, false)
+        report(planned, room)
     }
 }
 
@@ -52,13 +54,17 @@ pub(crate) fn reports_of(
     log: Spare,
     list: Spare,
 ) -> Reports
-    requires of { AreOf plan.backend swept }
+    requires of { AreOf plan.report.backend swept }
     requires log { IsSpare plan log }
     requires list { IsSpare plan list }
-    ensures { result ≡ reported plan swept false }
+    ensures { result ≡ reported plan.report swept }
 {
-    let log = log.report(alloc, &swept);
-    let list = list.report(alloc, &swept);
-    let caller = report(plan, swept, false);
+    let log = log.swept(alloc, &swept);
+    let list = list.swept(alloc, &swept);
+    let Plan {
+        masks: _,
+        report: planned,
+    } = plan;
+    let caller = report(planned, swept);
     Reports { caller, log, list }
 }

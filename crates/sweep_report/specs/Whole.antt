@@ -1,7 +1,6 @@
 -- The report of a plan and of what was swept, and what the three come to. Ours, unless a source stands beside.
-use Rattle.std.specs.Prelude.{◌≡◌, Bool, true, false, ℤ, length, if◌then◌else◌}
+use Rattle.std.specs.Prelude.{◌≡◌, false, ℤ, length}
 use Rattle.meta_types.specs.Rows.{Records, BackLists, State}
-use Rattle.meta_types.specs.Backends.{no_objects}
 use Rattle.meta_types.specs.Reports.{Report, Collects, Plans}
 use Rattle.table_sweep.specs.declared.planning.Plan.{Plan}
 use Rattle.table_sweep.specs.Stays.{AreMasks}
@@ -12,18 +11,12 @@ use Rattle.meta_types.specs.Collected.{collected_records}
 use Rattle.backend_sweep.specs.Planned.{IsPlanOf}
 use Rattle.backend_sweep.specs.Swept.{AllSwept, SweepsNames}
 
--- the report of a collection has what was swept; that of a dry run what the plan names, and no failure
-abbrev pub reported : Plan → AllSwept → Bool → Report
-reported plan swept dry = record {
-  backend = if dry then plan.backend else swept.removed;
-  dry = dry;
-  failed = if dry then no_objects else swept.failed;
-  ignored = plan.ignored.items;
-  ignored_images = plan.ignored_images.items;
-  kept = plan.kept;
-  profile = plan.profile;
-  removed = plan.removed;
-  scanned = plan.scanned;
+-- the report of a collection is that of its dry run, but for what was swept
+abbrev pub reported : Report → AllSwept → Report
+reported planned swept = record planned {
+  backend = swept.removed;
+  dry = false;
+  failed = swept.failed;
 }
 
 -- the plan of a store
@@ -32,7 +25,7 @@ IsPlanOfStore state at plan = IsPlanOf state.records (length state.records.table
 
 -- the backends are swept of what the plan names
 abbrev pub SweepsBackends : Plan → BackLists → AllSwept → BackLists → Type 0
-SweepsBackends plan old swept new = SweepsNames plan.backend old new swept
+SweepsBackends plan old swept new = SweepsNames plan.report.backend old new swept
 
 -- records that came so are swept of what the masks don't keep: what is left is seen in the order of keys
 abbrev pub SweepsRecords : Plan → Records → Records → Type 0
@@ -41,8 +34,8 @@ SweepsRecords plan came new = (at : ℤ) (reached : Thing → Bool) → AreMasks
 -- a plan of records as they came, both sweeps by it and the report are a collection of them in the order of keys, with the failures of the sweep
 abbrev pub ASweptPlanIsACollection : Type 0
 ASweptPlanIsACollection = (came : Records) (backends : BackLists) (at : ℤ) (plan : Plan) (swept : AllSwept) (records : Records) (back : BackLists) → IsPlanOfRows came (length came.tables.namespaces) backends at plan → SweepsRecords plan came records → SweepsBackends plan backends swept back
-    → Collects (record { records = records_in_key_order came; backends = backends }) at swept.failed (reported plan swept false) (record { records = records; backends = back })
+    → Collects (record { records = records_in_key_order came; backends = backends }) at swept.failed (reported plan.report swept) (record { records = records; backends = back })
 
--- a plan of a store and its report are a dry run
+-- the report of a plan of a store is that of a dry run
 abbrev pub APlanIsADryRun : Type 0
-APlanIsADryRun = (state : State) (at : ℤ) (plan : Plan) (swept : AllSwept) → IsPlanOfStore state at plan → Plans state at (reported plan swept true)
+APlanIsADryRun = (state : State) (at : ℤ) (plan : Plan) → IsPlanOfStore state at plan → Plans state at plan.report

@@ -6,5 +6,4 @@ pub mod SnapshotPlaces
 pub mod Backed
 pub mod InKeyOrder
 pub mod Plans
-pub mod Copies
 pub mod Laws

@@ -2,7 +2,6 @@
 #![tactic(auto)]
 
 mod blobs;
-mod copies;
 mod counts;
 mod depths;
 pub mod laws;

@@ -8,7 +8,7 @@ ghost use Rattle.gc_graph.specs.Targets.{nodes_of};
 ghost use Rattle.table_sweep.specs.Backed.{lists_of};
 ghost use Rattle.table_sweep.specs.InKeyOrder.{records_in_key_order};
 ghost use Rattle.table_sweep.specs.Stays.{AreMasks};
-ghost use Rattle.table_sweep.specs.Plans.{IsPlan};
+ghost use Rattle.table_sweep.specs.Plans.{dry_report_of};
 
 use crate::counts::{count_marked, kept_of};
 use crate::masks::{Masks, masks_of};
@@ -16,23 +16,16 @@ use crate::names::removed_of;
 use crate::objects::{BackRows, objects_of};
 use crate::sorting::names_in_order;
 use gc_graph::{Ignored, NodeBook, StoreRows};
-use gc_report::{Kept, Objects, Removed};
+use gc_report::{Objects, Report};
 use mark_core::Marks;
-use meta_types::{Fault, Instant, Name, ShortName};
+use meta_types::{Fault, Instant};
 use std::alloc::Global;
 
-/// Which rows stay, by their places as they came, and the members of the report of a collection in
-/// which no removal fails: their names stand in the order of keys.
+/// Which rows stay, by their places as they came, and the report of a dry run.
 #[derive(Drop)]
 pub struct Plan {
     pub masks: Masks,
-    pub backend: Objects,
-    pub removed: Removed,
-    pub kept: Kept,
-    pub ignored: Vec<(ShortName, Name)>,
-    pub ignored_images: Vec<(ShortName, Name)>,
-    pub profile: u8,
-    pub scanned: u64,
+    pub report: Report,
 }
 
 // How many nodes the rows have.
@@ -68,8 +61,9 @@ pub fn plan_of(
     ensures fault { Refuses result None }
     ensures masks { IfOk result (λ plan. AreMasks (records_of rows.now) at.0
         (reached_by rows.now.profile book.now marks.now at.0) plan.masks) }
-    ensures ok { IfOk result (λ plan. IsPlan (records_in_key_order (records_of rows.now)) namespaces
-        (lists_of back.now) at.0 (reached_by rows.now.profile book.now marks.now at.0) plan) }
+    ensures ok { IfOk result (λ plan. plan.report
+        ≡ dry_report_of (records_in_key_order (records_of rows.now)) namespaces
+        (lists_of back.now) at.0 (reached_by rows.now.profile book.now marks.now at.0)) }
 {
     let masks = masks_of(alloc, rows, book, marks, at)?;
     let removed = removed_of(alloc, rows, &masks)?;
@@ -82,14 +76,16 @@ pub fn plan_of(
     } = ignored;
     let ignored = names_in_order(ignored)?;
     let ignored_images = names_in_order(ignored_images)?;
-    Ok(Plan {
-        masks,
+    let report = Report {
         backend,
-        removed,
-        kept,
+        dry: true,
+        failed: Objects::new(alloc),
         ignored,
         ignored_images,
-        profile: rows.profile,
+        kept,
+        profile: rows.profile as u64,
+        removed,
         scanned,
-    })
+    };
+    Ok(Plan { masks, report })
 }

@@ -10,35 +10,35 @@ use Rattle.backend_sweep.proofs.backends.sweep_plain.Goals as goal
 
 pub sweep_in_turn-shards-requires-clause-ready : goal.sweep_in_turn-shards-requires-clause-ready
 sweep_in_turn-shards-requires-clause-ready g c κs within =
-    let names_are : c.deref-2.result.now ≡ c.args.plan.now.backend.snapshots = search rules in
-    ready g.S.SnapBackend.contents g.S.SnapBackend.fails c.args.backends.now.shards _ _ c.args.plan.now.backend (may_sweep _ _ c.requires) c.take_shards-shards.ensures.order c.take_shards-shards.result.items c.in-Ok.lanes.items c.take_shards-shards.ensures.taken
-    (c.in-Ok.ensures.ok ∙ (λ i. map (λ x. lane_for (names_are i) x.0) (c.deref.ensures.value i)))
+    let named : c.deref-2.result.now ≡ c.args.plan.now.report.backend.snapshots = search rules in
+    ready g.S.SnapBackend.contents g.S.SnapBackend.fails c.args.backends.now.shards _ _ c.args.plan.now.report.backend (may_sweep _ _ c.requires) c.take_shards-shards.ensures.order c.take_shards-shards.result.items c.in-Ok.lanes.items c.take_shards-shards.ensures.taken
+    (c.in-Ok.ensures.ok ∙ (λ i. map (λ x. lane_for (named i) x.0) (c.deref.ensures.value i)))
 
 -- the shards that are left are apart
 pub put_shards-requires-2-after_bounds : goal.put_shards-requires-2-after_bounds
 put_shards-requires-2-after_bounds g c κs within =
-    let names_are : c.deref-2.result.now ≡ c.args.plan.now.backend.snapshots = search rules in
-    news_apart g.S.SnapBackend.contents g.S.SnapBackend.fails c.args.backends.now.shards _ _ c.args.plan.now.backend (may_sweep _ _ c.requires) c.take_shards-shards.ensures.order c.take_shards-shards.result.items c.in-Ok.lanes.items c.take_shards-shards.ensures.taken
-    (c.in-Ok.ensures.ok ∙ (λ i. map (λ x. lane_for (names_are i) x.0) (c.deref.ensures.value i)))
+    let named : c.deref-2.result.now ≡ c.args.plan.now.report.backend.snapshots = search rules in
+    news_apart g.S.SnapBackend.contents g.S.SnapBackend.fails c.args.backends.now.shards _ _ c.args.plan.now.report.backend (may_sweep _ _ c.requires) c.take_shards-shards.ensures.order c.take_shards-shards.result.items c.in-Ok.lanes.items c.take_shards-shards.ensures.taken
+    (c.in-Ok.ensures.ok ∙ (λ i. map (λ x. lane_for (named i) x.0) (c.deref.ensures.value i)))
     c.sweep_in_turn-shards.result.0.items c.sweep_in_turn-shards.result.1.items c.sweep_in_turn-shards.ensures.length.0 c.sweep_in_turn-shards.ensures.length.1 c.sweep_in_turn-shards.ensures.each
 
 pub finish-requires-clause-blobs : goal.finish-requires-clause-blobs
 finish-requires-clause-blobs g c κs within =
-    let names_are : c.in_ok-room.room.room.blobs ≡ c.args.plan.now.backend.blobs = ap (λ s. s.room.blobs) c.in_ok-room.ensures.ok in
+    let named : c.in_ok-room.room.room.blobs ≡ c.args.plan.now.report.backend.blobs = ap (λ s. s.room.blobs) c.in_ok-room.ensures.ok in
     let back_is : c.put_shards-2.new.self.blobs ≡ c.args.backends.now.blobs = search rules in
-    subst (λ l. AreHeldOnce bytes_eq l (g.B.BlobBackend.contents c.put_shards-2.new.self.blobs)) (sym names_are)
-    (subst (λ b. AreHeldOnce bytes_eq c.args.plan.now.backend.blobs (g.B.BlobBackend.contents b)) (sym back_is) (held_blobs _ _ _ c.args.plan.now.backend (may_sweep _ _ c.requires)))
+    subst (λ l. AreHeldOnce bytes_eq l (g.B.BlobBackend.contents c.put_shards-2.new.self.blobs)) (sym named)
+    (subst (λ b. AreHeldOnce bytes_eq c.args.plan.now.report.backend.blobs (g.B.BlobBackend.contents b)) (sym back_is) (held_blobs _ _ _ c.args.plan.now.report.backend (may_sweep _ _ c.requires)))
 
 pub finish-requires-clause-ingests : goal.finish-requires-clause-ingests
 finish-requires-clause-ingests g c κs within =
-    let names_are : c.in_ok-room.room.room.ingests ≡ c.args.plan.now.backend.ingests = ap (λ s. s.room.ingests) c.in_ok-room.ensures.ok in
+    let named : c.in_ok-room.room.room.ingests ≡ c.args.plan.now.report.backend.ingests = ap (λ s. s.room.ingests) c.in_ok-room.ensures.ok in
     let back_is : c.put_shards-2.new.self.ingests ≡ c.args.backends.now.ingests = search rules in
-    subst (λ l. AreHeldOnce is_number l (g.I.IngestBackend.contents c.put_shards-2.new.self.ingests)) (sym names_are)
-    (subst (λ b. AreHeldOnce is_number c.args.plan.now.backend.ingests (g.I.IngestBackend.contents b)) (sym back_is) (held_ingests _ _ _ c.args.plan.now.backend (may_sweep _ _ c.requires)))
+    subst (λ l. AreHeldOnce is_number l (g.I.IngestBackend.contents c.put_shards-2.new.self.ingests)) (sym named)
+    (subst (λ b. AreHeldOnce is_number c.args.plan.now.report.backend.ingests (g.I.IngestBackend.contents b)) (sym back_is) (held_ingests _ _ _ c.args.plan.now.report.backend (may_sweep _ _ c.requires)))
 
 pub returns-clause-ok : goal.returns-clause-ok
 returns-clause-ok g c =
-    let names = c.args.plan.now.backend in
+    let names = c.args.plan.now.report.backend in
     let snaps_are : c.deref-2.result.now ≡ names.snapshots = search rules in
     let room_is = ap (λ s. s.room) c.in_ok-room.ensures.ok in
     let blobs_are : c.put_shards-2.new.self.blobs ≡ c.args.backends.now.blobs = search rules in
@@ -54,7 +54,7 @@ returns-clause-ok g c =
 
 pub returns-clause-count : goal.returns-clause-count
 returns-clause-count g c =
-    let names = c.args.plan.now.backend in
+    let names = c.args.plan.now.report.backend in
     let snaps_are : c.deref-2.result.now ≡ names.snapshots = search rules in
     let room_is = ap (λ s. s.room) c.in_ok-room.ensures.ok in
     let blobs_are : c.put_shards-2.new.self.blobs ≡ c.args.backends.now.blobs = search rules in

@@ -6,7 +6,6 @@ use Rattle.gc_graph.specs.Stored.{records_of}
 use Rattle.gc_graph.specs.Marked.{reached_by}
 use Rattle.gc_graph.proofs.Tells.{tells}
 use Rattle.table_sweep.specs.InKeyOrder.{records_in_key_order}
-use Rattle.table_sweep.specs.Plans.{IsPlan}
 use Rattle.table_sweep.proofs.CameRecords.{told_in_order}
 use Rattle.collection.proofs.planning.plan_rows.Goals as goal
 
@@ -21,5 +20,5 @@ returns-clause-ok g c =
       reached = reached;
       tells = told_in_order records c.args.at.0 reached (tells records c.args.at.0 book graph c.in_ok-book.ensures.ok marks c.in_ok-marks.ensures.marked.marks);
       masks = c.in_ok-plan.ensures.masks;
-      plan_is = c.in_ok-plan.ensures.ok;
+      report_is = c.in_ok-plan.ensures.ok;
     }

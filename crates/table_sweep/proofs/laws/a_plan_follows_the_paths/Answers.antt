@@ -8,7 +8,7 @@ use Rattle.table_sweep.proofs.laws.a_plan_follows_the_paths.Goals as goal
 pub returns-clause-by_reached_marks : goal.returns-clause-by_reached_marks
 returns-clause-by_reached_marks c = λ came namespaces back at book graph marks plan built marked masks is.
     let reached = reached_by came.profile book marks at in
-    record { reached = reached; tells = told_in_order came at reached (tells came at book graph built marks marked); masks = masks; plan_is = is }
+    record { reached = reached; tells = told_in_order came at reached (tells came at book graph built marks marked); masks = masks; report_is = is }
 
 -- what doesn't stay is what the test denies
 pub returns-clause-by_paths : goal.returns-clause-by_paths

@@ -1,4 +1,4 @@
-use Rattle.std.proofs.Common.{◌∙◌, refl, ap, arith}
+use Rattle.std.proofs.Common.{◌≡◌, ◌∙◌, true, ap, arith}
 use Rattle.std.proofs.lemmas.List.{length-map}
 use Rattle.meta_types.specs.Rows.{Records}
 use Rattle.meta_types.specs.Backends.{no_objects, removed_objects}
@@ -37,16 +37,24 @@ returns-clause-ok c =
     let i_long = length-map rows.ingests.now (λ row. row.now) in
     let c_long = length-map rows.content.now (λ row. row.now) in
     let s_long = length-map rows.snapshots.now (λ row. row.now) in
-    record {
-      backend = c.in_ok-backend.ensures.ok ∙ ap (λ tables. removed_objects tables no_objects (lists_of c.args.back.now)) (left_is records at reached masks are)
-          ∙ objects_same (collected_records at reached records).tables (lists_of c.args.back.now)
-          ∙ ap (λ tables. removed_objects tables no_objects (lists_of c.args.back.now)) (tables_left reached records.profile at records.tables);
-      removed = c.in_ok-removed.ensures.ok ∙ ap names_in_key_order (removed_is records at reached masks are) ∙ removed_in_order records at reached;
-      kept = c.kept_of-kept.ensures ∙ kept_counts_are records at reached masks are c.args.namespaces ∙ kept_in_order records at reached c.args.namespaces;
-      ignored = c.in_ok-ignored.ensures.ok ∙ ap (sorted name_key) c.requires.ignored ∙ ignored_in_order records;
-      ignored_images = c.in_ok-ignored_images.ensures.ok ∙ ap (sorted name_key) c.requires.images ∙ ignored_images_in_order records;
-      profile = refl;
-      scanned = c.count_marked-scanned.ensures ∙ scanned_is records c.args.book.now c.requires.numbered c.requires.once c.args.marks.now at c.count_nodes.result
-          (omega (arith, c.count_nodes.ensures, thing_count records, i_long, c_long, s_long))
-          ∙ scanned_in_order records at reached;
+    let backend = c.in_ok-backend.ensures.ok ∙ ap (λ tables. removed_objects tables no_objects (lists_of c.args.back.now)) (left_is records at reached masks are)
+    ∙ objects_same (collected_records at reached records).tables (lists_of c.args.back.now)
+    ∙ ap (λ tables. removed_objects tables no_objects (lists_of c.args.back.now)) (tables_left reached records.profile at records.tables) in
+    let removed = c.in_ok-removed.ensures.ok ∙ ap names_in_key_order (removed_is records at reached masks are) ∙ removed_in_order records at reached in
+    let kept = c.kept_of-kept.ensures ∙ kept_counts_are records at reached masks are c.args.namespaces ∙ kept_in_order records at reached c.args.namespaces in
+    let ignored = c.in_ok-ignored.ensures.ok ∙ ap (sorted name_key) c.requires.ignored ∙ ignored_in_order records in
+    let ignored_images = c.in_ok-ignored_images.ensures.ok ∙ ap (sorted name_key) c.requires.images ∙ ignored_images_in_order records in
+    let scanned = c.count_marked-scanned.ensures ∙ scanned_is records c.args.book.now c.requires.numbered c.requires.once c.args.marks.now at c.count_nodes.result
+    (omega (arith, c.count_nodes.ensures, thing_count records, i_long, c_long, s_long))
+    ∙ scanned_in_order records at reached in
+    λ i. record {
+      backend = backend i;
+      dry = true;
+      failed = c.new.ensures i;
+      ignored = ignored i;
+      ignored_images = ignored_images i;
+      kept = kept i;
+      profile = records.profile;
+      removed = removed i;
+      scanned = scanned i;
     }
