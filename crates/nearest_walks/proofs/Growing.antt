@@ -14,7 +14,8 @@ use Rattle.nearest_walks.specs.Nearest.{IsStart}
 use Rattle.nearest_walks.specs.Forests.{ComesFrom, Comes, Stands, IsForest}
 use Rattle.nearest_walks.proofs.Seeings.{seen_there, IsAdded, Adds, get_or_any}
 
--- what was seen, nearest first; the starts are there, and the targets of each before the place, no farther than a step
+-- what was seen, nearest first; the starts are there, and the targets of each before the place, no
+-- farther than a step
 pub record Grown (g : Graph) (own held : List ℕ) (seen : List Seen) (next : ℕ) : Type 0 where
   pub comes : All (Comes g own held seen) seen
   pub rising : AllPairs (λ a b. a.depth ≤ b.depth) seen

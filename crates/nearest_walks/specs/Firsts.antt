@@ -15,7 +15,7 @@ abbrev pub leads : Graph → List (Option ℕ) → ℕ → ℕ → Bool
 leads g depths a t = list_any (λ b. b == t) (targets g a)
     && is_step (get_or depths a None) (get_or depths t None)
 
--- what is there already, or else the number where the test holds
+-- the number that was filled in already, or else this one where the test holds
 abbrev pub filled : Option ℕ → Bool → ℕ → Option ℕ
 filled (Some a) test n = Some a
 filled None test n = if test then Some n else None

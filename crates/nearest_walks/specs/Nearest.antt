@@ -14,7 +14,7 @@ IsWalkTo g own held node cost [] = ⊥
 IsWalkTo g own held node cost (start ∷ walk) = (first : ℕ) × IsStart own held start first
     × IsWalk (rows g) start walk × (end_of start walk ≡ node) × (cost ≡ first + length walk)
 
--- such a walk, as cheap as any
+-- a walk from a start to the node, as cheap as any
 abbrev pub IsNearest : Graph → List ℕ → List ℕ → ℕ → List ℕ → Type 0
 IsNearest g own held node walk = (cost : ℕ) × IsWalkTo g own held node cost walk
     × ((other : List ℕ) (price : ℕ) → IsWalkTo g own held node price other → cost ≤ price)
@@ -31,7 +31,7 @@ abbrev pub IsRootWalk : Graph → ℕ → List ℕ → Type 0
 IsRootWalk g node [] = ⊥
 IsRootWalk g node (root ∷ walk) = Contains g.roots.items root × IsWalk (rows g) root walk × (end_of root walk ≡ node)
 
--- such a walk, as short as any
+-- a walk from a root to the node, as short as any
 abbrev pub IsShortest : Graph → ℕ → List ℕ → Type 0
 IsShortest g node walk = IsRootWalk g node walk
     × ((other : List ℕ) → IsRootWalk g node other → length walk ≤ length other)

@@ -10,7 +10,7 @@ use meta_types::Fault;
 use std::alloc::Global;
 
 /// The nodes that the starts of `mine` lead to and those of `others` don't, nearest first and each
-/// once: what goes with `mine`. Refused for memory alone.
+/// once: those that would be lost without `mine`.
 pub fn kept_alone(
     alloc: Global,
     graph: &Graph,

@@ -25,8 +25,7 @@ fn fill(depths: &mut [Option<u32>], it: Seen)
 }
 
 /// For each node, by its number, the cost of the nearest walk that leads to it: a start of `own`
-/// costs nothing, one of `held` 1, and each step 1. None where no walk leads there. Refused for
-/// memory alone.
+/// costs nothing, one of `held` 1, and each step 1. None where no walk leads there.
 pub fn depths(
     alloc: Global,
     graph: &Graph,

@@ -40,7 +40,7 @@ fn fill(from: u32, targets: &[u32], depths: &[Option<u32>], before: &mut [Option
 
 /// For each node, of all nodes that lead to it and are a step nearer, the one with the least
 /// number; none where there is none. `depths` has the depth of each node, as `depths` of this crate
-/// gives it. Refused for memory alone; goes over each edge once.
+/// gives it. Goes over each edge once.
 pub fn first_before(
     alloc: Global,
     graph: &Graph,

@@ -38,8 +38,8 @@ fn walk_back(
 }
 
 /// A walk that leads to the node, from its start on, as cheap as any: a start of `own` costs
-/// nothing, one of `held` 1, and each step 1. None where no walk leads there. Refused for memory
-/// alone: the search takes 16 bytes for each node that it sees, and a bit for each that there is.
+/// nothing, one of `held` 1, and each step 1. None where no walk leads there. The search takes 16
+/// bytes for each node that it sees, and a bit for each node of the graph.
 pub fn nearest_walk(
     alloc: Global,
     graph: &Graph,
@@ -64,7 +64,7 @@ pub fn nearest_walk(
 }
 
 /// A walk that leads to the node, from a root of the graph on, as short as any; none where no root
-/// reaches the node. Refused for memory alone.
+/// reaches the node.
 pub fn shortest_walk(alloc: Global, graph: &Graph, node: u32) -> Result<Option<Vec<u32>>, Fault>
     requires range { IsInRange graph.now }
     requires few { node_count graph.now < 4294967295 }
