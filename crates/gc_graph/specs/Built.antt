@@ -36,7 +36,8 @@ targets_in book thing = numbers_in book (targets_of thing)
 abbrev pub root_targets : ℕ → ℤ → List Node → Thing → List ℕ
 root_targets profile at book thing = if is_root profile at thing then targets_in book thing else []
 
--- the rows of the graph are the targets of the things, and its roots are those that are roots of their own, and the targets of images, containers and leases
+-- the rows of the graph are the targets of the things, and its roots are those that are roots of
+-- their own, and the targets of images, containers and leases
 pub record IsGraphOf (records : Records) (at : ℤ) (book : List Node) (graph : Graph) : Type 0 where
   pub edges : rows graph ≡ map (targets_in book) (node_things records)
   pub roots : graph.roots.items ≡ flat_map (targets_in book) (filter (is_root records.profile at) (root_things records)) ++ root_places records.profile at 0 (node_things records)

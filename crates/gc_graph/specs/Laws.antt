@@ -1,4 +1,5 @@
--- What marks on a store's graph say of the store. The statement is the contract of a function of the module `laws`. Ours, unless a source stands beside.
+-- What marks on a store's graph say of the store. The statement is the contract of a function of
+-- the module `laws`. Ours, unless a source stands beside.
 use Rattle.std.specs.Prelude.{◌≡◌, ℕ, List, Bool, Contains, ◌↔◌, ℤ}
 use Rattle.meta_types.specs.Rows.{Records}
 use Rattle.meta_types.specs.Paths.{Thing, things, TellsReached}

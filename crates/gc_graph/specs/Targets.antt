@@ -1,4 +1,5 @@
--- The nodes of things, and what each thing references, read once from its row. Ours, unless a source stands beside.
+-- The nodes of things, and what each thing references, read once from its row. Ours, unless a
+-- source stands beside.
 use Rattle.std.specs.Prelude.{List, [], ◌∷◌, ◌++◌, map, Option, Some, None, if◌then◌else◌}
 use Rattle.std.specs.List.{flat_map}
 use Rattle.std.specs.Option.{option_map_or}
@@ -32,7 +33,8 @@ snapshot_node mode row = node row.key.ns (Snapshot row.key.snapshotter row.key.n
 abbrev pub ingest_node : IngestRow → Node
 ingest_node row = node row.ns (Ingest row.name) Full
 
--- the node of a thing, where it has one: images, containers and leases have none, since nothing references them (containerd metadata gc.go: leases cannot be referenced)
+-- the node of a thing, where it has one: images, containers and leases have none, since nothing
+-- references them (containerd metadata gc.go: leases cannot be referenced)
 abbrev pub node_of : Thing → Option Node
 node_of (ingest row) = Some (ingest_node row)
 node_of (content mode row) = Some (content_node mode row)
@@ -67,7 +69,8 @@ content_target ns label = if is_content_key label.0 then node ns (Content label.
 abbrev pub snapshot_target : Text → Text × Text → List Node
 snapshot_target ns label = option_map_or (λ s. node ns (Snapshot s label.1) Full ∷ []) (snapshotter_in label.0) []
 
--- what all labels of a row reference, in their order (containerd garbage-collection.md, reference labels)
+-- what all labels of a row reference, in their order (containerd garbage-collection.md, reference
+-- labels)
 abbrev pub label_targets : Text → LabelList → List Node
 label_targets ns labels = flat_map (λ label. content_target ns label ++ snapshot_target ns label) labels
 
@@ -84,7 +87,8 @@ resource_mode mode _ = mode
 abbrev pub resource_targets : Text → Mode → List Resource → List Node
 resource_targets ns mode resources = map (λ resource. node ns resource (resource_mode mode resource)) resources
 
--- what a thing references (containerd garbage-collection.md; labels of images and containers, and parents of flat snapshots: ours)
+-- what a thing references (containerd garbage-collection.md; labels of images and containers, and
+-- parents of flat snapshots: ours)
 abbrev pub targets_of : Thing → List Node
 targets_of (image row) = node row.ns (Content row.target) Full ∷ label_targets row.ns row.labels
 targets_of (container row) = option_map_or (λ key. node row.ns (Snapshot key.0 key.1) Full ∷ []) row.snapshot [] ++ label_targets row.ns row.labels

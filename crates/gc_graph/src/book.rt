@@ -1,4 +1,4 @@
-//! The numbers of nodes.
+//! The numbers of nodes, from a node to its number and back.
 ghost use Rattle.std.specs.Prelude.{◌≡◌, None, IfOk, slice_get};
 ghost use Rattle.meta_types.specs.Faults.{Refuses};
 ghost use Rattle.meta_types.specs.declared.resource.Mode.TheVariants.{Full, Flat};

@@ -1,7 +1,7 @@
 //! Laws of graphs, each as the contract of a function that does nothing.
 ghost use Rattle.gc_graph.specs.Laws.{MarksTellWherePathsEnd, PathsSeeNoOrder};
 
-/// Marks that are the reached numbers of a store's graph tell where its paths end.
+/// Marks that are the reached numbers of a store's graph say where its paths end.
 pub fn marks_tell_where_paths_end()
     ensures { MarksTellWherePathsEnd }
 {}

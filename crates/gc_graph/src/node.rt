@@ -1,4 +1,4 @@
-//! What has a number.
+//! Things with numbers: content and snapshots in a mode, and ingests.
 
 use meta_types::{Mode, Resource, ShortName};
 

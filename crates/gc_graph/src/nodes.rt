@@ -1,4 +1,4 @@
-//! The nodes of rows.
+//! Nodes, made from rows: they share the texts of these.
 ghost use Rattle.std.specs.Prelude.{◌≡◌, None, IfOk};
 ghost use Rattle.meta_types.specs.Faults.{Refuses};
 ghost use Rattle.gc_graph.specs.Targets.{content_node, snapshot_node, ingest_node};

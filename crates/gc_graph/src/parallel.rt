@@ -24,7 +24,7 @@ fn least_piece(count: usize, workers: usize) -> usize {
     count.div_ceil(workers.max(1)).max(LEAST_PIECE)
 }
 
-// The targets of each row, read in pieces by at most so many threads, and joined in order. One
+// The targets of each row, read in pieces by at most `workers` threads, and joined in order. One
 // worker is the calling thread, and so are several where there are fewer than 2,048 rows.
 pub(crate) fn read_rows<T: Sync, R: RowReader<T>>(
     rt: &(impl Threads + Sync),

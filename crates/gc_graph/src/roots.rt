@@ -1,4 +1,4 @@
-//! Where the walks begin.
+//! Where walks begin: references of images, containers and leases, and rows that are roots.
 ghost use Rattle.std.specs.Prelude.{◌≡◌, ◌+◌, ◌≤◌, ◌++◌, ◌∷◌, [], map, length, if◌then◌else◌, OnOk, None, IfOk};
 ghost use Rattle.std.specs.List.{flat_map};
 ghost use Rattle.meta_types.specs.Faults.{Refuses};

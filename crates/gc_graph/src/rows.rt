@@ -1,4 +1,4 @@
-//! What a graph is built from.
+//! The rows of a store, lent for its graph, and the tables in which they are found.
 
 use lease_book::Lease;
 use meta_types::{ContainerRow, ContentRow, Digest, ImageRow, IngestRow, Name, SnapRow};
