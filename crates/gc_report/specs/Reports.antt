@@ -1,4 +1,5 @@
--- The JSON of a report. Members stand in the byte order of their names. Ours, unless a source stands beside.
+-- The JSON of a report. Members stand in the byte order of their names. Ours, unless a source
+-- stands beside.
 use Rattle.std.specs.Prelude.{ℕ, List, ◌==◌, Bool, Option, Some, None, map, codes, if◌then◌else◌}
 use Rattle.serde_json.specs.Data.{Data, boolean, number, unsigned, string, array, object, no_items, item, Members, no_members, member}
 use Rattle.serde_json.specs.View.{items_of}

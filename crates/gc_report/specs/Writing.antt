@@ -1,4 +1,5 @@
--- What a writer has written: tokens of JSON, one behind the other. Ours, unless a source stands beside.
+-- What a writer has written: tokens of JSON, one behind the other. Ours, unless a source stands
+-- beside.
 use Rattle.std.specs.Prelude.{◌≡◌, List, ◌∷◌, ◌++◌}
 use Rattle.json.specs.Token.{Token}
 use Rattle.json.specs.Tree.{json_tokens}

@@ -1,4 +1,4 @@
-//! Copies of reports.
+//! Copies of reports and of their parts, which share their texts.
 ghost use Rattle.std.specs.Prelude.{◌≡◌, None, IfOk};
 ghost use Rattle.meta_types.specs.Faults.{Refuses};
 
@@ -8,7 +8,7 @@ use crate::rows::Removed;
 use meta_types::{Fault, Name, ShortName};
 use std::alloc::Global;
 
-/// Other names in namespaces, which share their texts.
+/// A copy of names in namespaces, which shares their texts.
 pub fn copy_names(
     alloc: Global,
     list: &[(ShortName, Name)],
@@ -20,7 +20,7 @@ pub fn copy_names(
 }
 
 impl Objects {
-    /// The same names once more, which share their texts.
+    /// A copy, which shares the texts.
     pub fn copy(&self, _alloc: Global) -> Result<Objects, Fault>
         ensures fault { Refuses result None }
         ensures ok { IfOk result (λ copy. copy ≡ self.now) }
@@ -30,7 +30,7 @@ impl Objects {
 }
 
 impl Removed {
-    /// The same rows once more, which share their texts.
+    /// A copy, which shares the texts.
     pub fn copy(&self, _alloc: Global) -> Result<Removed, Fault>
         ensures fault { Refuses result None }
         ensures ok { IfOk result (λ copy. copy ≡ self.now) }
@@ -40,7 +40,7 @@ impl Removed {
 }
 
 impl Report {
-    /// The same report once more, which shares its texts.
+    /// A copy, which shares the texts.
     pub fn copy(&self, _alloc: Global) -> Result<Report, Fault>
         ensures fault { Refuses result None }
         ensures ok { IfOk result (λ copy. copy ≡ self.now) }

@@ -1,4 +1,4 @@
-//! Which rows remain, and which went.
+//! How many rows remain, and which were removed.
 ghost use Rattle.std.specs.Prelude.{◌≡◌, OnOk};
 ghost use Rattle.gc_report.specs.Reports.{kept_data, removed_data};
 ghost use Rattle.gc_report.specs.Empty.{no_rows, none_kept};
@@ -81,7 +81,7 @@ impl WriteJson for Kept {
     }
 }
 
-/// The rows that went, each list by the bytes of its texts. Images go in profile 2 alone.
+/// The removed rows, each list by the bytes of its texts. Images are removed in profile 2 alone.
 #[derive(Clone, Drop)]
 pub struct Removed {
     pub content: Vec<(ShortName, Digest)>,

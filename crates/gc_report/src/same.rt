@@ -1,4 +1,4 @@
-//! Reports compared.
+//! Whether two reports, or two of their parts, say the same.
 ghost use Rattle.std.specs.Prelude.{◌≡◌, ◌↔◌, IsTrue};
 
 use crate::objects::Objects;
