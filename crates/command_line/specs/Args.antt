@@ -20,7 +20,8 @@ metad_command = with_subcommand (new_app (codes "metad")) run_command.top
 abbrev pub IsNumber : Text → ℕ → Type 0
 IsNumber text n = IsNumeral 10 (without_leading_plus text) × (n ≡ digits_value 10 (without_leading_plus text))
 
--- the value of `--workers` is a number of workers that is allowed, or there is none and the number is 1
+-- the value of `--workers` is a number of workers that is allowed, or there is none and the number
+-- is 1
 abbrev pub HasWorkers : List Row → ℕ → Type 0
 HasWorkers rows n = (is_worker_count n ≡ true) × MatchOption (first_of (codes "workers") rows) (n ≡ 1) (λ text. IsNumber text n)
 

@@ -1,4 +1,4 @@
-//! The program's command line: what its words ask for.
+//! The number of workers that the program's words ask for.
 #![tactic(auto)]
 
 mod args;
