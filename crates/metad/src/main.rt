@@ -1,4 +1,4 @@
-//! The program: runs a script of requests on standard input and output.
+//! The program: a script from standard input to standard output.
 #![tactic(auto)]
 
 mod blocks;
@@ -18,7 +18,7 @@ use std::thread::Threads;
 use std::{env, io};
 
 // Why the program's words can't be had: one of them isn't UTF-8, so they ask for no run, or memory
-// is wanting.
+// runs out.
 fn word_fault(error: &io::Error) -> ArgFault {
     if error.kind() == io::ErrorKind::InvalidData {
         ArgFault::Usage

@@ -45,7 +45,7 @@ fn the_longest_line_is_read_and_a_longer_one_refused(rt: HostRuntime) -> Result<
     Ok(())
 }
 
-// Gives one byte at a time, and fails in place of the read after so many.
+// Gives one byte at a time, and fails once it was read `reads` times.
 #[derive(Drop)]
 struct Slow<'a> {
     bytes: &'a [u8],
@@ -69,7 +69,7 @@ impl io::Read for Slow<'_> {
     }
 }
 
-// Takes one byte at a time, and no byte after so many.
+// Takes one byte at a time, and no byte once `room` are taken.
 #[derive(Drop)]
 struct Narrow {
     bytes: Vec<u8>,
