@@ -133,7 +133,8 @@ in_some_order came records n back at plan e p = record {
   came = came;
   in_order = e;
   masks = p.masks;
-  report_is = subst (λ (r : Records). plan.report ≡ dry_report_of r n back at p.reached) e p.report_is;
+  report_is =
+      subst (λ (r : Records). plan.report ≡ dry_report_of r n back at p.reached) e p.report_is;
 }
 
 -- so is one of rows that, in order, agree with the records

@@ -1,3 +1,4 @@
 pub mod Bridges
+pub mod SweptPlans
 pub mod Wholes
 pub mod Removing

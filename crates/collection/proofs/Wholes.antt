@@ -11,7 +11,7 @@ use Rattle.table_sweep.specs.declared.planning.Plan.{Plan}
 use Rattle.table_sweep.specs.Stays.{AreMasks, Collection, FitRows, StayNumbered}
 use Rattle.table_sweep.proofs.Planned.{fit}
 use Rattle.table_sweep.proofs.NumbersLeft.{stay_numbered}
-use Rattle.sweep_report.specs.Whole.{SweepsRecords}
+use Rattle.collection.specs.Whole.{SweepsRecords}
 
 module _ (came : Records) (n : ℕ) (back : BackLists) (at : ℤ) (plan : Plan) (p : IsPlanOfRows came n back at plan) where
   pub fits : FitRows came.tables came.leases plan.masks

@@ -7,4 +7,5 @@ use Rattle.collection.specs.declared.spare.Spare.{Spare}
 -- it is the plan's report, with room for what the plan names
 pub record IsSpare (plan : Plan) (spare : Spare) : Type 0 where
   pub report : spare.report ≡ plan.report
-  pub room : spare.room ≡ record { removed = no_objects; failed = no_objects; room = plan.report.backend }
+  pub room : spare.room
+      ≡ record { removed = no_objects; failed = no_objects; room = plan.report.backend }

@@ -5,8 +5,10 @@ mod arrived;
 mod checks;
 mod collect_store;
 mod dry;
+pub mod laws;
 mod planning;
 mod removal;
+mod reporting;
 mod reports;
 mod spare;
 

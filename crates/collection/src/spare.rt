@@ -3,15 +3,15 @@ ghost use Rattle.std.specs.Prelude.{◌≡◌, None, IfOk};
 ghost use Rattle.meta_types.specs.Backends.{no_objects};
 ghost use Rattle.meta_types.specs.Faults.{Refuses};
 ghost use Rattle.backend_sweep.specs.Swept.{AreOf};
-ghost use Rattle.sweep_report.specs.Whole.{reported};
+ghost use Rattle.collection.specs.Whole.{reported};
 ghost use Rattle.collection.specs.Planned.{IsSpare};
 
+use crate::reporting::report;
 use crate::reports::Reports;
 use backend_sweep::Swept;
 use gc_report::Report;
 use meta_types::Fault;
 use std::alloc::Global;
-use sweep_report::report;
 use table_sweep::Plan;
 
 /// A plan's report once more, and room for what a sweep by it does.

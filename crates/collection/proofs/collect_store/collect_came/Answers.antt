@@ -2,7 +2,7 @@ use Rattle.std.proofs.Common.{sym, subst, refl, length}
 use Rattle.meta_types.specs.Rows.{Records, BackLists, State}
 use Rattle.meta_types.specs.Reports.{Report, Collects}
 use Rattle.meta_types.proofs.SoundAfter.{a_collected_store_is_sound}
-use Rattle.sweep_report.proofs.Wholes.{a_swept_plan_is_a_collection}
+use Rattle.collection.proofs.SweptPlans.{a_swept_plan_is_a_collection}
 use Rattle.backend_sweep.specs.Swept.{AllSwept, held_in}
 use Rattle.collection.specs.Arrived.{in_order, came_in}
 use Rattle.collection.specs.Stores.{records_in, store_in}

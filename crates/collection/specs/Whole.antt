@@ -1,5 +1,5 @@
 -- The report of a plan and of what was swept, and what the three come to. Ours, unless a source stands beside.
-use Rattle.std.specs.Prelude.{◌≡◌, false, ℤ, length}
+use Rattle.std.specs.Prelude.{◌≡◌, Bool, false, ℤ, length}
 use Rattle.meta_types.specs.Rows.{Records, BackLists, State}
 use Rattle.meta_types.specs.Reports.{Report, Collects, Plans}
 use Rattle.table_sweep.specs.declared.planning.Plan.{Plan}

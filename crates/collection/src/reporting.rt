@@ -1,13 +1,13 @@
 //! The report of a collection, from that of its dry run.
 ghost use Rattle.std.specs.Prelude.{◌≡◌};
-ghost use Rattle.sweep_report.specs.Whole.{reported};
+ghost use Rattle.collection.specs.Whole.{reported};
 
 use backend_sweep::Swept;
 use gc_report::Report;
 
-/// The report of a collection: that of its dry run, but for what was removed and what failed. It
-/// takes no memory.
-pub fn report(planned: Report, swept: Swept) -> Report
+// The report of a collection: that of its dry run, but for what was removed and what failed. It
+// takes no memory.
+pub(crate) fn report(planned: Report, swept: Swept) -> Report
     ensures { result ≡ reported planned swept }
 {
     let (backend, failed) = swept.into_objects();

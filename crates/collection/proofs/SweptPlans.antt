@@ -7,7 +7,7 @@ use Rattle.table_sweep.specs.declared.planning.Plan.{Plan}
 use Rattle.table_sweep.specs.InKeyOrder.{records_in_key_order}
 use Rattle.table_sweep.specs.Plans.{IsPlanOfRows}
 use Rattle.backend_sweep.specs.Swept.{AllSwept}
-use Rattle.sweep_report.specs.Whole.{reported, IsPlanOfStore, SweepsBackends, SweepsRecords}
+use Rattle.collection.specs.Whole.{reported, IsPlanOfStore, SweepsBackends, SweepsRecords}
 
 -- a plan's report, with what was swept
 pub a_swept_plan_is_a_collection : (came : Records) (backends : BackLists) (at : ℤ) (plan : Plan) (swept : AllSwept) (records : Records) (back : BackLists) → IsPlanOfRows came (length came.tables.namespaces) backends at plan → SweepsRecords plan came records → SweepsBackends plan backends swept back

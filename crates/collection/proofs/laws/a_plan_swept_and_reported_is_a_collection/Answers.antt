@@ -1,5 +1,5 @@
-use Rattle.sweep_report.proofs.Wholes.{a_swept_plan_is_a_collection, a_plan_is_a_dry_run}
-use Rattle.sweep_report.proofs.laws.a_plan_swept_and_reported_is_a_collection.Goals as goal
+use Rattle.collection.proofs.SweptPlans.{a_swept_plan_is_a_collection, a_plan_is_a_dry_run}
+use Rattle.collection.proofs.laws.a_plan_swept_and_reported_is_a_collection.Goals as goal
 
 pub returns-clause-collects : goal.returns-clause-collects
 returns-clause-collects c = a_swept_plan_is_a_collection
