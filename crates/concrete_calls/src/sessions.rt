@@ -22,10 +22,9 @@ fn is_called<L: Ledger, R: Threads + Wait + Sync>(
     session: &mut Session<L>,
 ) -> Result<bool, Fault> {
     let request = space(alloc)?;
-    let reply = store.call(rt, alloc, session, &request);
+    let reply = store.call(rt, alloc, session, request);
     let is_done = matches!(&reply, Ok(Reply::Done));
     drop(reply);
-    drop(request);
     Ok(is_done)
 }
 

@@ -43,9 +43,7 @@ fn do_line<L: Ledger, K: Keeps, R: Threads + Wait + Sync>(
     ensures opened { session.new.number < locked.new.opened }
 {
     let asked = read_line(alloc, line)?;
-    let answer = do_asked(locked, rt, alloc, session, &asked, workers);
-    drop(asked);
-    answer
+    do_asked(locked, rt, alloc, session, asked, workers)
 }
 
 // The answer to a line that isn't empty.

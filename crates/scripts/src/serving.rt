@@ -24,12 +24,12 @@ fn do_request<L: Ledger, K: Keeps>(
     locked: &mut MemLocked<L, K>,
     alloc: Global,
     session: &mut Session<L>,
-    request: &Request,
+    request: Request,
 ) -> Result<Reply, Fault>
     requires { session.old.number < locked.old.opened }
-    ensures ok { IfOk result (λ reply. IsServed locked.old.store.state (A.Request request.now)
+    ensures ok { IfOk result (λ reply. IsServed locked.old.store.state (A.Request request)
         (answered reply) locked.new.store.state) }
-    ensures err { IfErr result (λ fault. IsRefused locked.old.store.state (A.Request request.now)
+    ensures err { IfErr result (λ fault. IsRefused locked.old.store.state (A.Request request)
         fault locked.new.store.state) }
     ensures opened { session.new.number < locked.new.opened }
 {
@@ -81,16 +81,16 @@ fn remove<L: Ledger, K: Keeps, R: Threads + Wait + Sync>(
     rt: &R,
     alloc: Global,
     session: &mut Session<L>,
-    removal: &Removal,
+    removal: Removal,
     at: &RawText,
     workers: usize,
 ) -> Result<Report, Fault>
     requires opened { session.old.number < locked.old.opened }
     requires workers { is_worker_count workers ≡ true }
     ensures ok { IfOk result (λ report. IsServed locked.old.store.state
-        (A.Remove removal.now at.now) (reported report) locked.new.store.state) }
+        (A.Remove removal at.now) (reported report) locked.new.store.state) }
     ensures err { IfErr result (λ fault. IsRefused locked.old.store.state
-        (A.Remove removal.now at.now) fault locked.new.store.state) }
+        (A.Remove removal at.now) fault locked.new.store.state) }
     ensures opened { session.new.number < locked.new.opened }
 {
     let Some(at) = read_instant(at.text()) else {
@@ -117,14 +117,14 @@ pub fn do_asked<L: Ledger, K: Keeps, R: Threads + Wait + Sync>(
     rt: &R,
     alloc: Global,
     session: &mut Session<L>,
-    asked: &Asked,
+    asked: Asked,
     workers: usize,
 ) -> Result<Answer, Fault>
     requires opened { session.old.number < locked.old.opened }
     requires workers { is_worker_count workers ≡ true }
-    ensures ok { IfOk result (λ answer. IsServed locked.old.store.state asked.now
+    ensures ok { IfOk result (λ answer. IsServed locked.old.store.state asked
         (answer_of answer) locked.new.store.state) }
-    ensures err { IfErr result (λ fault. IsRefused locked.old.store.state asked.now fault
+    ensures err { IfErr result (λ fault. IsRefused locked.old.store.state asked fault
         locked.new.store.state) }
     ensures opened { session.new.number < locked.new.opened }
 {
@@ -134,11 +134,11 @@ pub fn do_asked<L: Ledger, K: Keeps, R: Threads + Wait + Sync>(
             Ok(Answer::Replied(reply))
         }
         Asked::Collect { at, dry } => {
-            let report = collect(locked, rt, alloc, session, at, *dry, workers)?;
+            let report = collect(locked, rt, alloc, session, &at, dry, workers)?;
             Ok(Answer::Reported(report))
         }
         Asked::Remove { removal, at } => {
-            let report = remove(locked, rt, alloc, session, removal, at, workers)?;
+            let report = remove(locked, rt, alloc, session, removal, &at, workers)?;
             Ok(Answer::Reported(report))
         }
     }

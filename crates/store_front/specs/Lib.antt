@@ -1,4 +1,3 @@
-pub mod Asked
 pub mod Told
 pub mod Entries
 pub mod Front

@@ -3,4 +3,5 @@
 pub(crate) mod both;
 pub(crate) mod entry;
 pub(crate) mod event;
+pub(crate) mod kept_report;
 pub(crate) mod room;

@@ -12,7 +12,8 @@ mod store;
 
 pub use calls::plan_copy::Planned;
 pub use event::entry::{Entry, Told};
-pub use event::event::{Answer, Asked, Event};
+pub use event::event::{Answer, Event};
+pub use event::kept_report::KeptReport;
 pub use history::base::{Base, History};
 pub use keeps::{Keeps, Kept, Unkept};
 pub use locked::{Locked, MemLocked, SESSIONS};

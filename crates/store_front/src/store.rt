@@ -94,12 +94,12 @@ impl<L: Ledger, S: SnapBackend, B: BlobBackend, I: IngestBackend, K: Keeps> Stor
         rt: &impl Wait,
         alloc: Global,
         session: &mut Session<L>,
-        request: &Request,
+        request: Request,
     ) -> Result<Reply, Fault>
         ensures step { (old : Stored) × (new : Stored) × IsSound old
-            × Takes old (requested request.now) (kept_reply result) new
-            × IfErr result (λ f. Fails f (least_fault (outcome old request.now))) }
-        ensures list { session.new.list ≡ list_after session.old.list (requested request.now)
+            × Takes old (requested request) (kept_reply result) new
+            × IfErr result (λ f. Fails f (least_fault (outcome old request))) }
+        ensures list { session.new.list ≡ list_after session.old.list (requested request)
             (kept_if K.KEPT (kept_reply result)) }
         ensures number { session.new.number ≡ session.old.number }
     {
@@ -140,17 +140,17 @@ impl<L: Ledger, S: SnapBackend, B: BlobBackend, I: IngestBackend, K: Keeps> Stor
         rt: &R,
         alloc: Global,
         session: &mut Session<L>,
-        removal: &Removal,
+        removal: Removal,
         at: Instant,
         workers: usize,
         gate: &G,
         sweep_gate: &H,
     ) -> Result<Report, Fault>
         ensures step { (old : Stored) × (new : Stored) × IsSound old
-            × Takes old (remove_collect removal.now at.0 workers) (kept_report result) new
-            × IfErr result (λ f. CollectFails f (remove_collect_fault old removal.now workers)) }
+            × Takes old (remove_collect removal at.0 workers) (kept_report result) new
+            × IfErr result (λ f. CollectFails f (remove_collect_fault old removal workers)) }
         ensures list { session.new.list ≡ list_after session.old.list
-            (remove_collect removal.now at.0 workers) (kept_if K.KEPT (kept_report result)) }
+            (remove_collect removal at.0 workers) (kept_if K.KEPT (kept_report result)) }
         ensures number { session.new.number ≡ session.old.number }
     {
         let mut guard = self.inner.lock(rt);

@@ -17,22 +17,22 @@ use std::alloc::Global;
 use std::sync::ledger::Ledger;
 
 impl<L: Ledger, S: SnapBackend, B: BlobBackend, I: IngestBackend, K: Keeps> Locked<L, S, B, I, K> {
-    /// Answers a request. It is an entry, in the log and in the session's list, unless memory was
-    /// wanting, the device failed, or the store keeps none.
+    /// Answers a request, which an entry keeps as it is. There is one, in the log and in the
+    /// session's list, unless memory was wanting, the device failed, or the store keeps none.
     pub fn apply(
         &mut self,
         alloc: Global,
         session: &mut Session<L>,
-        request: &Request,
+        request: Request,
     ) -> Result<Reply, Fault>
         requires { session.old.number < self.old.opened }
-        ensures step { Takes self.old.store.state (requested request.now) (kept_reply result)
+        ensures step { Takes self.old.store.state (requested request) (kept_reply result)
             self.new.store.state }
         ensures fault { IfErr result (λ f. Fails f
-            (least_fault (outcome self.old.store.state request.now))) }
+            (least_fault (outcome self.old.store.state request))) }
         ensures log { self.new.log ≡ log_after self.old.log session.old.number
-            (requested request.now) (kept_if K.KEPT (kept_reply result)) }
-        ensures list { session.new.list ≡ list_after session.old.list (requested request.now)
+            (requested request) (kept_if K.KEPT (kept_reply result)) }
+        ensures list { session.new.list ≡ list_after session.old.list (requested request)
             (kept_if K.KEPT (kept_reply result)) }
         ensures number { session.new.number ≡ session.old.number }
         ensures base { self.new.base ≡ self.old.base }
@@ -47,7 +47,9 @@ impl<L: Ledger, S: SnapBackend, B: BlobBackend, I: IngestBackend, K: Keeps> Lock
             ..
         } = self;
         if !K::KEPT {
-            return state.apply(alloc, request);
+            let reply = state.apply(alloc, &request);
+            drop(request);
+            return reply;
         }
         let Session {
             number,
@@ -55,12 +57,13 @@ impl<L: Ledger, S: SnapBackend, B: BlobBackend, I: IngestBackend, K: Keeps> Lock
             share,
         } = session;
         if make_room(log, list).is_err() {
+            drop(request);
             return Err(Fault::OutOfMemory);
         }
-        let Ok(events) = Events::requested(alloc, request) else {
+        let Ok((asked, events)) = Events::requested(alloc, request) else {
             return Err(Fault::OutOfMemory);
         };
-        let result = state.apply(alloc, request);
+        let result = state.apply(alloc, asked.get());
         keep_reply(alloc, log, list, book, share, *number, events, result)
     }
 }

@@ -6,7 +6,7 @@ ghost use Rattle.store_front.specs.KeptAnswers.{kept_if, kept_report, Takes, log
 ghost use Rattle.meta_types.specs.Sound.{IsSound};
 
 use crate::event::both::Events;
-use crate::event::room::{keep_report, make_room, report_alone};
+use crate::event::room::{keep_report, make_room, report_alone, report_rooms};
 use crate::keeps::Keeps;
 use crate::locked::Locked;
 use crate::session::Session;
@@ -135,8 +135,11 @@ impl<L: Ledger, S: SnapBackend, B: BlobBackend, I: IngestBackend, K: Keeps> Lock
             return Err(Fault::OutOfMemory);
         }
         let events = Events::collect(at, dry, workers);
+        let Ok(rooms) = report_rooms(alloc) else {
+            return Err(Fault::OutOfMemory);
+        };
         let reports = run_collect(rt, alloc, state, at, dry, workers, gate, sweep_gate);
-        keep_report(log, list, book, share, *number, events, reports)
+        keep_report(log, list, book, share, *number, events, rooms, reports)
     }
 
     /// Removes an image or a lease and collects, as one event, with the entry and the refusals of
@@ -146,21 +149,21 @@ impl<L: Ledger, S: SnapBackend, B: BlobBackend, I: IngestBackend, K: Keeps> Lock
         rt: &R,
         alloc: Global,
         session: &mut Session<L>,
-        removal: &Removal,
+        removal: Removal,
         at: Instant,
         workers: usize,
         gate: &G,
         sweep_gate: &H,
     ) -> Result<Report, Fault>
         requires { session.old.number < self.old.opened }
-        ensures step { Takes self.old.store.state (remove_collect removal.now at.0 workers)
+        ensures step { Takes self.old.store.state (remove_collect removal at.0 workers)
             (kept_report result) self.new.store.state }
         ensures fault { IfErr result (λ f. CollectFails f
-            (remove_collect_fault self.old.store.state removal.now workers)) }
+            (remove_collect_fault self.old.store.state removal workers)) }
         ensures log { self.new.log ≡ log_after self.old.log session.old.number
-            (remove_collect removal.now at.0 workers) (kept_if K.KEPT (kept_report result)) }
+            (remove_collect removal at.0 workers) (kept_if K.KEPT (kept_report result)) }
         ensures list { session.new.list ≡ list_after session.old.list
-            (remove_collect removal.now at.0 workers) (kept_if K.KEPT (kept_report result)) }
+            (remove_collect removal at.0 workers) (kept_if K.KEPT (kept_report result)) }
         ensures number { session.new.number ≡ session.old.number }
         ensures base { self.new.base ≡ self.old.base }
         ensures opened { self.new.opened ≡ self.old.opened }
@@ -174,7 +177,7 @@ impl<L: Ledger, S: SnapBackend, B: BlobBackend, I: IngestBackend, K: Keeps> Lock
             ..
         } = self;
         if !K::KEPT {
-            let reports = run_removal(rt, alloc, state, removal, at, workers, gate, sweep_gate);
+            let reports = run_removal(rt, alloc, state, &removal, at, workers, gate, sweep_gate);
             return report_alone(reports);
         }
         let Session {
@@ -185,10 +188,14 @@ impl<L: Ledger, S: SnapBackend, B: BlobBackend, I: IngestBackend, K: Keeps> Lock
         if make_room(log, list).is_err() {
             return Err(Fault::OutOfMemory);
         }
-        let Ok(events) = Events::remove_collect(removal, at, workers) else {
+        let Ok((asked, events)) = Events::remove_collect(alloc, removal, at, workers) else {
             return Err(Fault::OutOfMemory);
         };
+        let Ok(rooms) = report_rooms(alloc) else {
+            return Err(Fault::OutOfMemory);
+        };
+        let removal = asked.get();
         let reports = run_removal(rt, alloc, state, removal, at, workers, gate, sweep_gate);
-        keep_report(log, list, book, share, *number, events, reports)
+        keep_report(log, list, book, share, *number, events, rooms, reports)
     }
 }

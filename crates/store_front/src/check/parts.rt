@@ -6,6 +6,7 @@ ghost use Rattle.store_front.specs.Parts.{told_of, part, DifferFirst, IsPart};
 use crate::event::entry::{Entry, Told};
 use crate::event::event::{Answer, Event};
 use crate::session::Session;
+use meta_types::Reply;
 use std::sync::ledger::Ledger;
 
 impl Event {
@@ -14,14 +15,14 @@ impl Event {
         ensures { IsTrue result ↔ (event_of self.now ≡ event_of other.now) }
     {
         match (self, other) {
-            (Event::Requested(one), Event::Requested(two)) => one.request().is(two.request()),
+            (Event::Requested(one), Event::Requested(two)) => one.get().is(two.get()),
             (Event::Collect(at, dry, workers), Event::Collect(moment, only, number)) => {
                 at == moment && dry == only && workers == number
             }
             (
                 Event::RemoveCollect(removal, at, workers),
                 Event::RemoveCollect(other, moment, number),
-            ) => removal.is(other) && at == moment && workers == number,
+            ) => removal.get().is(other.get()) && at == moment && workers == number,
             _ => false,
         }
     }
@@ -33,8 +34,11 @@ impl Answer {
         ensures { IsTrue result ↔ (answer_of self.now ≡ answer_of other.now) }
     {
         match (self, other) {
-            (Answer::Answered(one), Answer::Answered(two)) => one.is(two),
-            (Answer::Reported(one), Answer::Reported(two)) => one.is(two),
+            (Answer::Done, Answer::Done) => true,
+            (Answer::Done, Answer::Answered(two)) => two.get().is(&Reply::Done),
+            (Answer::Answered(one), Answer::Done) => one.get().is(&Reply::Done),
+            (Answer::Answered(one), Answer::Answered(two)) => one.get().is(two.get()),
+            (Answer::Reported(one), Answer::Reported(two)) => one.get().is(two.get()),
             (Answer::Refused(one), Answer::Refused(two)) => one == two,
             _ => false,
         }

@@ -1,17 +1,16 @@
 //! Events and answers for the log, and the same for the session's list.
 ghost use Rattle.std.specs.Prelude.{◌≡◌, Ok, None, IfOk, IsOk, IsErr};
 ghost use Rattle.meta_types.specs.Faults.{Refuses};
-ghost use Rattle.meta_types.specs.Steps.{requested, collect, remove_collect, reported, refused};
+ghost use Rattle.meta_types.specs.Steps.{requested, collect, remove_collect, answered};
 ghost use Rattle.meta_types.specs.declared.reply.Reply.TheVariants as P;
 ghost use Rattle.store_front.specs.KeptAnswers.{kept_reply, kept_fault};
 
-use crate::event::event::{Answer, Asked, Event};
-use gc_report::Report;
-use meta_types::{Fault, Instant, Removal, Reply, Request};
+use crate::event::event::{Answer, Event};
+use meta_types::{Fault, Instant, Removal, Reply, Request, Shared};
 use std::alloc::Global;
 use std::marker::Model;
 
-/// Two equal copies of an event: one for the log, one for the session's list.
+/// One event, for the log and for the session's list.
 #[derive(Drop)]
 pub(crate) struct Events {
     pub(crate) log: Event,
@@ -31,16 +30,18 @@ impl Model for Events {
 }
 
 impl Events {
-    pub(crate) fn requested(alloc: Global, request: &Request) -> Result<Events, Fault>
+    // The request, beside the event that it is.
+    pub(crate) fn requested(
+        alloc: Global,
+        request: Request,
+    ) -> Result<(Shared<Request>, Events), Fault>
         ensures fault { Refuses result None }
-        ensures ok { IfOk result (λ events. events ≡ requested request.now) }
+        ensures ok { IfOk result (λ both. (both.0 ≡ request) × (both.1 ≡ requested request)) }
     {
-        let one = Asked::of(alloc, request)?;
-        let other = Asked::of(alloc, request)?;
-        Ok(Events {
-            log: Event::Requested(one),
-            list: Event::Requested(other),
-        })
+        let asked = Shared::new(alloc, request)?;
+        let log = Event::Requested(asked.share()?);
+        let list = Event::Requested(asked.share()?);
+        Ok((asked, Events { log, list }))
     }
 
     pub(crate) fn collect(at: Instant, dry: bool, workers: usize) -> Events
@@ -52,24 +53,25 @@ impl Events {
         }
     }
 
+    // The removal, beside the event that it is with its collection.
     pub(crate) fn remove_collect(
-        removal: &Removal,
+        alloc: Global,
+        removal: Removal,
         at: Instant,
         workers: usize,
-    ) -> Result<Events, Fault>
+    ) -> Result<(Shared<Removal>, Events), Fault>
         ensures fault { Refuses result None }
-        ensures ok { IfOk result (λ events. events ≡ remove_collect removal.now at.0 workers) }
+        ensures ok { IfOk result (λ both. (both.0 ≡ removal)
+            × (both.1 ≡ remove_collect removal at.0 workers)) }
     {
-        let one = removal.copy()?;
-        let other = removal.copy()?;
-        Ok(Events {
-            log: Event::RemoveCollect(one, at, workers),
-            list: Event::RemoveCollect(other, at, workers),
-        })
+        let asked = Shared::new(alloc, removal)?;
+        let log = Event::RemoveCollect(asked.share()?, at, workers);
+        let list = Event::RemoveCollect(asked.share()?, at, workers);
+        Ok((asked, Events { log, list }))
     }
 }
 
-/// Two equal copies of an answer: one for the log, one for the session's list.
+/// One answer, for the log and for the session's list.
 #[derive(Drop)]
 pub(crate) struct Answers {
     pub(crate) log: Answer,
@@ -88,6 +90,19 @@ impl Model for Answers {
     ghost invariant = { λ a. answer_of a.list ≡ answer_of a.log };
 }
 
+// A copy of the reply, for both.
+fn shared_reply(alloc: Global, reply: &Reply) -> Result<Answers, Fault>
+    ensures fault { Refuses result None }
+    ensures ok { IfOk result (λ answers. answers ≡ answered reply.now) }
+{
+    let one = Shared::new(alloc, reply.copy(alloc)?)?;
+    let other = one.share()?;
+    Ok(Answers {
+        log: Answer::Answered(one),
+        list: Answer::Answered(other),
+    })
+}
+
 impl Answers {
     // What is kept of a reply.
     pub(crate) fn of_reply(
@@ -100,10 +115,11 @@ impl Answers {
         ensures refused { IsErr outcome.now → IsOk result }
     {
         match outcome {
-            Ok(reply) => Ok(Some(Answers {
-                log: Answer::Answered(reply.copy(alloc)?),
-                list: Answer::Answered(reply.copy(alloc)?),
+            Ok(Reply::Done) => Ok(Some(Answers {
+                log: Answer::Done,
+                list: Answer::Done,
             })),
+            Ok(reply) => Ok(Some(shared_reply(alloc, reply)?)),
             Err(fault) => Ok(Answers::of_fault(*fault)),
         }
     }

@@ -9,6 +9,7 @@ ghost use Rattle.store_front.specs.KeptAnswers.{kept_reply, kept_report, log_aft
 use crate::event::both::{Answers, Events};
 use crate::event::entry::{Entry, Told};
 use crate::event::event::Answer;
+use crate::event::kept_report::KeptReport;
 use collection::Reports;
 use gc_report::Report;
 use meta_types::{Fault, Reply};
@@ -26,6 +27,15 @@ pub(crate) fn make_room(log: &mut Vec<Entry>, list: &mut Vec<Told>) -> Result<()
     log.reserve(1)?;
     list.reserve(1)?;
     Ok(())
+}
+
+// Room for the reports of an entry in the log, and of one in the session's list.
+pub(crate) fn report_rooms(alloc: Global) -> Result<(KeptReport, KeptReport), Fault>
+    ensures { Refuses result None }
+{
+    let one = KeptReport::room(alloc)?;
+    let other = KeptReport::room(alloc)?;
+    Ok((one, other))
 }
 
 // Puts the event with its answer, where one is kept, at the end of the log and of the session's
@@ -105,6 +115,7 @@ pub(crate) fn keep_report<L: Ledger>(
     share: &mut Share<L>,
     number: u32,
     events: Events,
+    rooms: (KeptReport, KeptReport),
     outcome: Result<Reports, Fault>,
 ) -> Result<Report, Fault>
     requires log_room { vec_len log.old < vec_capacity log.old }
@@ -125,9 +136,10 @@ pub(crate) fn keep_report<L: Ledger>(
                 log: one,
                 list: other,
             } = reports;
+            let (first, second) = rooms;
             let answers = Answers {
-                log: Answer::Reported(one),
-                list: Answer::Reported(other),
+                log: Answer::Reported(first.filled(one)),
+                list: Answer::Reported(second.filled(other)),
             };
             put(log, list, book, share, number, events, Some(answers));
             Ok(caller)

@@ -4,36 +4,37 @@ ghost use Rattle.meta_types.specs.Faults.{Refuses};
 ghost use Rattle.store_front.specs.Entries.{event_of, answer_of};
 
 use crate::event::entry::Entry;
-use crate::event::event::{Answer, Asked, Event};
+use crate::event::event::{Answer, Event};
 use crate::history::base::{Base, History};
 use back_model::BackLists;
 use meta_types::{Fault, ShortName};
 use std::alloc::Global;
 
 impl Event {
-    /// The same event.
-    pub fn copy(&self, alloc: Global) -> Result<Event, Fault>
+    /// The same event. What was asked is shared.
+    pub fn copy(&self) -> Result<Event, Fault>
         ensures fault { Refuses result None }
         ensures ok { IfOk result (λ event. event_of event ≡ event_of self.now) }
     {
         match self {
-            Event::Requested(asked) => Ok(Event::Requested(Asked::of(alloc, asked.request())?)),
+            Event::Requested(request) => Ok(Event::Requested(request.share()?)),
             Event::Collect(at, dry, workers) => Ok(Event::Collect(*at, *dry, *workers)),
             Event::RemoveCollect(removal, at, workers) => {
-                Ok(Event::RemoveCollect(removal.copy()?, *at, *workers))
+                Ok(Event::RemoveCollect(removal.share()?, *at, *workers))
             }
         }
     }
 }
 
 impl Answer {
-    /// The same answer.
+    /// The same answer. A reply is shared; a report is copied.
     pub fn copy(&self, alloc: Global) -> Result<Answer, Fault>
         ensures fault { Refuses result None }
         ensures ok { IfOk result (λ answer. answer_of answer ≡ answer_of self.now) }
     {
         match self {
-            Answer::Answered(reply) => Ok(Answer::Answered(reply.copy(alloc)?)),
+            Answer::Done => Ok(Answer::Done),
+            Answer::Answered(reply) => Ok(Answer::Answered(reply.share()?)),
             Answer::Reported(report) => Ok(Answer::Reported(report.copy(alloc)?)),
             Answer::Refused(fault) => Ok(Answer::Refused(*fault)),
         }
@@ -46,7 +47,7 @@ impl Entry {
         ensures fault { Refuses result None }
         ensures ok { IfOk result (λ entry. entry ≡ self.now) }
     {
-        let event = self.event.copy(alloc)?;
+        let event = self.event.copy()?;
         let answer = self.answer.copy(alloc)?;
         Ok(Entry {
             session: self.session,
