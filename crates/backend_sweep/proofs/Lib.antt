@@ -19,3 +19,6 @@ pub mod Allowed
 pub mod Placed
 pub mod Cursors
 pub mod Dealing
+pub mod OnePart
+pub mod NamesStand
+pub mod LastLane

@@ -1,5 +1,5 @@
 -- Shards beside what is to be swept of each, and what was. Ours, unless a source stands beside.
-use Rattle.std.specs.Prelude.{ℕ, ◌≡◌, Bool, false, not, ◌||◌, List, [], length, find, bytes_eq}
+use Rattle.std.specs.Prelude.{ℕ, ◌≡◌, Bool, false, not, ◌||◌, List, [], length, find, Some, bytes_eq}
 use Rattle.std.specs.Option.{option_map_or}
 use Rattle.meta_types.specs.Text.{Text}
 use Rattle.back_model.specs.Shown.{Shard}
@@ -29,6 +29,11 @@ pub record SweepsLane (old : Shard) (lane swept : Laned) (new : Shard) : Type 0 
   pub name : new.snapshotter ≡ old.snapshotter
   pub lane_is : swept ≡ record lane { swept = swept.swept }
   pub sweeps : Sweeps lane.list old.snaps new.snaps old.failures new.failures swept.swept
+
+-- its snapshotter's lane is this one
+abbrev pub IsFound : List Laned → Laned → Type 0
+IsFound lanes lane =
+    find (λ (other : Laned). bytes_eq other.snapshotter lane.snapshotter) lanes ≡ Some lane
 
 -- the test of the number by the name's lane; false where it has no lane
 abbrev pub in_lane : (Laned → ℕ → Bool) → List Laned → Text × ℕ → Bool

@@ -4,6 +4,7 @@
 mod backends;
 mod gate;
 mod number_set;
+mod parts;
 mod room;
 mod shard;
 mod shard_jobs;

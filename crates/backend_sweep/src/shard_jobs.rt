@@ -4,6 +4,7 @@ ghost use Rattle.std.specs.Vec.{vec_capacity};
 ghost use Rattle.meta_types.specs.Faults.{Refuses};
 ghost use Rattle.back_model.specs.Shown.{shown};
 ghost use Rattle.backend_sweep.specs.Lanes.{lane_for, IsReady, SweepsLane};
+ghost use Rattle.backend_sweep.specs.Parts.{StandBySnapshotter};
 
 use crate::gate::SweepGate;
 use crate::shard_plans::{ShardPlan, lanes_of, sweep_lane};
@@ -51,6 +52,7 @@ pub(crate) fn lanes_and_room<S: SnapBackend>(
     shards: &[(ShortName, S)],
     names: &[(ShortName, u64)],
 ) -> Result<(Vec<ShardPlan>, JobRoom<S>), Fault>
+    requires { StandBySnapshotter names.now }
     ensures fault { Refuses result None }
     ensures lanes { IfOk result (λ made. made.0.items
         ≡ map (λ entry. lane_for names.now entry.0) shards.now) }

@@ -1,14 +1,15 @@
 //! Shards beside what is to be swept of each.
-ghost use Rattle.std.specs.Prelude.{◌≡◌, ◌<◌, ◌≤◌, ℕ, List, [], length, map, filter, find, option_map, bytes_eq, None, IfOk, slice_index_or};
+ghost use Rattle.std.specs.Prelude.{◌≡◌, ◌<◌, ◌≤◌, ℕ, List, [], length, map, filter, find, option_map, bytes_eq, None, IfOk, IfSome, slice_index_or};
 ghost use Rattle.std.specs.Vec.{vec_capacity};
 ghost use Rattle.meta_types.specs.Faults.{Refuses};
 ghost use Rattle.back_model.specs.Shown.{shown};
-ghost use Rattle.backend_sweep.specs.Shards.{numbers_of};
 ghost use Rattle.backend_sweep.specs.Sweep.{Childfirst, IsRoomFor, Sweeps};
-ghost use Rattle.backend_sweep.specs.Lanes.{lane_for, IsReady, SweepsLane, is_removed, is_failed};
+ghost use Rattle.backend_sweep.specs.Lanes.{lane_for, IsReady, SweepsLane, IsFound, is_removed, is_failed};
+ghost use Rattle.backend_sweep.specs.Parts.{StandBySnapshotter};
 ghost use Rattle.backend_sweep.specs.Swept.{HasRoom};
 
 use crate::gate::{OpenSweepGate, SweepGate};
+use crate::parts::part_of;
 use crate::room::Room;
 use crate::shard::sweep_shard;
 use crate::shard_swept::ShardSwept;
@@ -38,20 +39,13 @@ impl Model for ShardPlan {
     } };
 }
 
-// The numbers of one snapshotter's names.
-fn numbers_of(
-    alloc: Global,
-    names: &[(ShortName, u64)],
-    snapshotter: &ShortName,
-) -> Result<Vec<u64>, Fault>
+fn numbers_in(alloc: Global, names: &[(ShortName, u64)]) -> Result<Vec<u64>, Fault>
     ensures fault { Refuses result None }
-    ensures ok { IfOk result (λ numbers. numbers.items ≡ numbers_of snapshotter.now names.now) }
+    ensures ok { IfOk result (λ numbers. numbers.items ≡ map (λ name. name.1) names.now) }
 {
     let mut numbers = Vec::with_capacity(alloc, names.len())?;
     for name in names {
-        if name.0 == *snapshotter {
-            numbers.push(name.1)?;
-        }
+        numbers.push(name.1)?;
     }
     Ok(numbers)
 }
@@ -62,10 +56,11 @@ fn lane_for(
     names: &[(ShortName, u64)],
     snapshotter: &ShortName,
 ) -> Result<ShardPlan, Fault>
+    requires { StandBySnapshotter names.now }
     ensures fault { Refuses result None }
     ensures ok { IfOk result (λ lane. lane ≡ lane_for names.now snapshotter.now) }
 {
-    let list = numbers_of(alloc, names, snapshotter)?;
+    let list = numbers_in(alloc, part_of(names, snapshotter))?;
     let swept = ShardSwept::room(alloc, list.len())?;
     Ok(ShardPlan {
         snapshotter: snapshotter.copy()?,
@@ -80,6 +75,7 @@ pub(crate) fn lanes_of<S: SnapBackend>(
     shards: &[(ShortName, S)],
     names: &[(ShortName, u64)],
 ) -> Result<Vec<ShardPlan>, Fault>
+    requires { StandBySnapshotter names.now }
     ensures fault { Refuses result None }
     ensures ok { IfOk result (λ lanes. lanes.items
         ≡ map (λ entry. lane_for names.now entry.0) shards.now) }
@@ -171,6 +167,26 @@ fn lane_at<'a>(lanes: &'a [ShardPlan], snapshotter: &ShortName) -> Option<&'a Sh
     None
 }
 
+// The lane of a snapshotter, if it has one: mostly that of the name before.
+#[tactic(auto, using(crate::proofs::LastLane::same_lane))]
+fn lane_from<'a>(
+    lanes: &'a [ShardPlan],
+    last: Option<&'a ShardPlan>,
+    snapshotter: &ShortName,
+) -> Option<&'a ShardPlan>
+    requires { IfSome last (λ lane. IsFound lanes.now lane.now) }
+    ensures lane { option_map (λ lane. lane.now) result
+        ≡ find (λ lane. bytes_eq lane.snapshotter snapshotter.now) lanes.now }
+    ensures found { IfSome result (λ lane. IsFound lanes.now lane.now) }
+{
+    if let Some(lane) = last {
+        if lane.snapshotter == *snapshotter {
+            return Some(lane);
+        }
+    }
+    lane_at(lanes, snapshotter)
+}
+
 // Each name goes where its lane has it.
 fn distribute(
     names: Vec<(ShortName, u64)>,
@@ -183,8 +199,10 @@ fn distribute(
     ensures removed { removed.new.items ≡ filter (is_removed lanes.now) names.items }
     ensures failed { failed.new.items ≡ filter (is_failed lanes.now) names.items }
 {
+    let mut last = None;
     for name in names {
-        let Some(lane) = lane_at(lanes, &name.0) else {
+        last = lane_from(lanes, last, &name.0);
+        let Some(lane) = last else {
             continue;
         };
         if lane.swept.has_failed(name.1) {

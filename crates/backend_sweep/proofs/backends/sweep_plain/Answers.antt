@@ -3,10 +3,18 @@ use Rattle.back_model.specs.Shown.{shown}
 use Rattle.backend_sweep.specs.Shards.{is_number}
 use Rattle.backend_sweep.specs.Singles.{AreHeldOnce}
 use Rattle.backend_sweep.specs.Lanes.{lane_for, is_removed, is_failed}
+use Rattle.backend_sweep.specs.Parts.{StandBySnapshotter}
 use Rattle.backend_sweep.proofs.Allowed.{may_sweep}
+use Rattle.backend_sweep.proofs.NamesStand.{names_stand}
 use Rattle.backend_sweep.proofs.Placed.{sweeps_from}
 use Rattle.backend_sweep.proofs.Backs.{held_blobs, held_ingests, ready, news_apart, swept_by, count_by}
 use Rattle.backend_sweep.proofs.backends.sweep_plain.Goals as goal
+
+-- the plan's names stand by snapshotter
+pub lanes_of-requires-after_bounds : goal.lanes_of-requires-after_bounds
+lanes_of-requires-after_bounds g c κs within =
+    let named : c.deref-2.result.now ≡ c.args.plan.now.report.backend.snapshots = search rules in
+    subst StandBySnapshotter (sym named) (names_stand _ _ (may_sweep _ _ c.requires))
 
 pub sweep_in_turn-shards-requires-clause-ready : goal.sweep_in_turn-shards-requires-clause-ready
 sweep_in_turn-shards-requires-clause-ready g c κs within =

@@ -1,5 +1,6 @@
 use Rattle.std.proofs.Common.{◌≡◌, ◌≤◌, ◌++◌, length, filter, vec_capacity}
-use Rattle.backend_sweep.specs.Lanes.{is_removed, is_failed}
+use Rattle.std.specs.Prelude.{IfSome}
+use Rattle.backend_sweep.specs.Lanes.{IsFound, is_removed, is_failed}
 use Rattle.backend_sweep.proofs.shard_plans.distribute.Given as goal
 
 abbrev pub invariant-loop-name : goal.invariant-loop-name
@@ -11,4 +12,5 @@ invariant-loop-name l =
       failed : l.failed.items ≡ filter (is_failed l.lanes) l.yielded;
       removed_room : length l.fn.names.items ≤ vec_capacity l.removed;
       failed_room : length l.fn.names.items ≤ vec_capacity l.failed;
+      last : IfSome l.last (λ lane. IsFound l.lanes lane.now);
     }
