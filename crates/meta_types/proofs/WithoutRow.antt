@@ -9,7 +9,7 @@ use Rattle.meta_types.specs.Keys.{Key, is_key, remove_row}
 use Rattle.meta_types.specs.Rows.{Records, State}
 use Rattle.meta_types.specs.Rows.{image_key, container_key, lease_key, content_key, ingest_key, snap_key}
 use Rattle.meta_types.specs.Paths.{Thing, image, container, lease, ingest, content, snapshot}
-use Rattle.meta_types.specs.Paths.{things, in_both_modes, is_root, has_edge, IsPath}
+use Rattle.meta_types.specs.Paths.{things, in_both_modes, is_root, IsPath}
 use Rattle.meta_types.specs.Impacts.{removed}
 use Rattle.meta_types.specs.declared.object.Object.{Object}
 use Rattle.meta_types.specs.declared.object.Object.TheVariants.{Image, Container, Lease, Held}

@@ -2,3 +2,4 @@ mod LabelsInOrder
 mod Printed
 mod StepTokens
 mod ConstantTexts
+mod ImpactTokens

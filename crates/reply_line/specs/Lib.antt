@@ -3,3 +3,4 @@ pub mod Replies
 pub mod Fixed
 pub mod Explained
 pub mod StepWriting
+pub mod Foreseen

@@ -4,6 +4,7 @@
 mod answer;
 mod constants;
 mod explanation;
+mod impact;
 mod parts;
 mod reply;
 mod rows;
@@ -11,4 +12,5 @@ mod rows;
 pub use answer::Answer;
 pub use constants::refusal_text;
 pub use explanation::explanation_text;
+pub use impact::impact_text;
 pub use reply::{lent_text, reply_text};
