@@ -11,6 +11,7 @@ mod ingests;
 mod keyed;
 mod keyed_table;
 mod names;
+mod parents;
 mod snapshots;
 mod stored;
 mod tables;
