@@ -29,8 +29,8 @@ module _ (state : State) (ns snapshotter key name : Text) (labels : LabelList) (
   abbrev rows : List SnapRow
   rows = state.records.tables.snapshots
 
-  abbrev shards : List BackSnap
-  shards = state.backends.snapshots
+  abbrev snaps : List BackSnap
+  snaps = state.backends.snapshots
 
   abbrev gone : Key
   gone = ns ∷ snapshotter ∷ key ∷ []
@@ -53,20 +53,20 @@ module _ (state : State) (ns snapshotter key name : Text) (labels : LabelList) (
     is = row_of ns snapshotter key name labels rows row found active free
 
     -- its object is the one of the row that it was
-    new_object : HasObject shards after new
+    new_object : HasObject snaps after new
     new_object =
-        let was = All-contains (HasObject shards rows) rows row s.backed.objects is.0 in
+        let was = All-contains (HasObject snaps rows) rows row s.backed.objects is.0 in
         let had = All-contains (HasParent rows) rows row s.tables.numbered.parents is.0 in
         let same = (named_kept ns snapshotter key name labels rows row found active free had).1 in
-        subst (λ (t : Text). object_of shards t row.number ≡ of t (number_above rows row))
+        subst (λ (t : Text). object_of snaps t row.number ≡ of t (number_above rows row))
         (sym is.2) was ∙ ap (of snapshotter) (sym same)
       where
         of : Text → Option ℕ → Option BackSnap
         of t p = Some (record { snapshotter = t; number = row.number; parent = p })
 
     -- the others keep theirs, since no parent is active
-    old_objects : All (HasObject shards after) rows
-    old_objects = objects_kept shards rows after rows
+    old_objects : All (HasObject snaps after) rows
+    old_objects = objects_kept snaps rows after rows
         (All-weaker (HasParent rows) (λ other. number_above after other ≡ number_above rows other)
         (λ other has. (parent_kept rows after other (λ n e. stays (key_above other n)) has).1) rows
         s.tables.numbered.parents) s.backed.objects
@@ -77,15 +77,15 @@ module _ (state : State) (ns snapshotter key name : Text) (labels : LabelList) (
     pub snap_commit_sound : IsSound
         (with_snapshots state (committed ns snapshotter key name labels rows))
     snap_commit_sound = sound_snapshots state s (committed ns snapshotter key name labels rows)
-        state.records.next shards
+        state.records.next snaps
         (snap_committed state.records.tables s.tables ns snapshotter key name labels row found
         active free)
         (rw (committed_is ns snapshotter key name labels rows row found active free)
         (rows_backed state after s
         (all_added snap_key Below new (All-contains Below rows row s.backed.snapshots_below is.0)
         left (all_removed snap_key Below gone rows s.backed.snapshots_below))
-        (all_added snap_key (HasObject shards after) new new_object left
-        (all_removed snap_key (HasObject shards after) gone rows old_objects))))
+        (all_added snap_key (HasObject snaps after) new new_object left
+        (all_removed snap_key (HasObject snaps after) gone rows old_objects))))
 
 pub after_snap_commit : (state : State) (ns snapshotter key name : Text)
     (labels : List (Text × Text)) (lease : Option Text) → IsSound state

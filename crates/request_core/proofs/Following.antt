@@ -9,7 +9,7 @@ use Rattle.meta_types.specs.declared.reply.Reply.TheVariants.{Done}
 use Rattle.meta_types.specs.declared.request.Request.{Request}
 use Rattle.meta_types.specs.declared.fault.Fault.{Fault}
 use Rattle.meta_types.specs.declared.fault.Fault.TheVariants.{InvalidArgument, NotFound, AlreadyExists, FailedPrecondition, BadLine, TooLong, OutOfMemory, NoWorker, BackendFailed, ReadFailed, WriteFailed, Mismatch}
-use Rattle.request_core.proofs.Quiet.{quiet}
+use Rattle.request_core.proofs.EachRequest.{quiet}
 use Rattle.request_core.specs.Follows.{Store, Follows, Answers, left_by, FollowsExactly, AnswersExactly, FailsExactly, Fails, plain}
 use Rattle.request_core.specs.declared.refusal.Refusal.{Refusal}
 use Rattle.request_core.specs.declared.refusal.Refusal.TheVariants.{Reading, By}

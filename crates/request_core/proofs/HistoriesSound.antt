@@ -15,7 +15,7 @@ use Rattle.meta_types.specs.declared.request.Removal.TheVariants as Removing
 use Rattle.meta_types.proofs.SoundAfter.{a_collected_store_is_sound}
 use Rattle.request_core.proofs.StepSound.{after_image_remove}
 use Rattle.request_core.proofs.ContentSound.{after_lease_remove}
-use Rattle.request_core.proofs.RequestsSound.{step_sound}
+use Rattle.request_core.proofs.EachRequest.{step_sound}
 
 -- what is refused leaves the state as it was
 pub request_sound : (state : State) (request : Request) → IsSound state → IsSound (after state request)

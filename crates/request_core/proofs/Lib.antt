@@ -2,7 +2,6 @@ pub mod PairLabels
 pub mod Refusals
 pub mod Undone
 pub mod FreeNumbers
-pub mod Quiet
 pub mod Following
 pub mod IngestEnds
 pub mod LeaseRows
@@ -16,7 +15,7 @@ pub mod SnapshotsSound
 pub mod CommitsSound
 pub mod MadeSound
 pub mod PreparesSound
-pub mod RequestsSound
+pub mod EachRequest
 pub mod Prepared
 pub mod NextNumber
 pub mod HistoriesSound

@@ -86,17 +86,17 @@ module _ (state : State) (s : IsSound state) where
       record { tables = tables; leases = s.leases; stored = s.stored; backed = backed }
 
   -- snapshots with their objects
-  pub sound_snapshots : (rows : List SnapRow) (next : ℕ) (shards : List BackSnap)
+  pub sound_snapshots : (rows : List SnapRow) (next : ℕ) (snaps : List BackSnap)
       → AreTables (record state.records.tables { snapshots = rows })
-      → HaveObjects rows state.records.tables.ingests next shards state.backends.ingests
+      → HaveObjects rows state.records.tables.ingests next snaps state.backends.ingests
       → IsSound (record {
         records = record state.records {
           tables = record state.records.tables { snapshots = rows };
           next = next;
         };
-        backends = record state.backends { snapshots = shards };
+        backends = record state.backends { snapshots = snaps };
       })
-  sound_snapshots rows next shards tables backed =
+  sound_snapshots rows next snaps tables backed =
       record { tables = tables; leases = s.leases; stored = s.stored; backed = backed }
 
 -- ---- blobs and leases

@@ -32,8 +32,8 @@ module _ (state : State) (new : SnapRow) (s : IsSound state)
   abbrev next : ℕ
   next = state.records.next
 
-  abbrev shards : List BackSnap
-  shards = state.backends.snapshots
+  abbrev snaps : List BackSnap
+  snaps = state.backends.snapshots
 
   -- ---- the parent
 
@@ -55,12 +55,12 @@ module _ (state : State) (new : SnapRow) (s : IsSound state)
 
   -- and its object is there
   parent_object : (above : SnapRow) → parent_of rows new ≡ Some above
-      → list_any (is_named (new.key.snapshotter, above.number)) shards ≡ true
+      → list_any (is_named (new.key.snapshotter, above.number)) snaps ≡ true
   parent_object above e =
       let is = parent_is above e in
-      ap (λ (t : Text). list_any (is_named (t, above.number)) shards) is.1
-      ∙ object_there shards rows above
-      (All-contains (HasObject shards rows) rows above s.backed.objects is.0)
+      ap (λ (t : Text). list_any (is_named (t, above.number)) snaps) is.1
+      ∙ object_there snaps rows above
+      (All-contains (HasObject snaps rows) rows above s.backed.objects is.0)
 
   module _ (there : has_namespace state.records.tables new.key.ns ≡ true)
       (free : has_row snap_key (snap_key new) rows ≡ false) (has : HasParent rows new) where
@@ -78,7 +78,7 @@ module _ (state : State) (new : SnapRow) (s : IsSound state)
     }
 
     abbrev more : List BackSnap
-    more = put_in_order stands_before object shards
+    more = put_in_order stands_before object snaps
 
     -- ---- objects
 
@@ -90,7 +90,7 @@ module _ (state : State) (new : SnapRow) (s : IsSound state)
 
     abbrev IsThere : ℕ → Type 0
     IsThere number =
-        IsTrue (list_any (is_named (new.key.snapshotter, number)) shards) × (number < next)
+        IsTrue (list_any (is_named (new.key.snapshotter, number)) snaps) × (number < next)
 
     -- the object stands over the parent's
     over : IfSome object.parent IsThere
@@ -110,7 +110,7 @@ module _ (state : State) (new : SnapRow) (s : IsSound state)
     new_object : HasObject more after new
     new_object =
         ap (λ n. object_of more new.key.snapshotter n) numbered
-        ∙ object_found object shards s.backed.objects_below
+        ∙ object_found object snaps s.backed.objects_below
         ∙ ap (λ n. named n object.parent) (sym numbered)
         ∙ ap (named new.number) (as_map (parent_of rows new) ∙ sym (same_number new has))
       where
@@ -122,7 +122,7 @@ module _ (state : State) (new : SnapRow) (s : IsSound state)
     old_objects = objects_kept more rows after rows
         (All-weaker (HasParent rows) (λ row. number_above after row ≡ number_above rows row)
         same_number rows s.tables.numbered.parents)
-        (objects_grown object shards rows rows s.backed.snapshots_below s.backed.objects)
+        (objects_grown object snaps rows rows s.backed.snapshots_below s.backed.objects)
 
     -- ---- the state
 
@@ -151,13 +151,13 @@ module _ (state : State) (new : SnapRow) (s : IsSound state)
           (λ k d lt. (let h = s.backed.snapshots_below k d lt in omega (arith, h)));
       ingests_below = λ k d lt. (let h = s.backed.ingests_below k d lt in omega (arith, h));
       objects_below = all_put (λ (snap : BackSnap). snap.number < next + 1) stands_before object
-          (omega arith) shards
+          (omega arith) snaps
           (λ k d lt. (let h = s.backed.objects_below k d lt in omega (arith, h)));
       begun_below = λ k d lt. (let h = s.backed.begun_below k d lt in omega (arith, h));
       ingests_begun = s.backed.ingests_begun;
       objects = all_added snap_key (HasObject more after) new new_object rows old_objects;
-      back_parents = parents_grown object shards over s.backed.back_parents;
+      back_parents = parents_grown object snaps over s.backed.back_parents;
       objects_in_order =
-          object_in_order object shards s.backed.objects_below s.backed.objects_in_order;
+          object_in_order object snaps s.backed.objects_below s.backed.objects_in_order;
       begun_in_order = s.backed.begun_in_order;
     })

@@ -91,13 +91,13 @@ stands_behind a b below n = go (text_cmp a.snapshotter b.snapshotter) refl
         (bytes_eq b.snapshotter a.snapshotter && nat_lt b.number a.number)
         (ap is_lt (nat_list_cmp_total.antisymm b.snapshotter a.snapshotter ∙ ap ordering_reverse e))
 
-pub object_in_order : (new : BackSnap) (shards : List BackSnap)
-    → All (λ (snap : BackSnap). snap.number < new.number) shards
-    → AllPairs (λ a b. IsTrue (stands_before a b)) shards
-    → AllPairs (λ a b. IsTrue (stands_before a b)) (put_in_order stands_before new shards)
-object_in_order new shards below order =
-    pairs_put (λ a b. IsTrue (stands_before a b)) stands_trans stands_before new shards
+pub object_in_order : (new : BackSnap) (snaps : List BackSnap)
+    → All (λ (snap : BackSnap). snap.number < new.number) snaps
+    → AllPairs (λ a b. IsTrue (stands_before a b)) snaps
+    → AllPairs (λ a b. IsTrue (stands_before a b)) (put_in_order stands_before new snaps)
+object_in_order new snaps below order =
+    pairs_put (λ a b. IsTrue (stands_before a b)) stands_trans stands_before new snaps
     (All-weaker (λ (snap : BackSnap). snap.number < new.number)
     (λ snap. (stands_before new snap ≡ true → IsTrue (stands_before new snap))
     × (stands_before new snap ≡ false → IsTrue (stands_before snap new)))
-    (λ snap h. ((λ t. t), stands_behind new snap h)) shards below) order
+    (λ snap h. ((λ t. t), stands_behind new snap h)) snaps below) order

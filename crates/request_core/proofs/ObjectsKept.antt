@@ -22,7 +22,7 @@ use Rattle.object_tables.proofs.ParentsKept.{number_above}
 
 -- the object of a row, over its parent's
 abbrev pub HasObject : List BackSnap → List SnapRow → SnapRow → Type 0
-HasObject shards rows row = object_of shards row.key.snapshotter row.number ≡ Some (record {
+HasObject snaps rows row = object_of snaps row.key.snapshotter row.number ≡ Some (record {
   snapshotter = row.key.snapshotter;
   number = row.number;
   parent =
@@ -30,45 +30,45 @@ HasObject shards rows row = object_of shards row.key.snapshotter row.number ≡ 
 })
 
 -- it is the same where the parent's number is
-pub objects_kept : (shards : List BackSnap) (old new rows : List SnapRow)
+pub objects_kept : (snaps : List BackSnap) (old new rows : List SnapRow)
     → All (λ row. number_above new row ≡ number_above old row) rows
-    → All (HasObject shards old) rows
-    → All (HasObject shards new) rows
-objects_kept shards old new rows same has =
-    all_both (λ row. number_above new row ≡ number_above old row) (HasObject shards old)
-    (HasObject shards new)
+    → All (HasObject snaps old) rows
+    → All (HasObject snaps new) rows
+objects_kept snaps old new rows same has =
+    all_both (λ row. number_above new row ≡ number_above old row) (HasObject snaps old)
+    (HasObject snaps new)
     (λ row e h. h
     ∙ ap (λ n. Some (record { snapshotter = row.key.snapshotter; number = row.number; parent = n }))
     (sym e)) rows same has
 
-module _ (new : BackSnap) (shards : List BackSnap) where
+module _ (new : BackSnap) (snaps : List BackSnap) where
   abbrev more : List BackSnap
-  more = put_in_order stands_before new shards
+  more = put_in_order stands_before new snaps
 
   -- one more changes nothing of those with smaller numbers
   pub objects_grown : (rows among : List SnapRow)
       → All (λ (row : SnapRow). row.number < new.number) among
-      → All (HasObject shards rows) among → All (HasObject more rows) among
+      → All (HasObject snaps rows) among → All (HasObject more rows) among
   objects_grown rows among below has = all_both (λ (row : SnapRow). row.number < new.number)
-      (HasObject shards rows) (HasObject more rows)
+      (HasObject snaps rows) (HasObject more rows)
       (λ row lt h. finds_other (is_named (row.key.snapshotter, row.number)) stands_before new
       (and_right (bytes_eq new.snapshotter row.key.snapshotter) (new.number == row.number)
-      (differ new.number row.number lt)) shards ∙ h) among below has
+      (differ new.number row.number lt)) snaps ∙ h) among below has
     where
       differ : (n m : ℕ) → m < n → (n == m) ≡ false
       differ n m h = grind (arith, nat_tests)
 
   -- and it is found
-  pub object_found : All (λ (snap : BackSnap). snap.number < new.number) shards
+  pub object_found : All (λ (snap : BackSnap). snap.number < new.number) snaps
       → object_of more new.snapshotter new.number ≡ Some new
   object_found below = finds_new (is_named (new.snapshotter, new.number)) stands_before new
       (and_from (bytes_eq new.snapshotter new.snapshotter) (new.number == new.number)
       ((bytes_eq-Decides new.snapshotter new.snapshotter).1 refl)
-      ((Decides-eqb new.number new.number).1 refl)) shards
+      ((Decides-eqb new.number new.number).1 refl)) snaps
       (All-weaker (λ (snap : BackSnap). snap.number < new.number)
       (λ snap. is_named (new.snapshotter, new.number) snap ≡ false)
       (λ snap lt. and_right (bytes_eq snap.snapshotter new.snapshotter) (snap.number == new.number)
-      (differ snap.number new.number lt)) shards below)
+      (differ snap.number new.number lt)) snaps below)
     where
       differ : (n m : ℕ) → n < m → (n == m) ≡ false
       differ n m h = grind (arith, nat_tests)
@@ -80,29 +80,29 @@ module _ (new : BackSnap) (shards : List BackSnap) where
 
   -- parents are there as before, where the new one's is
   pub parents_grown : IfSome new.parent
-      (λ number. IsTrue (list_any (is_named (new.snapshotter, number)) shards)
+      (λ number. IsTrue (list_any (is_named (new.snapshotter, number)) snaps)
       × (number < new.number))
-      → All (OverOne shards) shards → All (OverOne more) more
-  parents_grown over has = all_put (OverOne more) stands_before new (grown new over) shards
-      (All-weaker (OverOne shards) (OverOne more) grown shards has)
+      → All (OverOne snaps) snaps → All (OverOne more) more
+  parents_grown over has = all_put (OverOne more) stands_before new (grown new over) snaps
+      (All-weaker (OverOne snaps) (OverOne more) grown snaps has)
     where
-      grown : (snap : BackSnap) → OverOne shards snap → OverOne more snap
+      grown : (snap : BackSnap) → OverOne snaps snap → OverOne more snap
       grown snap = go snap.parent
         where
           go : (o : Option ℕ)
-              → IfSome o (λ number. IsTrue (list_any (is_named (snap.snapshotter, number)) shards)
+              → IfSome o (λ number. IsTrue (list_any (is_named (snap.snapshotter, number)) snaps)
               × (number < snap.number))
               → IfSome o (λ number. IsTrue (list_any (is_named (snap.snapshotter, number)) more)
               × (number < snap.number))
           go None h = h
           go (Some number) h =
-              (any_added (is_named (snap.snapshotter, number)) stands_before new shards h.0, h.1)
+              (any_added (is_named (snap.snapshotter, number)) stands_before new snaps h.0, h.1)
 
 -- a row's object is in the backend
-pub object_there : (shards : List BackSnap) (rows : List SnapRow) (row : SnapRow)
-    → HasObject shards rows row
-    → list_any (is_named (row.key.snapshotter, row.number)) shards ≡ true
-object_there shards rows row h =
+pub object_there : (snaps : List BackSnap) (rows : List SnapRow) (row : SnapRow)
+    → HasObject snaps rows row
+    → list_any (is_named (row.key.snapshotter, row.number)) snaps ≡ true
+object_there snaps rows row h =
     let object : BackSnap =
     record {
       snapshotter = row.key.snapshotter;
@@ -110,5 +110,5 @@ object_there shards rows row h =
       parent =
           number_above rows row;
     } in
-    let found = found_is (is_named (row.key.snapshotter, row.number)) shards object h in
-    any_from (is_named (row.key.snapshotter, row.number)) shards object found.0 found.1
+    let found = found_is (is_named (row.key.snapshotter, row.number)) snaps object h in
+    any_from (is_named (row.key.snapshotter, row.number)) snaps object found.0 found.1

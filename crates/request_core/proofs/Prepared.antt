@@ -54,21 +54,21 @@ module _ (P : SnapRow → Type 0) where
         | inr f ↦ at_key ns snapshotter name rows row (rw f at h) (All-tail P next rows all)
       ]
 
-module _ (rows : List SnapRow) (shards : List BackSnap) where
+module _ (rows : List SnapRow) (snaps : List BackSnap) where
   held_above : (ns snapshotter : Text) (above : Option SnapRow) (parent : Option Text)
-      → parent_row rows ns snapshotter parent ≡ above → All (HasObject shards rows) rows
-      → option_map_or (λ n. list_any (is_named (snapshotter, n)) shards)
+      → parent_row rows ns snapshotter parent ≡ above → All (HasObject snaps rows) rows
+      → option_map_or (λ n. list_any (is_named (snapshotter, n)) snaps)
       (option_map (λ (row : SnapRow). row.number) above) true ≡ true
   held_above ns snapshotter None parent h all = refl
   held_above ns snapshotter (Some row) None h all = absurd cc
   held_above ns snapshotter (Some row) (Some name) h all =
-      let there = at_key (HasObject shards rows) ns snapshotter name rows row h all in
-      ap (λ t. list_any (is_named (t, row.number)) shards) there.0
-      ∙ object_there shards rows row there.1
+      let there = at_key (HasObject snaps rows) ns snapshotter name rows row h all in
+      ap (λ t. list_any (is_named (t, row.number)) snaps) there.0
+      ∙ object_there snaps rows row there.1
 
   pub parent_held : (ns snapshotter : Text) (parent : Option Text)
-      → All (HasObject shards rows) rows
-      → option_map_or (λ n. list_any (is_named (snapshotter, n)) shards)
+      → All (HasObject snaps rows) rows
+      → option_map_or (λ n. list_any (is_named (snapshotter, n)) snaps)
       (option_map (λ (row : SnapRow). row.number) (parent_row rows ns snapshotter parent)) true
       ≡ true
   parent_held ns snapshotter parent all =

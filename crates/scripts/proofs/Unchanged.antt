@@ -9,7 +9,7 @@ use Rattle.meta_types.specs.Steps.{Answer, answered, refused, Event, requested, 
 use Rattle.meta_types.specs.declared.fault.Fault.{Fault}
 use Rattle.meta_types.specs.declared.fault.Fault.TheVariants.{InvalidArgument, BadLine, TooLong, OutOfMemory, NoWorker}
 use Rattle.meta_types.specs.declared.reply.Reply.TheVariants as R
-use Rattle.request_core.proofs.Quiet.{quiet}
+use Rattle.request_core.proofs.EachRequest.{quiet}
 use Rattle.request_line.specs.Lines.{asked_in}
 use Rattle.request_line.specs.declared.asked.Asked.{Asked}
 use Rattle.reply_line.specs.Fixed.{is_done}

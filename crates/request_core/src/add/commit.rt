@@ -8,9 +8,8 @@ ghost use Rattle.object_tables.specs.Calls.{committing_fault};
 ghost use Rattle.request_core.specs.Parts.{is_lease_there};
 
 use crate::add::content::{hold, release};
-use lease_book::Leases;
+use crate::state::Records;
 use meta_types::{Fault, Labels, Name, Resource, ShortName, SnapKey};
-use object_tables::Tables;
 use std::alloc::Global;
 
 /// The resource of a snapshot.
@@ -25,33 +24,35 @@ pub(crate) fn snapshot_resource(snapshotter: &ShortName, name: &Name) -> Result<
 
 /// Commits a snapshot, which the named lease then holds; or nothing at all.
 pub(crate) fn grow_commit(
-    tables: &mut Tables,
-    leases: &mut Leases,
+    records: &mut Records,
     alloc: Global,
     key: &SnapKey,
     name: Name,
     labels: Labels,
     lease: &Option<Name>,
 ) -> Result<(), Fault>
-    requires lease { is_lease_there key.now.ns lease.now leases.old ≡ true }
+    requires lease { is_lease_there key.now.ns lease.now records.old.leases ≡ true }
     requires fine { committing_fault key.now.ns key.now.snapshotter key.now.name name
-        tables.old.snapshots ≡ None }
-    ensures tables { OnOk result (tables.new ≡ record tables.old {
+        records.old.tables.snapshots ≡ None }
+    ensures tables { OnOk result (records.new.tables ≡ record records.old.tables {
       snapshots = committed key.now.ns key.now.snapshotter key.now.name name labels
-          tables.old.snapshots;
+          records.old.tables.snapshots;
     }) }
     ensures leases { OnOk result
-        (leases.new
-        ≡ hold_under key.now.ns lease.now (H.Snapshot key.now.snapshotter name) leases.old) }
-    ensures err { OnErr result ((result ≡ Err F.OutOfMemory) × (tables.new ≡ tables.old)
-        × (leases.new ≡ leases.old)) }
+        (records.new.leases ≡ hold_under key.now.ns lease.now (H.Snapshot key.now.snapshotter name)
+        records.old.leases) }
+    ensures err { OnErr result ((result ≡ Err F.OutOfMemory)
+        × (records.new.tables ≡ records.old.tables)
+        × (records.new.leases ≡ records.old.leases)) }
+    ensures numbers { (records.new.next ≡ records.old.next)
+        × (records.new.profile ≡ records.old.profile) }
 {
     let resource = snapshot_resource(&key.snapshotter, &name)?;
-    let new = hold(leases, alloc, &key.ns, lease, &resource)?;
-    match tables.commit_snap(alloc, key, name, labels) {
+    let new = hold(&mut records.leases, alloc, &key.ns, lease, &resource)?;
+    match records.tables.commit_snap(alloc, key, name, labels) {
         Ok(()) => Ok(()),
         Err(fault) => {
-            release(leases, &key.ns, lease, &resource, new);
+            release(&mut records.leases, &key.ns, lease, &resource, new);
             Err(fault)
         }
     }

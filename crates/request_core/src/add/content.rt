@@ -8,6 +8,7 @@ ghost use Rattle.meta_types.specs.declared.fault.Fault.TheVariants as F;
 ghost use Rattle.meta_types.specs.declared.resource.Resource.TheVariants as H;
 ghost use Rattle.request_core.specs.Parts.{is_lease_there, release_if, MakesOrFails, MakesWhereFree};
 
+use crate::state::Records;
 use back_model::{Backends, BlobBackend, IngestBackend, MakeFault, SnapBackend};
 use lease_book::Leases;
 use meta_types::{ContentRow, Digest, Fault, Labels, Name, Resource, ShortName};
@@ -158,8 +159,7 @@ fn add_row_of(
 /// Adds content that isn't there, which the named lease then holds, with its blob; or nothing at
 /// all.
 pub(crate) fn grow_content<S: SnapBackend, B: BlobBackend, I: IngestBackend>(
-    tables: &mut Tables,
-    leases: &mut Leases,
+    records: &mut Records,
     backends: &mut Backends<S, B, I>,
     alloc: Global,
     ns: &ShortName,
@@ -167,30 +167,34 @@ pub(crate) fn grow_content<S: SnapBackend, B: BlobBackend, I: IngestBackend>(
     labels: Labels,
     lease: &Option<Name>,
 ) -> Result<(), Fault>
-    requires ns { has_namespace tables.old ns.now ≡ true }
-    requires lease { is_lease_there ns.now lease.now leases.old ≡ true }
-    ensures tables { OnOk result (tables.new ≡ record tables.old {
+    requires ns { has_namespace records.old.tables ns.now ≡ true }
+    requires lease { is_lease_there ns.now lease.now records.old.leases ≡ true }
+    ensures tables { OnOk result (records.new.tables ≡ record records.old.tables {
       content = add_row content_key
-          (record { ns = ns.now; digest = digest.now; labels = labels }) tables.old.content;
+          (record { ns = ns.now; digest = digest.now; labels = labels }) records.old.tables.content;
     }) }
     ensures leases { OnOk result
-        (leases.new ≡ hold_under ns.now lease.now (H.Content digest.now) leases.old) }
+        (records.new.leases
+        ≡ hold_under ns.now lease.now (H.Content digest.now) records.old.leases) }
+    ensures numbers { (records.new.next ≡ records.old.next)
+        × (records.new.profile ≡ records.old.profile) }
     ensures blobs { OnOk result
         (B.contents backends.new.blobs ≡ put_blob digest.now (B.contents backends.old.blobs)) }
-    ensures err { OnErr result ((tables.new ≡ tables.old) × (leases.new ≡ leases.old)
+    ensures err { OnErr result ((records.new.tables ≡ records.old.tables)
+        × (records.new.leases ≡ records.old.leases)
         × (B.contents backends.new.blobs ≡ B.contents backends.old.blobs)) }
     ensures others { (backends.new.shards ≡ backends.old.shards)
         × (backends.new.ingests ≡ backends.old.ingests) }
     ensures fault { MakesWhereFree
-        (has_row content_key (ns.now ∷ digest.now ∷ []) tables.old.content) result
+        (has_row content_key (ns.now ∷ digest.now ∷ []) records.old.tables.content) result
         (B.fails backends.old.blobs) (B.fails backends.new.blobs) }
 {
-    add_row_of(tables, alloc, ns, digest, labels)?;
-    match hold_and_make(leases, backends, alloc, ns, lease, digest) {
+    add_row_of(&mut records.tables, alloc, ns, digest, labels)?;
+    match hold_and_make(&mut records.leases, backends, alloc, ns, lease, digest) {
         Ok(()) => Ok(()),
         Err(fault) => {
             // The row was added above, so it is there.
-            let _ = tables.remove_content(ns, digest);
+            let _ = records.tables.remove_content(ns, digest);
             Err(fault)
         }
     }

@@ -1,5 +1,5 @@
 //! A beginning of an ingest that happens whole or not at all.
-ghost use Rattle.std.specs.Prelude.{◌≡◌, ◌∷◌, [], true, false, None, OnOk, OnErr, IfOk, Err};
+ghost use Rattle.std.specs.Prelude.{◌≡◌, true, false, None, OnOk, OnErr, IfOk, Err};
 ghost use Rattle.meta_types.specs.Keys.{has_row, add_row};
 ghost use Rattle.meta_types.specs.Rows.{ingest_key};
 ghost use Rattle.meta_types.specs.Sound.{AreNumbered};
@@ -11,10 +11,10 @@ ghost use Rattle.back_model.specs.Objects.{has_number, put_number};
 ghost use Rattle.request_core.specs.Parts.{is_lease_there, MakesOrFails};
 
 use crate::add::content::{hold, release};
+use crate::state::Records;
 use back_model::{Backends, BlobBackend, IngestBackend, MakeFault, SnapBackend};
 use lease_book::Leases;
-use meta_types::{Digest, Fault, IngestRow, Instant, Name, Resource, ShortName};
-use object_tables::Tables;
+use meta_types::{Fault, IngestRow, Name, Resource, ShortName};
 use std::alloc::Global;
 
 // Makes an ingest's object under a number that is free.
@@ -82,88 +82,56 @@ fn ingest_resource(name: &Name) -> Result<Resource, Fault>
     Ok(Resource::Ingest(name))
 }
 
-// A row of an ingest.
-fn ingest_row(
-    ns: &ShortName,
-    name: &Name,
-    expected: Option<Digest>,
-    expires: Option<Instant>,
-    number: u64,
-) -> Result<IngestRow, Fault>
-    ensures ok { IfOk result (λ row. row ≡ record {
-      ns = ns.now;
-      name = name.now;
-      expected = expected;
-      expires = expires;
-      number = number;
-    }) }
-    ensures err { OnErr result (result ≡ Err F.OutOfMemory) }
-{
-    let ns = ns.copy()?;
-    let name = name.copy()?;
-    Ok(IngestRow {
-        ns,
-        name,
-        expected,
-        expires,
-        number,
-    })
-}
-
 /// Adds an ingest, which the named lease then holds, with its object; or nothing at all.
 pub(crate) fn grow_ingest<S: SnapBackend, B: BlobBackend, I: IngestBackend>(
-    tables: &mut Tables,
-    leases: &mut Leases,
+    records: &mut Records,
     backends: &mut Backends<S, B, I>,
     alloc: Global,
-    ns: &ShortName,
-    name: &Name,
-    expected: Option<Digest>,
-    expires: Option<Instant>,
-    number: u64,
+    row: IngestRow,
     lease: &Option<Name>,
 ) -> Result<(), Fault>
-    requires ns { has_namespace tables.old ns.now ≡ true }
-    requires lease { is_lease_there ns.now lease.now leases.old ≡ true }
-    requires free { has_row ingest_key (ns.now ∷ name.now ∷ []) tables.old.ingests ≡ false }
-    requires number { has_number number (I.contents backends.old.ingests) ≡ false }
-    requires numbered { adding_fault tables.old ns.now
-        (has_row ingest_key (ns.now ∷ name.now ∷ []) tables.old.ingests) ≡ None
-        → AreNumbered tables.old.snapshots (add_row ingest_key (record {
-          ns = ns.now;
-          name = name.now;
-          expected = expected;
-          expires = expires;
-          number = number;
-        }) tables.old.ingests) }
-    ensures tables { OnOk result (tables.new ≡ record tables.old {
-      ingests = add_row ingest_key (record {
-        ns = ns.now;
-        name = name.now;
-        expected = expected;
-        expires = expires;
-        number = number;
-      }) tables.old.ingests;
-    }) }
+    requires ns { has_namespace records.old.tables row.ns ≡ true }
+    requires lease { is_lease_there row.ns lease.now records.old.leases ≡ true }
+    requires free { has_row ingest_key (ingest_key row) records.old.tables.ingests ≡ false }
+    requires number { has_number row.number (I.contents backends.old.ingests) ≡ false }
+    requires numbered { adding_fault records.old.tables row.ns
+        (has_row ingest_key (ingest_key row) records.old.tables.ingests) ≡ None
+        → AreNumbered records.old.tables.snapshots
+        (add_row ingest_key row records.old.tables.ingests) }
+    ensures tables { OnOk result (records.new.tables ≡ record records.old.tables
+        { ingests = add_row ingest_key row records.old.tables.ingests }) }
     ensures leases { OnOk result
-        (leases.new ≡ hold_under ns.now lease.now (H.Ingest name.now) leases.old) }
-    ensures ingests { OnOk result
-        (I.contents backends.new.ingests ≡ put_number number (I.contents backends.old.ingests)) }
-    ensures err { OnErr result ((tables.new ≡ tables.old) × (leases.new ≡ leases.old)
+        (records.new.leases ≡ hold_under row.ns lease.now (H.Ingest row.name) records.old.leases) }
+    ensures numbers { (records.new.next ≡ records.old.next)
+        × (records.new.profile ≡ records.old.profile) }
+    ensures ingests { OnOk result (I.contents backends.new.ingests
+        ≡ put_number row.number (I.contents backends.old.ingests)) }
+    ensures err { OnErr result ((records.new.tables ≡ records.old.tables)
+        × (records.new.leases ≡ records.old.leases)
         × (I.contents backends.new.ingests ≡ I.contents backends.old.ingests)) }
     ensures others { (backends.new.shards ≡ backends.old.shards)
         × (backends.new.blobs ≡ backends.old.blobs) }
     ensures fault { MakesOrFails result (I.fails backends.old.ingests)
         (I.fails backends.new.ingests) }
 {
-    let resource = ingest_resource(name)?;
-    let row = ingest_row(ns, name, expected, expires, number)?;
-    tables.add_ingest(alloc, row)?;
-    match hold_and_begin(leases, backends, alloc, ns, lease, &resource, number) {
+    let ns = row.ns.copy()?;
+    let name = row.name.copy()?;
+    let resource = ingest_resource(&name)?;
+    let number = row.number;
+    records.tables.add_ingest(alloc, row)?;
+    match hold_and_begin(
+        &mut records.leases,
+        backends,
+        alloc,
+        &ns,
+        lease,
+        &resource,
+        number,
+    ) {
         Ok(()) => Ok(()),
         Err(fault) => {
             // The row was added above, so it is there.
-            let _ = tables.remove_ingest(ns, name);
+            let _ = records.tables.remove_ingest(&ns, &name);
             Err(fault)
         }
     }

@@ -14,10 +14,10 @@ ghost use Rattle.request_core.specs.Parts.{is_lease_there, MakesOrFails};
 
 use crate::add::commit::snapshot_resource;
 use crate::add::content::{hold, release};
+use crate::state::Records;
 use back_model::{Backends, BlobBackend, IngestBackend, MakeFault, SnapBackend};
 use lease_book::Leases;
-use meta_types::{Fault, Name, Resource, ShortName, SnapRow};
-use object_tables::Tables;
+use meta_types::{Fault, Name, ShortName, SnapKey, SnapRow};
 use std::alloc::Global;
 
 // Makes a snapshot's object under a number that is free, over its parent's.
@@ -53,21 +53,20 @@ fn hold_and_prepare<S: SnapBackend, B: BlobBackend, I: IngestBackend>(
     leases: &mut Leases,
     backends: &mut Backends<S, B, I>,
     alloc: Global,
-    ns: &ShortName,
+    key: &SnapKey,
     lease: &Option<Name>,
-    resource: &Resource,
-    snapshotter: &ShortName,
     number: u64,
     above: Option<u64>,
 ) -> Result<(), Fault>
-    requires lease { is_lease_there ns.now lease.now leases.old ≡ true }
-    requires number { list_any (is_named (snapshotter.now, number)) (all_snaps backends.old.shards)
-        ≡ false }
-    requires above { option_map_or (λ n. list_any (is_named (snapshotter.now, n))
+    requires lease { is_lease_there key.now.ns lease.now leases.old ≡ true }
+    requires number { list_any (is_named (key.now.snapshotter, number))
+        (all_snaps backends.old.shards) ≡ false }
+    requires above { option_map_or (λ n. list_any (is_named (key.now.snapshotter, n))
         (all_snaps backends.old.shards)) above true ≡ true }
-    ensures leases { OnOk result (leases.new ≡ hold_under ns.now lease.now resource.now leases.old) }
+    ensures leases { OnOk result (leases.new ≡ hold_under key.now.ns lease.now
+        (H.Snapshot key.now.snapshotter key.now.name) leases.old) }
     ensures snapshots { OnOk result (all_snaps backends.new.shards ≡ put_in_order stands_before
-        (back_snap snapshotter.now (number, above)) (all_snaps backends.old.shards)) }
+        (back_snap key.now.snapshotter (number, above)) (all_snaps backends.old.shards)) }
     ensures err { OnErr result ((leases.new ≡ leases.old)
         × (all_snaps backends.new.shards ≡ all_snaps backends.old.shards)) }
     ensures others { (backends.new.blobs ≡ backends.old.blobs)
@@ -75,11 +74,12 @@ fn hold_and_prepare<S: SnapBackend, B: BlobBackend, I: IngestBackend>(
     ensures fault { MakesOrFails result (all_failures backends.old.shards)
         (all_failures backends.new.shards) }
 {
-    let new = hold(leases, alloc, ns, lease, resource)?;
-    match make_object(backends, alloc, snapshotter, number, above) {
+    let resource = snapshot_resource(&key.snapshotter, &key.name)?;
+    let new = hold(leases, alloc, &key.ns, lease, &resource)?;
+    match make_object(backends, alloc, &key.snapshotter, number, above) {
         Ok(()) => Ok(()),
         Err(fault) => {
-            release(leases, ns, lease, resource, new);
+            release(leases, &key.ns, lease, &resource, new);
             Err(fault)
         }
     }
@@ -88,30 +88,33 @@ fn hold_and_prepare<S: SnapBackend, B: BlobBackend, I: IngestBackend>(
 /// Adds a snapshot, which the named lease then holds, with its object over its parent's; or
 /// nothing at all.
 pub(crate) fn grow_snap<S: SnapBackend, B: BlobBackend, I: IngestBackend>(
-    tables: &mut Tables,
-    leases: &mut Leases,
+    records: &mut Records,
     backends: &mut Backends<S, B, I>,
     alloc: Global,
     row: SnapRow,
     above: Option<u64>,
     lease: &Option<Name>,
 ) -> Result<(), Fault>
-    requires fine { adding_snap_fault tables.old row ≡ None }
-    requires sound { AreTables tables.old }
-    requires numbered { adding_snap_fault tables.old row ≡ None
-        → AreNumbered (add_row snap_key row tables.old.snapshots) tables.old.ingests }
-    requires lease { is_lease_there row.key.ns lease.now leases.old ≡ true }
+    requires fine { adding_snap_fault records.old.tables row ≡ None }
+    requires sound { AreTables records.old.tables }
+    requires numbered { adding_snap_fault records.old.tables row ≡ None
+        → AreNumbered (add_row snap_key row records.old.tables.snapshots)
+        records.old.tables.ingests }
+    requires lease { is_lease_there row.key.ns lease.now records.old.leases ≡ true }
     requires number { list_any (is_named (row.key.snapshotter, row.number))
         (all_snaps backends.old.shards) ≡ false }
     requires above { option_map_or (λ n. list_any (is_named (row.key.snapshotter, n))
         (all_snaps backends.old.shards)) above true ≡ true }
-    ensures tables { OnOk result (tables.new ≡ record tables.old
-        { snapshots = add_row snap_key row tables.old.snapshots }) }
-    ensures leases { OnOk result (leases.new
-        ≡ hold_under row.key.ns lease.now (H.Snapshot row.key.snapshotter row.key.name) leases.old) }
+    ensures tables { OnOk result (records.new.tables ≡ record records.old.tables
+        { snapshots = add_row snap_key row records.old.tables.snapshots }) }
+    ensures leases { OnOk result (records.new.leases ≡ hold_under row.key.ns lease.now
+        (H.Snapshot row.key.snapshotter row.key.name) records.old.leases) }
+    ensures numbers { (records.new.next ≡ records.old.next)
+        × (records.new.profile ≡ records.old.profile) }
     ensures snapshots { OnOk result (all_snaps backends.new.shards ≡ put_in_order stands_before
         (back_snap row.key.snapshotter (row.number, above)) (all_snaps backends.old.shards)) }
-    ensures err { OnErr result ((tables.new ≡ tables.old) × (leases.new ≡ leases.old)
+    ensures err { OnErr result ((records.new.tables ≡ records.old.tables)
+        × (records.new.leases ≡ records.old.leases)
         × (all_snaps backends.new.shards ≡ all_snaps backends.old.shards)) }
     ensures others { (backends.new.blobs ≡ backends.old.blobs)
         × (backends.new.ingests ≡ backends.old.ingests) }
@@ -119,24 +122,21 @@ pub(crate) fn grow_snap<S: SnapBackend, B: BlobBackend, I: IngestBackend>(
         (all_failures backends.new.shards) }
 {
     let key = row.key.copy()?;
-    let resource = snapshot_resource(&key.snapshotter, &key.name)?;
     let number = row.number;
-    tables.add_snap(alloc, row)?;
+    records.tables.add_snap(alloc, row)?;
     match hold_and_prepare(
-        leases,
+        &mut records.leases,
         backends,
         alloc,
-        &key.ns,
+        &key,
         lease,
-        &resource,
-        &key.snapshotter,
         number,
         above,
     ) {
         Ok(()) => Ok(()),
         Err(fault) => {
             // The row was added above, so it is there, and no child has it.
-            let _ = tables.remove_snap(&key);
+            let _ = records.tables.remove_snap(&key);
             Err(fault)
         }
     }

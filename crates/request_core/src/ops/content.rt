@@ -30,8 +30,7 @@ impl<S: SnapBackend, B: BlobBackend, I: IngestBackend> State<S, B, I> {
             return Err(Refusal::By(Fault::NotFound));
         }
         grow_content(
-            &mut self.records.tables,
-            &mut self.records.leases,
+            &mut self.records,
             &mut self.backends,
             alloc,
             &ns,

@@ -22,7 +22,8 @@ use crate::refusal::Refusal;
 use crate::state::State;
 use back_model::{BlobBackend, IngestBackend, SnapBackend};
 use meta_types::{
-    Digest, Fault, Kind, MAX_NUMBER, Name, RawLabels, RawText, Reply, ReplyRow, ShortName,
+    Digest, Fault, IngestRow, Kind, MAX_NUMBER, Name, RawLabels, RawText, Reply, ReplyRow,
+    ShortName,
 };
 use std::alloc::Global;
 
@@ -80,18 +81,14 @@ impl<S: SnapBackend, B: BlobBackend, I: IngestBackend> State<S, B, I> {
             return Err(Refusal::By(fault));
         }
         let number = self.free_number();
-        grow_ingest(
-            &mut self.records.tables,
-            &mut self.records.leases,
-            &mut self.backends,
-            alloc,
-            &ns,
-            &name,
+        let row = IngestRow {
+            ns,
+            name,
             expected,
             expires,
             number,
-            &lease,
-        )?;
+        };
+        grow_ingest(&mut self.records, &mut self.backends, alloc, row, &lease)?;
         self.records.next += 1;
         Ok(Reply::Done)
     }
@@ -182,8 +179,7 @@ impl<S: SnapBackend, B: BlobBackend, I: IngestBackend> State<S, B, I> {
             return Err(Refusal::By(fault));
         }
         grow_content(
-            &mut self.records.tables,
-            &mut self.records.leases,
+            &mut self.records,
             &mut self.backends,
             alloc,
             &ns,

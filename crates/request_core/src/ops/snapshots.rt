@@ -108,8 +108,7 @@ impl<S: SnapBackend, B: BlobBackend, I: IngestBackend> State<S, B, I> {
         }
         let above = self.number_above(&row);
         grow_snap(
-            &mut self.records.tables,
-            &mut self.records.leases,
+            &mut self.records,
             &mut self.backends,
             alloc,
             row,
@@ -197,15 +196,7 @@ impl<S: SnapBackend, B: BlobBackend, I: IngestBackend> State<S, B, I> {
         if let Err(fault) = self.check_commit(&key, &name, &lease) {
             return Err(Refusal::By(fault));
         }
-        grow_commit(
-            &mut self.records.tables,
-            &mut self.records.leases,
-            alloc,
-            &key,
-            name,
-            labels,
-            &lease,
-        )?;
+        grow_commit(&mut self.records, alloc, &key, name, labels, &lease)?;
         Ok(Reply::Done)
     }
 

@@ -1,5 +1,5 @@
 use Rattle.request_core.proofs.Following.{answers_quiet, answers_sound}
-use Rattle.request_core.proofs.RequestsSound.{step_sound}
+use Rattle.request_core.proofs.EachRequest.{step_sound}
 use Rattle.request_core.proofs.state.State.apply.Goals as goal
 
 -- it answers Done, or the state is as before
