@@ -18,26 +18,26 @@ returns-clause-step g c =
     let kept = kept_reply c.keep_reply.result in
     let new = c.apply-result.new.self in
     let took = step_of c.self.inside.state c.get.result.now c.apply-result.result
-        c.keep_reply.result new c.apply-result.ensures.step c.apply-result.ensures.quiet
-        c.keep_reply.ensures.kept in
+    c.keep_reply.result new c.apply-result.ensures.step c.apply-result.ensures.quiet
+    c.keep_reply.ensures.kept in
     subst (λ (f : Front). Takes f.store.state (requested c.args.request) kept new.state)
-      c.self.view_is
+    c.self.view_is
     (subst (λ (r : Request). Takes c.self.inside.state.state (requested r) kept new.state)
-      (c.get.ensures ∙ c.in-Ok.ensures.ok.0) took)
+    (c.get.ensures ∙ c.in-Ok.ensures.ok.0) took)
 
 pub returns-clause-fault : goal.returns-clause-fault
 returns-clause-fault g c =
     rw (sym (ap (λ (f : Front). f.store) c.self.view_is))
     (subst (λ (r : Request). IfErr c.keep_reply.result
-        (λ f. Fails f (least_fault (outcome c.self.inside.state.state r))))
-      (c.get.ensures ∙ c.in-Ok.ensures.ok.0)
+    (λ f. Fails f (least_fault (outcome c.self.inside.state.state r))))
+    (c.get.ensures ∙ c.in-Ok.ensures.ok.0)
     (fails_of c.self.inside.state c.get.result.now c.apply-result.result c.keep_reply.result
-      c.apply-result.new.self c.apply-result.ensures.step c.keep_reply.ensures.kept))
+    c.apply-result.new.self c.apply-result.ensures.step c.keep_reply.ensures.kept))
 
 pub returns-clause-failures : goal.returns-clause-failures
 returns-clause-failures g c =
     failures_of c.self.inside.state c.get.result.now c.apply-result.result c.keep_reply.result
-      c.apply-result.new.self c.apply-result.ensures.step c.keep_reply.ensures.kept
+    c.apply-result.new.self c.apply-result.ensures.step c.keep_reply.ensures.kept
     ∙ ap (λ (f : Front). f.store.failures + reply_failures c.keep_reply.result) c.self.view_is
 
 -- the history is one entry longer, or as it was
@@ -49,17 +49,17 @@ invariant_of-self-2 g c =
     let kept = kept_reply c.keep_reply.result in
     let new = c.apply-result.new.self.state in
     let told = step_of old.state c.get.result.now c.apply-result.result c.keep_reply.result
-        c.apply-result.new.self c.apply-result.ensures.step c.apply-result.ensures.quiet
-        c.keep_reply.ensures.kept in
+    c.apply-result.new.self c.apply-result.ensures.step c.apply-result.ensures.quiet
+    c.keep_reply.ensures.kept in
     let took = subst (λ (r : Request). Takes old.state.state (requested r) kept new)
-        (c.get.ensures ∙ c.in-Ok.ensures.ok.0) told in
+    (c.get.ensures ∙ c.in-Ok.ensures.ok.0) told in
     let log = c.keep_reply.ensures.log
-        ∙ (λ i. log_after (c.make_room.ensures.log i) number (c.in-Ok.ensures.ok.1 i) kept) in
+    ∙ (λ i. log_after (c.make_room.ensures.log i) number (c.in-Ok.ensures.ok.1 i) kept) in
     let here : number < old.opened = search rules in
     record {
       legal = λ k. subst (λ (l : List Entry). IsLegal old.base l new) (sym log)
           (legal_after old.base old.state.state old.log.items number event kept new
-            (c.self.invariant.legal k) took);
+          (c.self.invariant.legal k) took);
       sound = c.apply-result.ensures.sound;
       opened = subst (AreOpened old.opened) (sym log)
           (opened_after old.opened number old.log.items event kept c.self.invariant.opened here);
@@ -74,21 +74,21 @@ invariant_of-self-2 g c =
 pub returns-then-not-KEPT-clause-step : goal.returns-then-not-KEPT-clause-step
 returns-then-not-KEPT-clause-step g c =
     subst (λ (f : Front). Takes f.store.state (requested c.args.request)
-        (kept_reply c.apply-reply.result) c.apply-reply.new.self.state)
-      c.self.view_is
+    (kept_reply c.apply-reply.result) c.apply-reply.new.self.state)
+    c.self.view_is
     (takes c.self.inside.state c.args.request c.apply-reply.result c.apply-reply.new.self
-      c.apply-reply.ensures.step)
+    c.apply-reply.ensures.step)
 
 pub returns-then-not-KEPT-clause-fault : goal.returns-then-not-KEPT-clause-fault
 returns-then-not-KEPT-clause-fault g c =
     rw (sym (ap (λ (f : Front). f.store) c.self.view_is))
     (fails c.self.inside.state c.args.request c.apply-reply.result c.apply-reply.new.self
-      c.apply-reply.ensures.step)
+    c.apply-reply.ensures.step)
 
 pub returns-then-not-KEPT-clause-failures : goal.returns-then-not-KEPT-clause-failures
 returns-then-not-KEPT-clause-failures g c =
     counts c.self.inside.state c.args.request c.apply-reply.result c.apply-reply.new.self
-      c.apply-reply.ensures.step
+    c.apply-reply.ensures.step
     ∙ ap (λ (f : Front). f.store.failures + reply_failures c.apply-reply.result) c.self.view_is
 
 pub invariant_of-self : goal.invariant_of-self

@@ -19,18 +19,18 @@ invariant_of-self-2 g c =
     let kept = kept_report c.keep_report.result in
     let new = c.run_removal-reports-2.new.state.state in
     let told = subst (λ (r : Removal). Takes old.state.state
-          (remove_collect r c.args.at.0 c.args.workers)
-          (kept_report c.run_removal-reports-2.result) new)
-        (c.get.ensures ∙ c.in-Ok.ensures.ok.0) c.run_removal-reports-2.ensures.step in
+    (remove_collect r c.args.at.0 c.args.workers)
+    (kept_report c.run_removal-reports-2.result) new)
+    (c.get.ensures ∙ c.in-Ok.ensures.ok.0) c.run_removal-reports-2.ensures.step in
     let took = subst (λ (r : Result Report Fault). Takes old.state.state event (kept_report r) new)
-        (sym c.keep_report.ensures.same) told in
+    (sym c.keep_report.ensures.same) told in
     let log = c.keep_report.ensures.log
-        ∙ (λ i. log_after (c.make_room.ensures.log i) number (c.in-Ok.ensures.ok.1 i) kept) in
+    ∙ (λ i. log_after (c.make_room.ensures.log i) number (c.in-Ok.ensures.ok.1 i) kept) in
     let here : number < old.opened = search rules in
     record {
       legal = λ k. subst (λ (l : List Entry). IsLegal old.base l new) (sym log)
           (legal_after old.base old.state.state old.log.items number event kept new
-            (c.self.invariant.legal k) took);
+          (c.self.invariant.legal k) took);
       sound = c.run_removal-reports-2.ensures.sound;
       opened = subst (AreOpened old.opened) (sym log)
           (opened_after old.opened number old.log.items event kept c.self.invariant.opened here);
