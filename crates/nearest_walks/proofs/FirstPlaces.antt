@@ -14,7 +14,7 @@ use Rattle.nearest_walks.specs.Firsts.{filled}
 use Rattle.nearest_walks.specs.Nearest.{IsWalkTo, IsDepth}
 use Rattle.nearest_walks.specs.Forests.{ComesFrom, Comes, IsForest}
 use Rattle.nearest_walks.proofs.Seeings.{get_or_any}
-use Rattle.nearest_walks.proofs.Ends.{nowhere, nearest_place}
+use Rattle.nearest_walks.proofs.WalksBack.{nowhere, nearest_place}
 use Rattle.nearest_walks.proofs.Exactly.{walk_push, end_push}
 
 -- what is read past the end of a list

@@ -1,6 +1,6 @@
 pub mod Seeings
 pub mod Growing
 pub mod Bounded
-pub mod Ends
+pub mod WalksBack
 pub mod Exactly
 pub mod FirstPlaces
