@@ -21,7 +21,7 @@ invariant_of-self-2 g c =
     let told = subst (λ (r : Removal). Takes old.state.state
     (remove_collect r c.args.at.0 c.args.workers)
     (kept_report c.run_removal-reports-2.result) new)
-    (c.get.ensures ∙ c.in-Ok.ensures.ok.0) c.run_removal-reports-2.ensures.step in
+    (c.get-removal.ensures ∙ c.in-Ok.ensures.ok.0) c.run_removal-reports-2.ensures.step in
     let took = subst (λ (r : Result Report Fault). Takes old.state.state event (kept_report r) new)
     (sym c.keep_report.ensures.same) told in
     let log = c.keep_report.ensures.log
