@@ -1,0 +1,9 @@
+use Rattle.std.proofs.Common.{◌-◌, drop, length, map}
+use Rattle.meta_types.specs.Explanations.{AreTold}
+use Rattle.explaining.specs.Found.{thing_of}
+use Rattle.explaining.specs.Told.{root_word}
+use Rattle.explaining.proofs.telling.told.Given as goal
+
+-- the things that are left out stand before the place
+abbrev pub invariant-loop-done : goal.invariant-loop-done
+invariant-loop-done l = AreTold l.profile (root_word l.ended) (drop (length l.path - l.done) (map thing_of l.path)) l.steps.items

@@ -1,0 +1,127 @@
+//! The explanation of a row of a store.
+ghost use Rattle.std.specs.Prelude.{◌≡◌, None, IfOk, false};
+ghost use Rattle.std.specs.List.{list_any};
+ghost use Rattle.meta_types.specs.Faults.{Refuses};
+ghost use Rattle.meta_types.specs.Limits.{is_too_large};
+ghost use Rattle.meta_types.specs.Paths.{things};
+ghost use Rattle.meta_types.specs.Explanations.{is_asked, explain_fault, IsExplanation};
+ghost use Rattle.meta_types.specs.declared.object.Object.TheVariants.{Held};
+ghost use Rattle.explaining.specs.Asked.{records_in, lent_in};
+
+use crate::explain_rows::explain_rows;
+use gc_graph::{RowPlaces, StoreRows};
+use lease_book::Lease;
+use meta_types::{Explanation, Fault, Instant, MAX_NODES, Name, Object, Resource, ShortName};
+use object_tables::ArrivedRows;
+use request_core::Records;
+use row_tables::ArrivedByNamespace;
+use std::alloc::Global;
+use std::thread::Threads;
+
+// Whether a resource is there. It takes no memory.
+fn has_resource(records: &Records, ns: &ShortName, resource: &Resource) -> bool
+    ensures { result ≡ list_any (is_asked ns.now (Held resource.now)) (things (records_in records.now)) }
+{
+    match resource {
+        Resource::Content(digest) => records.tables.has_content(ns, digest),
+        Resource::Snapshot(snapshotter, name) => {
+            records.tables.came().snapshots.has(ns, snapshotter, name)
+        }
+        Resource::Ingest(name) => records.tables.has_ingest(ns, name),
+    }
+}
+
+// Whether a row is there. It takes no memory.
+fn has_row(records: &Records, ns: &ShortName, object: &Object) -> bool
+    ensures { result ≡ list_any (is_asked ns.now object.now) (things (records_in records.now)) }
+{
+    match object {
+        Object::Image(name) => records.tables.has_image(ns, name),
+        Object::Container(name) => records.tables.has_container(ns, name),
+        Object::Lease(id) => records.leases.has(ns, id),
+        Object::Held(resource) => has_resource(records, ns, resource),
+    }
+}
+
+// Whether the rows are too many. It takes no memory.
+fn is_too_large(records: &Records) -> bool
+    ensures { result ≡ is_too_large (records_in records.now) }
+{
+    let counts = records.tables.counts();
+    let most = MAX_NODES as u128;
+    if most < counts.content || most < counts.snapshots || most < counts.ingests {
+        return true;
+    }
+    most < 2 * (counts.content + counts.snapshots) + counts.ingests
+}
+
+// What keeps a row, from rows as they came.
+fn explain_came(
+    rt: &(impl Threads + Sync),
+    alloc: Global,
+    came: &ArrivedRows<'_>,
+    leases: &ArrivedByNamespace<Name, Lease>,
+    profile: u8,
+    ns: &ShortName,
+    object: &Object,
+    at: Instant,
+) -> Result<Explanation, Fault>
+    requires few { is_too_large (lent_in came.now leases.now profile) ≡ false }
+    ensures fault { Refuses result None }
+    ensures ok { IfOk result (λ e. IsExplanation (lent_in came.now leases.now profile) at.0
+        (is_asked ns.now object.now) e.kept e.path.items) }
+{
+    // The clauses of `len` say that no key stands twice.
+    let _ = came.ingests.len();
+    let _ = came.content.len();
+    let _ = came.snapshots.len();
+    let images = came.images.list_came(alloc)?;
+    let containers = came.containers.list_came(alloc)?;
+    let held = leases.list_came(alloc)?;
+    let ingests = came.ingests.list_came(alloc)?;
+    let content = came.content.list_came(alloc)?;
+    let snapshots = came.snapshots.list_came(alloc)?;
+    let rows = StoreRows {
+        images: &images,
+        containers: &containers,
+        leases: &held,
+        ingests: &ingests,
+        content: &content,
+        snapshots: &snapshots,
+        places: RowPlaces {
+            ingests: came.ingests,
+            content: came.content,
+            snapshots: came.snapshots,
+        },
+        profile,
+    };
+    let explanation = explain_rows(rt, alloc, &rows, ns, object, at)?;
+    Ok(explanation)
+}
+
+/// What keeps a row at a moment: of all shortest paths of references that lead to it the first; and
+/// where none does, the path that did before all ended. The store stays as it is; the calling
+/// thread does all.
+pub fn explain<R: Threads + Sync>(
+    rt: &R,
+    alloc: Global,
+    records: &Records,
+    ns: &ShortName,
+    object: &Object,
+    at: Instant,
+) -> Result<Explanation, Fault>
+    ensures fault { Refuses result (explain_fault (records_in records.now) ns.now object.now) }
+    ensures ok { IfOk result (λ e. IsExplanation (records_in records.now) at.0
+        (is_asked ns.now object.now) e.kept e.path.items) }
+{
+    if !has_row(records, ns, object) {
+        return Err(Fault::NotFound);
+    }
+    if is_too_large(records) {
+        return Err(Fault::FailedPrecondition);
+    }
+    let came = records.tables.came();
+    let leases = records.leases.came();
+    let explanation = explain_came(rt, alloc, &came, leases, records.profile, ns, object, at)?;
+    Ok(explanation)
+}

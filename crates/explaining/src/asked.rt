@@ -1,0 +1,58 @@
+//! What a question asks for.
+ghost use Rattle.std.specs.Prelude.{◌≡◌, ◌&&◌, length, Some, is_some, bytes_eq, get_or, None};
+ghost use Rattle.std.specs.List.{list_any};
+ghost use Rattle.meta_types.specs.Paths.{things};
+ghost use Rattle.meta_types.specs.Explanations.{is_of, is_asked};
+ghost use Rattle.meta_types.specs.declared.object.Object.TheVariants.{Image, Container, Lease, Held};
+ghost use Rattle.explaining.specs.Found.{thing_of};
+
+use crate::found::Found;
+use crate::reasons::{is_resource, namespace_of};
+use meta_types::{Mode, Name, Object, ShortName};
+
+fn is_image(name: &Name, thing: Found<'_>) -> bool
+    ensures { result ≡ is_of (Image name.now) (thing_of thing.entry) }
+{
+    match thing {
+        Found::Image(row) => row.name.text() == name.text(),
+        _ => false,
+    }
+}
+
+fn is_container(name: &Name, thing: Found<'_>) -> bool
+    ensures { result ≡ is_of (Container name.now) (thing_of thing.entry) }
+{
+    match thing {
+        Found::Container(row) => row.name.text() == name.text(),
+        _ => false,
+    }
+}
+
+fn is_lease(id: &Name, thing: Found<'_>) -> bool
+    ensures { result ≡ is_of (Lease id.now) (thing_of thing.entry) }
+{
+    match thing {
+        Found::Lease(row) => row.id().text() == id.text(),
+        _ => false,
+    }
+}
+
+fn is_of(object: &Object, thing: Found<'_>) -> bool
+    ensures { result ≡ is_of object.now (thing_of thing.entry) }
+{
+    match object {
+        Object::Image(name) => is_image(name, thing),
+        Object::Container(name) => is_container(name, thing),
+        Object::Lease(id) => is_lease(id, thing),
+        Object::Held(resource) => {
+            is_resource(resource, Mode::Full, thing) || is_resource(resource, Mode::Flat, thing)
+        }
+    }
+}
+
+/// Whether a thing is of the object, in the namespace.
+pub(crate) fn is_asked(ns: &ShortName, object: &Object, thing: Found<'_>) -> bool
+    ensures { result ≡ is_asked ns.now object.now (thing_of thing.entry) }
+{
+    namespace_of(thing) == ns.text() && is_of(object, thing)
+}

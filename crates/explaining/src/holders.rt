@@ -1,0 +1,141 @@
+//! Images, containers and leases that hold a thing.
+ghost use Rattle.std.specs.Prelude.{◌≡◌, ◌&&◌, option_map, map, is_some, None, IfOk};
+ghost use Rattle.meta_types.specs.Faults.{Refuses};
+ghost use Rattle.meta_types.specs.Paths.{image, container, lease};
+ghost use Rattle.meta_types.specs.Reasons.{reason_of};
+ghost use Rattle.meta_types.specs.Explanations.{goes_before};
+ghost use Rattle.gc_graph.specs.Stored.{records_of};
+ghost use Rattle.explaining.specs.Found.{thing_of};
+ghost use Rattle.explaining.specs.Firsts.{chosen, holder_among, holder_of};
+
+use crate::found::Found;
+use crate::order::goes_before;
+use crate::reasons::reason;
+use gc_graph::{StoreRows, image_stays, lease_stays};
+use lease_book::Lease;
+use meta_types::{ContainerRow, Fault, ImageRow, Instant};
+use std::alloc::Global;
+
+fn references(alloc: Global, from: Found<'_>, to: Found<'_>) -> Result<bool, Fault>
+    ensures fault { Refuses result None }
+    ensures ok { IfOk result (λ b. b ≡ is_some (reason_of (thing_of from.entry) (thing_of to.entry))) }
+{
+    Ok(reason(alloc, from, to)?.is_some())
+}
+
+// Of two things the one that goes first, where the new one fits.
+pub(crate) fn chosen<'a>(fits: bool, new: Found<'a>, best: Option<Found<'a>>) -> Option<Found<'a>>
+    ensures { option_map thing_of result
+        ≡ chosen goes_before fits (thing_of new.entry) (option_map thing_of best.entry) }
+{
+    match best {
+        None => { if fits { Some(new) } else { None } }
+        Some(one) => {
+            if fits && goes_before(new, one) {
+                Some(new)
+            } else {
+                Some(one)
+            }
+        }
+    }
+}
+
+fn holds(alloc: Global, is_root: bool, thing: Found<'_>, held: Found<'_>) -> Result<bool, Fault>
+    ensures fault { Refuses result None }
+    ensures ok { IfOk result (λ b. b
+        ≡ (is_root && is_some (reason_of (thing_of thing.entry) (thing_of held.entry)))) }
+{
+    if is_root {
+        references(alloc, thing, held)
+    } else {
+        Ok(false)
+    }
+}
+
+fn first_image<'a>(
+    alloc: Global,
+    rows: &[&'a ImageRow],
+    profile: u8,
+    at: Instant,
+    held: Found<'_>,
+    best: Option<Found<'a>>,
+) -> Result<Option<Found<'a>>, Fault>
+    ensures fault { Refuses result None }
+    ensures ok { IfOk result (λ found. option_map thing_of found ≡ holder_among profile at.0
+        (thing_of held.entry) (option_map thing_of best.entry) (map (λ row. image row.now) rows.now)) }
+{
+    let mut first = best;
+    for row in rows {
+        let fits = holds(
+            alloc,
+            image_stays(row, profile, at),
+            Found::Image(*row),
+            held,
+        )?;
+        first = chosen(fits, Found::Image(*row), first);
+    }
+    Ok(first)
+}
+
+fn first_container<'a>(
+    alloc: Global,
+    rows: &[&'a ContainerRow],
+    profile: u8,
+    at: Instant,
+    held: Found<'_>,
+    best: Option<Found<'a>>,
+) -> Result<Option<Found<'a>>, Fault>
+    ensures fault { Refuses result None }
+    ensures ok { IfOk result (λ found. option_map thing_of found ≡ holder_among profile at.0
+        (thing_of held.entry) (option_map thing_of best.entry)
+        (map (λ row. container row.now) rows.now)) }
+{
+    // The profile and the moment are named by the clauses alone.
+    let _profile = profile;
+    let _at = at;
+    let mut first = best;
+    for row in rows {
+        let fits = holds(alloc, true, Found::Container(*row), held)?;
+        first = chosen(fits, Found::Container(*row), first);
+    }
+    Ok(first)
+}
+
+fn first_lease<'a>(
+    alloc: Global,
+    rows: &[&'a Lease],
+    profile: u8,
+    at: Instant,
+    held: Found<'_>,
+    best: Option<Found<'a>>,
+) -> Result<Option<Found<'a>>, Fault>
+    ensures fault { Refuses result None }
+    ensures ok { IfOk result (λ found. option_map thing_of found ≡ holder_among profile at.0
+        (thing_of held.entry) (option_map thing_of best.entry) (map (λ row. lease row.now) rows.now)) }
+{
+    // The profile is named by the clauses alone.
+    let _profile = profile;
+    let mut first = best;
+    for row in rows {
+        let fits = holds(alloc, lease_stays(row, at), Found::Lease(*row), held)?;
+        first = chosen(fits, Found::Lease(*row), first);
+    }
+    Ok(first)
+}
+
+// The first image, container or lease that holds a thing.
+pub(crate) fn holder_of<'a>(
+    alloc: Global,
+    rows: &StoreRows<'a>,
+    at: Instant,
+    held: Found<'_>,
+) -> Result<Option<Found<'a>>, Fault>
+    ensures fault { Refuses result None }
+    ensures ok { IfOk result (λ found. option_map thing_of found
+        ≡ holder_of (records_of rows.now) at.0 (thing_of held.entry)) }
+{
+    let images = first_image(alloc, rows.images, rows.profile, at, held, None)?;
+    let both = first_container(alloc, rows.containers, rows.profile, at, held, images)?;
+    let all = first_lease(alloc, rows.leases, rows.profile, at, held, both)?;
+    Ok(all)
+}

@@ -1,0 +1,255 @@
+//! By what a thing references another.
+ghost use Rattle.std.specs.Prelude.{◌≡◌, option_map, map, false, None, IfOk};
+ghost use Rattle.std.specs.List.{list_any};
+ghost use Rattle.std.specs.Option.{option_map_or};
+ghost use Rattle.meta_types.specs.Faults.{Refuses};
+ghost use Rattle.meta_types.specs.Paths.{namespace_of, is_same_mode, is_content, is_snapshot, is_ingest, is_resource, is_parent, lease_mode};
+ghost use Rattle.meta_types.specs.declared.resource.Mode.TheVariants.{Full};
+ghost use Rattle.explaining.specs.Found.{thing_of};
+ghost use Rattle.meta_types.specs.Reasons.{is_ref, label_reason, reason_in, reason_of};
+ghost use Rattle.explaining.specs.Reasons.{by_of};
+
+use crate::found::Found;
+use gc_labels::{content_ref, is_flat, snapshot_ref};
+use lease_book::Lease;
+use meta_types::{ContainerRow, Fault, IngestRow, Labels, Mode, Resource, SnapRow};
+use std::alloc::Global;
+
+/// By what a thing references another.
+#[derive(Clone, Copy)]
+pub(crate) enum Why<'a> {
+    Target,
+    Snapshot,
+    Resource,
+    Expected,
+    Parent,
+    Label(&'a str),
+}
+
+pub(crate) fn namespace_of<'a>(thing: Found<'a>) -> &'a str
+    ensures { result.now ≡ namespace_of (thing_of thing.entry) }
+{
+    match thing {
+        Found::Image(row) => row.ns.text(),
+        Found::Container(row) => row.ns.text(),
+        Found::Lease(row) => row.ns().text(),
+        Found::Ingest(row) => row.ns.text(),
+        Found::Content(_, row) => row.ns.text(),
+        Found::Snapshot(_, row) => row.key.ns.text(),
+    }
+}
+
+fn is_same_mode(a: Mode, b: Mode) -> bool
+    ensures { result ≡ is_same_mode a b }
+{
+    match (a, b) {
+        (Mode::Full, Mode::Full) => true,
+        (Mode::Flat, Mode::Flat) => true,
+        (Mode::Full, Mode::Flat) => false,
+        (Mode::Flat, Mode::Full) => false,
+    }
+}
+
+fn is_content(digest: &str, mode: Mode, thing: Found<'_>) -> bool
+    ensures { result ≡ is_content digest.now mode (thing_of thing.entry) }
+{
+    match thing {
+        Found::Content(m, row) => is_same_mode(mode, m) && row.digest.text() == digest,
+        _ => false,
+    }
+}
+
+fn is_snapshot(snapshotter: &str, name: &str, mode: Mode, thing: Found<'_>) -> bool
+    ensures { result ≡ is_snapshot snapshotter.now name.now mode (thing_of thing.entry) }
+{
+    match thing {
+        Found::Snapshot(m, row) => {
+            is_same_mode(mode, m)
+                && row.key.snapshotter.text() == snapshotter
+                && row.key.name.text() == name
+        }
+        _ => false,
+    }
+}
+
+// Whether a label references a thing.
+fn is_ref(key: &str, value: &str, thing: Found<'_>) -> bool
+    ensures { result ≡ is_ref (key.now, value.now) (thing_of thing.entry) }
+{
+    match thing {
+        Found::Content(Mode::Full, row) => content_ref(key) && value == row.digest.text(),
+        Found::Snapshot(Mode::Full, row) => match snapshot_ref(key) {
+            Some(s) => s == row.key.snapshotter.text() && value == row.key.name.text(),
+            None => false,
+        },
+        _ => false,
+    }
+}
+
+// The first label that references a thing.
+fn label_reason<'a>(labels: &'a Labels, thing: Found<'_>) -> Option<Why<'a>>
+    ensures { option_map by_of result ≡ label_reason labels.now (thing_of thing.entry) }
+{
+    let entries = labels.entries();
+    for entry in entries {
+        if is_ref(&entry.0, &entry.1, thing) {
+            return Some(Why::Label(entry.0.as_str()));
+        }
+    }
+    None
+}
+
+fn is_ingest(name: &str, thing: Found<'_>) -> bool
+    ensures { result ≡ is_ingest name.now (thing_of thing.entry) }
+{
+    match thing {
+        Found::Ingest(row) => row.name.text() == name,
+        _ => false,
+    }
+}
+
+pub(crate) fn is_resource(resource: &Resource, mode: Mode, thing: Found<'_>) -> bool
+    ensures { result ≡ is_resource resource.now mode (thing_of thing.entry) }
+{
+    match resource {
+        Resource::Content(digest) => is_content(digest.text(), mode, thing),
+        Resource::Snapshot(snapshotter, name) => {
+            is_snapshot(snapshotter.text(), name.text(), mode, thing)
+        }
+        Resource::Ingest(name) => is_ingest(name.text(), thing),
+    }
+}
+
+fn is_held(resources: &[&Resource], mode: Mode, thing: Found<'_>) -> bool
+    ensures { result ≡ list_any (λ held. is_resource held mode (thing_of thing.entry))
+        (map (λ resource. resource.now) resources.now) }
+{
+    for resource in resources {
+        if is_resource(resource, mode, thing) {
+            return true;
+        }
+    }
+    false
+}
+
+fn lease_mode(row: &Lease) -> Mode
+    ensures { result ≡ lease_mode row.now }
+{
+    if is_flat(row.labels()) {
+        Mode::Flat
+    } else {
+        Mode::Full
+    }
+}
+
+fn holds(alloc: Global, row: &Lease, thing: Found<'_>) -> Result<bool, Fault>
+    ensures fault { Refuses result None }
+    ensures ok { IfOk result (λ b. b ≡ list_any
+        (λ held. is_resource held (lease_mode row.now) (thing_of thing.entry)) row.now.resources) }
+{
+    let resources = row.resources(alloc)?;
+    Ok(is_held(&resources, lease_mode(row), thing))
+}
+
+fn mounts(row: &ContainerRow, thing: Found<'_>) -> bool
+    ensures { result ≡ option_map_or (λ key. is_snapshot key.0 key.1 Full (thing_of thing.entry))
+        row.now.snapshot false }
+{
+    match &row.snapshot {
+        Some((snapshotter, name)) => {
+            is_snapshot(snapshotter.text(), name.text(), Mode::Full, thing)
+        }
+        None => false,
+    }
+}
+
+fn expects(row: &IngestRow, thing: Found<'_>) -> bool
+    ensures { result ≡ option_map_or (λ digest. is_content digest Full (thing_of thing.entry))
+        row.now.expected false }
+{
+    match &row.expected {
+        Some(digest) => is_content(digest.text(), Mode::Full, thing),
+        None => false,
+    }
+}
+
+fn is_parent(row: &SnapRow, mode: Mode, thing: Found<'_>) -> bool
+    ensures { result ≡ is_parent row.now mode (thing_of thing.entry) }
+{
+    match &row.parent {
+        Some(name) => is_snapshot(row.key.snapshotter.text(), name.text(), mode, thing),
+        None => false,
+    }
+}
+
+// By what a thing references another, where their namespace is the same.
+fn reason_in<'a>(alloc: Global, from: Found<'a>, to: Found<'_>) -> Result<Option<Why<'a>>, Fault>
+    ensures fault { Refuses result None }
+    ensures ok { IfOk result (λ why. option_map by_of why
+        ≡ reason_in (thing_of from.entry) (thing_of to.entry)) }
+{
+    let why = match from {
+        Found::Image(row) => {
+            if is_content(row.target.text(), Mode::Full, to) {
+                Some(Why::Target)
+            } else {
+                label_reason(&row.labels, to)
+            }
+        }
+        Found::Container(row) => {
+            if mounts(row, to) {
+                Some(Why::Snapshot)
+            } else {
+                label_reason(&row.labels, to)
+            }
+        }
+        Found::Lease(row) => {
+            if holds(alloc, row, to)? {
+                Some(Why::Resource)
+            } else {
+                None
+            }
+        }
+        Found::Ingest(row) => {
+            if expects(row, to) {
+                Some(Why::Expected)
+            } else {
+                None
+            }
+        }
+        Found::Content(Mode::Full, row) => label_reason(&row.labels, to),
+        Found::Content(Mode::Flat, _) => None,
+        Found::Snapshot(Mode::Full, row) => {
+            if is_parent(row, Mode::Full, to) {
+                Some(Why::Parent)
+            } else {
+                label_reason(&row.labels, to)
+            }
+        }
+        Found::Snapshot(Mode::Flat, row) => {
+            if is_parent(row, Mode::Flat, to) {
+                Some(Why::Parent)
+            } else {
+                None
+            }
+        }
+    };
+    Ok(why)
+}
+
+/// By what a thing references another; none where it doesn't.
+pub(crate) fn reason<'a>(
+    alloc: Global,
+    from: Found<'a>,
+    to: Found<'_>,
+) -> Result<Option<Why<'a>>, Fault>
+    ensures fault { Refuses result None }
+    ensures ok { IfOk result (λ why. option_map by_of why
+        ≡ reason_of (thing_of from.entry) (thing_of to.entry)) }
+{
+    if namespace_of(from) == namespace_of(to) {
+        reason_in(alloc, from, to)
+    } else {
+        Ok(None)
+    }
+}
