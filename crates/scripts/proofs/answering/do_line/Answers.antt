@@ -7,4 +7,4 @@ returns-in_err-asked-clause-err g c = passed_on c.from_residual.result _ _ c.fro
 
 -- what it asks for is refused
 pub returns-clause-err : goal.returns-clause-err
-returns-clause-err g c = refused_call c.args.locked.now.store.state c.args.line.now c.requires.length c.do_asked-answer.result _ c.do_asked-answer.new.locked.store.state c.in_ok-asked.ensures.ok c.do_asked-answer.ensures.err
+returns-clause-err g c = refused_call c.args.locked.now.store.state c.args.line.now c.requires.length c.do_asked.result _ c.do_asked.new.locked.store.state c.in_ok-asked.ensures.ok c.do_asked.ensures.err
