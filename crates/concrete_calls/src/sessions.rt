@@ -1,9 +1,10 @@
-//! A store behind its lock: two sessions, a plan beside the lock, and the history at the end.
+//! A store behind its lock: two sessions, a plan and a question beside the lock, and the history at
+//! the end.
 ghost use Rattle.std.specs.Prelude.{◌≡◌};
 
 use crate::requests::space;
 use backend_sweep::OpenSweepGate;
-use meta_types::{Fault, Instant, Reply};
+use meta_types::{Fault, Instant, Object, Reply, ShortName};
 use request_core::State;
 use std::alloc::Global;
 use std::marker::Brand;
@@ -51,6 +52,21 @@ fn is_planned<L: Ledger, R: Threads + Wait + Sync>(
     Ok(planned.cut.log.len() == 1)
 }
 
+// There is no image to ask for.
+fn is_asked<L: Ledger, R: Threads + Wait + Sync>(
+    rt: &R,
+    alloc: Global,
+    store: &Store<L>,
+    session: &Session<L>,
+) -> Result<bool, Fault> {
+    let ns = ShortName::read(alloc, "x")?;
+    let object = Object::read(alloc, "images", "i")?;
+    let told = store.explain(rt, alloc, session, &ns, &object, AT);
+    let is_refused = matches!(&told, Err(Fault::NotFound));
+    drop(told);
+    Ok(is_refused)
+}
+
 fn ends<L: Ledger>(
     alloc: Global,
     store: Store<L>,
@@ -77,12 +93,14 @@ fn calls_named<L: Ledger, R: Threads + Wait + Sync>(
     let mut second = store.session(rt, alloc)?;
     let is_called = is_called(rt, alloc, &store, &mut first)?;
     let is_planned = is_planned(rt, alloc, &store, &first)?;
+    let is_asked = is_asked(rt, alloc, &store, &first)?;
     let is_collected = is_collected(rt, alloc, &store, &mut second);
     let is_ended = ends(alloc, store, first, second)?;
-    Ok(is_called && is_planned && is_collected && is_ended)
+    Ok(is_called && is_planned && is_asked && is_collected && is_ended)
 }
 
-/// Adds a namespace in one session, plans beside the lock, collects in another, and ends the store.
+/// Adds a namespace in one session, plans and asks beside the lock, collects in another, and ends the
+/// store.
 pub(crate) fn calls<R: Threads + Wait + Sync>(rt: &R, alloc: Global) -> Result<bool, Fault> {
     calls_named::<Brand, R>(rt, alloc, Blank::new(65536))
 }

@@ -9,8 +9,7 @@ use Rattle.meta_types.specs.declared.fault.Fault.{Fault}
 use Rattle.request_line.specs.Refusals.{IsUnread}
 use Rattle.request_line.specs.declared.asked.Asked.{Asked}
 use Rattle.request_line.specs.declared.op.Op.{Op}
-use Rattle.request_line.specs.Table.{members_of}
-use Rattle.request_line.specs.EachOp.{asked_of}
+use Rattle.request_line.specs.Table.{members_of, asked_of}
 use Rattle.request_line.specs.Lines.{op_in, are_of, asked_with, asked_by, asked_from, asked_in}
 
 -- a value that names an op and has its members asks for it

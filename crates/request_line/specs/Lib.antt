@@ -1,6 +1,5 @@
-pub mod Table
 pub mod Members
-pub mod EachOp
+pub mod Table
 pub mod Lines
 pub mod Refusals
 pub mod Taking

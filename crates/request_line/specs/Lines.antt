@@ -7,9 +7,8 @@ use Rattle.serde_json.specs.Data as json
 use Rattle.serde_json.specs.Find.{get_member, as_str, as_object, as_number, as_u64}
 use Rattle.serde_json.specs.Read.{read}
 use Rattle.meta_types.specs.Text.{Text}
-use Rattle.request_line.specs.Table.{Members, members_of, op_named}
+use Rattle.request_line.specs.Table.{Members, members_of, asked_of, op_named}
 use Rattle.request_line.specs.Members.{text_if_any}
-use Rattle.request_line.specs.EachOp.{asked_of}
 use Rattle.request_line.specs.declared.asked.Asked.{Asked}
 use Rattle.request_line.specs.declared.op.Op.{Op}
 

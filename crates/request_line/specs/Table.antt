@@ -1,72 +1,142 @@
--- The table of ops: which members a line of each op has. Ours, unless a source stands beside.
-use Rattle.std.specs.Prelude.{List, [], ◌∷◌, Option, codes, map}
+-- The table of ops: a row for each op, with its name, the members of its line, and what a line with them asks for. Ours, unless a source stands beside.
+use Prim.Native.String.{String}
+use Rattle.std.specs.Prelude.{ℕ, List, [], ◌∷◌, ◌++◌, Option, true, false, codes, map}
 use Rattle.std.specs.List.{find}
+use Rattle.std.specs.Option.{option_map_or}
 use Rattle.std.specs.Str.{bytes_eq}
+use Rattle.serde_json.specs.Data as json
 use Rattle.meta_types.specs.Text.{Text}
+use Rattle.meta_types.specs.declared.request.Request.{Request}
+use Rattle.meta_types.specs.declared.request.Request.TheVariants as R
+use Rattle.meta_types.specs.declared.request.Removal.{Removal}
+use Rattle.meta_types.specs.declared.request.Removal.TheVariants as Removing
+use Rattle.request_line.specs.Members.{text_at, text_if_any, labels_at, whole_at}
+use Rattle.request_line.specs.declared.asked.Asked.{Asked}
+use Rattle.request_line.specs.declared.asked.Asked.TheVariants as A
 use Rattle.request_line.specs.declared.op.Op.{Op}
-use Rattle.request_line.specs.declared.op.Op.TheVariants.{NsAdd, NsRemove, NsList, ImageAdd, ImageTarget, ImageRemove, ImageGet, ImageList, ImageLabel, ContainerAdd, ContainerRemove, ContainerGet, ContainerList, ContainerLabel, ContentAdd, ContentRemove, ContentGet, ContentLabel, ContentList, IngestBegin, IngestCommit, IngestAbort, IngestGet, IngestList, SnapPrepare, SnapView, SnapCommit, SnapRemove, SnapGet, SnapLabel, SnapList, LeaseAdd, LeaseRemove, LeaseGet, LeaseLabel, LeaseList, LeaseHold, LeaseDrop, LeaseResources, Profile, GcRun, GcPlan}
+use Rattle.request_line.specs.declared.op.Op.TheVariants.{NsAdd, NsRemove, NsList, ImageAdd, ImageTarget, ImageRemove, ImageGet, ImageList, ImageLabel, ContainerAdd, ContainerRemove, ContainerGet, ContainerList, ContainerLabel, ContentAdd, ContentRemove, ContentGet, ContentLabel, ContentList, IngestBegin, IngestCommit, IngestAbort, IngestGet, IngestList, SnapPrepare, SnapView, SnapCommit, SnapRemove, SnapGet, SnapLabel, SnapList, LeaseAdd, LeaseRemove, LeaseGet, LeaseLabel, LeaseList, LeaseHold, LeaseDrop, LeaseResources, Profile, GcRun, GcPlan, GcExplain}
 use Rattle.request_line.specs.declared.op.OpForm.{OpForm}
 
--- a row: the name of an op, the members that stand beside it, and those that may
+-- ---- what is read of a line
+
+-- the members that must stand in a line, those that may, and what a line with them says
+pub record Reads (X : Type 0) : Type 0 where
+  pub required : List Text
+  pub optional : List Text
+  pub said : json.Members → X
+
+-- a text that must stand
+abbrev pub text : String → Reads Text
+text key = record { required = codes key ∷ []; optional = []; said = text_at (codes key) }
+
+-- a text that may
+abbrev pub optional_text : String → Reads (Option Text)
+optional_text key = record { required = []; optional = codes key ∷ []; said = text_if_any (codes key) }
+
+-- a whole number that must stand
+abbrev pub whole : String → Reads ℕ
+whole key = record { required = codes key ∷ []; optional = []; said = whole_at (codes key) }
+
+-- the labels, which may
+abbrev pub labels : Reads (List (Text × Text))
+labels = record { required = []; optional = codes "labels" ∷ []; said = labels_at }
+
+-- this, of what the members that follow say
+abbrev pub asks : {X : Type 0} → X → Reads X
+asks x = record { required = []; optional = []; said = λ ms. x }
+
+infixl 10 ◌&◌
+abbrev pub ◌&◌ : {X Y : Type 0} → Reads (X → Y) → Reads X → Reads Y
+f & x = record {
+  required = f.required ++ x.required;
+  optional = f.optional ++ x.optional;
+  said = λ ms. f.said ms (x.said ms);
+}
+
+-- ---- the table
+
+-- a row: the name of an op, and what is read of its line
+pub record OpRow : Type 0 where
+  pub op : Text
+  pub reads : Reads Asked
+
+abbrev pub row : String → Reads Asked → OpRow
+row op reads = record { op = codes op; reads = reads }
+
+-- a row of a request
+abbrev pub request : String → Reads Request → OpRow
+request op reads = row op (asks A.Request & reads)
+
+-- a removal; with a moment to collect at, one event with the collection
+abbrev pub removes : (Text → Text → Removal) → (Text → Text → Request) → Text → Text → Option Text → Asked
+removes removal request ns name sync = option_map_or (A.Remove (removal ns name)) sync (A.Request (request ns name))
+
+abbrev pub row_of : Op → OpRow
+row_of NsAdd = request "ns.add" (asks R.NsAdd & text "ns")
+row_of NsRemove = request "ns.remove" (asks R.NsRemove & text "ns")
+row_of NsList = request "ns.list" (asks R.NsList)
+row_of ImageAdd = request "image.add" (asks R.ImageAdd & text "ns" & text "name" & text "target" & labels)
+row_of ImageTarget = request "image.target" (asks R.ImageTarget & text "ns" & text "name" & text "target")
+row_of ImageRemove = row "image.remove" (asks (removes Removing.Image R.ImageRemove) & text "ns" & text "name" & optional_text "sync")
+row_of ImageGet = request "image.get" (asks R.ImageGet & text "ns" & text "name")
+row_of ImageList = request "image.list" (asks R.ImageList & text "ns")
+row_of ImageLabel = request "image.label" (asks R.ImageLabel & text "ns" & text "name" & text "key" & text "value")
+row_of ContainerAdd = request "container.add" (asks R.ContainerAdd & text "ns" & text "name" & optional_text "snapshotter" & optional_text "key" & labels)
+row_of ContainerRemove = request "container.remove" (asks R.ContainerRemove & text "ns" & text "name")
+row_of ContainerGet = request "container.get" (asks R.ContainerGet & text "ns" & text "name")
+row_of ContainerList = request "container.list" (asks R.ContainerList & text "ns")
+row_of ContainerLabel = request "container.label" (asks R.ContainerLabel & text "ns" & text "name" & text "key" & text "value")
+row_of ContentAdd = request "content.add" (asks R.ContentAdd & text "ns" & text "digest" & labels & optional_text "lease")
+row_of ContentRemove = request "content.remove" (asks R.ContentRemove & text "ns" & text "digest")
+row_of ContentGet = request "content.get" (asks R.ContentGet & text "ns" & text "digest")
+row_of ContentLabel = request "content.label" (asks R.ContentLabel & text "ns" & text "digest" & text "key" & text "value")
+row_of ContentList = request "content.list" (asks R.ContentList & text "ns")
+row_of IngestBegin = request "ingest.begin" (asks R.IngestBegin & text "ns" & text "ref" & text "at" & optional_text "expected" & optional_text "lease")
+row_of IngestCommit = request "ingest.commit" (asks R.IngestCommit & text "ns" & text "ref" & text "digest" & labels & optional_text "lease")
+row_of IngestAbort = request "ingest.abort" (asks R.IngestAbort & text "ns" & text "ref")
+row_of IngestGet = request "ingest.get" (asks R.IngestGet & text "ns" & text "ref")
+row_of IngestList = request "ingest.list" (asks R.IngestList & text "ns")
+row_of SnapPrepare = request "snap.prepare" (asks R.SnapPrepare & text "ns" & text "snapshotter" & text "key" & optional_text "parent" & labels & optional_text "lease")
+row_of SnapView = request "snap.view" (asks R.SnapView & text "ns" & text "snapshotter" & text "key" & optional_text "parent" & labels & optional_text "lease")
+row_of SnapCommit = request "snap.commit" (asks R.SnapCommit & text "ns" & text "snapshotter" & text "key" & text "name" & labels & optional_text "lease")
+row_of SnapRemove = request "snap.remove" (asks R.SnapRemove & text "ns" & text "snapshotter" & text "key")
+row_of SnapGet = request "snap.get" (asks R.SnapGet & text "ns" & text "snapshotter" & text "key")
+row_of SnapLabel = request "snap.label" (asks R.SnapLabel & text "ns" & text "snapshotter" & text "name" & text "key" & text "value")
+row_of SnapList = request "snap.list" (asks R.SnapList & text "ns" & text "snapshotter")
+row_of LeaseAdd = request "lease.add" (asks R.LeaseAdd & text "ns" & text "id" & labels)
+row_of LeaseRemove = row "lease.remove" (asks (removes Removing.Lease R.LeaseRemove) & text "ns" & text "id" & optional_text "sync")
+row_of LeaseGet = request "lease.get" (asks R.LeaseGet & text "ns" & text "id")
+row_of LeaseLabel = request "lease.label" (asks R.LeaseLabel & text "ns" & text "id" & text "key" & text "value")
+row_of LeaseList = request "lease.list" (asks R.LeaseList & text "ns")
+row_of LeaseHold = request "lease.hold" (asks R.LeaseHold & text "ns" & text "id" & text "type" & text "resource")
+row_of LeaseDrop = request "lease.drop" (asks R.LeaseDrop & text "ns" & text "id" & text "type" & text "resource")
+row_of LeaseResources = request "lease.resources" (asks R.LeaseResources & text "ns" & text "id")
+row_of Profile = request "profile" (asks R.Profile & whole "v")
+row_of GcRun = row "gc.run" (asks (λ at. A.Collect at false) & text "at")
+row_of GcPlan = row "gc.plan" (asks (λ at. A.Collect at true) & text "at")
+row_of GcExplain = row "gc.explain" (asks A.Explain & text "ns" & text "type" & text "resource" & text "at")
+
+abbrev pub ops : List Op
+ops = NsAdd ∷ NsRemove ∷ NsList ∷ ImageAdd ∷ ImageTarget ∷ ImageRemove ∷ ImageGet ∷ ImageList ∷ ImageLabel ∷ ContainerAdd ∷ ContainerRemove ∷ ContainerGet ∷ ContainerList ∷ ContainerLabel ∷ ContentAdd ∷ ContentRemove ∷ ContentGet ∷ ContentLabel ∷ ContentList ∷ IngestBegin ∷ IngestCommit ∷ IngestAbort ∷ IngestGet ∷ IngestList ∷ SnapPrepare ∷ SnapView ∷ SnapCommit ∷ SnapRemove ∷ SnapGet ∷ SnapLabel ∷ SnapList ∷ LeaseAdd ∷ LeaseRemove ∷ LeaseGet ∷ LeaseLabel ∷ LeaseList ∷ LeaseHold ∷ LeaseDrop ∷ LeaseResources ∷ Profile ∷ GcRun ∷ GcPlan ∷ GcExplain ∷ []
+
+abbrev pub op_named : Text → Option Op
+op_named name = find (λ op. bytes_eq (row_of op).op name) ops
+
+-- what an op asks for with these members
+abbrev pub asked_of : Op → json.Members → Asked
+asked_of op = (row_of op).reads.said
+
+-- ---- the program's table
+
+-- the name of an op, the members that must stand beside it, and those that may
 pub record Members : Type 0 where
   pub op : Text
   pub required : List Text
   pub optional : List Text
 
--- a row of these
-abbrev pub members : Text → List Text → List Text → Members
-members op required optional = record { op = op; required = required; optional = optional }
-
 abbrev pub members_of : Op → Members
-members_of NsAdd = members (codes "ns.add") (codes "ns" ∷ []) []
-members_of NsRemove = members (codes "ns.remove") (codes "ns" ∷ []) []
-members_of NsList = members (codes "ns.list") [] []
-members_of ImageAdd = members (codes "image.add") (codes "ns" ∷ codes "name" ∷ codes "target" ∷ []) (codes "labels" ∷ [])
-members_of ImageTarget = members (codes "image.target") (codes "ns" ∷ codes "name" ∷ codes "target" ∷ []) []
-members_of ImageRemove = members (codes "image.remove") (codes "ns" ∷ codes "name" ∷ []) (codes "sync" ∷ [])
-members_of ImageGet = members (codes "image.get") (codes "ns" ∷ codes "name" ∷ []) []
-members_of ImageList = members (codes "image.list") (codes "ns" ∷ []) []
-members_of ImageLabel = members (codes "image.label") (codes "ns" ∷ codes "name" ∷ codes "key" ∷ codes "value" ∷ []) []
-members_of ContainerAdd = members (codes "container.add") (codes "ns" ∷ codes "name" ∷ []) (codes "snapshotter" ∷ codes "key" ∷ codes "labels" ∷ [])
-members_of ContainerRemove = members (codes "container.remove") (codes "ns" ∷ codes "name" ∷ []) []
-members_of ContainerGet = members (codes "container.get") (codes "ns" ∷ codes "name" ∷ []) []
-members_of ContainerList = members (codes "container.list") (codes "ns" ∷ []) []
-members_of ContainerLabel = members (codes "container.label") (codes "ns" ∷ codes "name" ∷ codes "key" ∷ codes "value" ∷ []) []
-members_of ContentAdd = members (codes "content.add") (codes "ns" ∷ codes "digest" ∷ []) (codes "labels" ∷ codes "lease" ∷ [])
-members_of ContentRemove = members (codes "content.remove") (codes "ns" ∷ codes "digest" ∷ []) []
-members_of ContentGet = members (codes "content.get") (codes "ns" ∷ codes "digest" ∷ []) []
-members_of ContentLabel = members (codes "content.label") (codes "ns" ∷ codes "digest" ∷ codes "key" ∷ codes "value" ∷ []) []
-members_of ContentList = members (codes "content.list") (codes "ns" ∷ []) []
-members_of IngestBegin = members (codes "ingest.begin") (codes "ns" ∷ codes "ref" ∷ codes "at" ∷ []) (codes "expected" ∷ codes "lease" ∷ [])
-members_of IngestCommit = members (codes "ingest.commit") (codes "ns" ∷ codes "ref" ∷ codes "digest" ∷ []) (codes "labels" ∷ codes "lease" ∷ [])
-members_of IngestAbort = members (codes "ingest.abort") (codes "ns" ∷ codes "ref" ∷ []) []
-members_of IngestGet = members (codes "ingest.get") (codes "ns" ∷ codes "ref" ∷ []) []
-members_of IngestList = members (codes "ingest.list") (codes "ns" ∷ []) []
-members_of SnapPrepare = members (codes "snap.prepare") (codes "ns" ∷ codes "snapshotter" ∷ codes "key" ∷ []) (codes "parent" ∷ codes "labels" ∷ codes "lease" ∷ [])
-members_of SnapView = members (codes "snap.view") (codes "ns" ∷ codes "snapshotter" ∷ codes "key" ∷ []) (codes "parent" ∷ codes "labels" ∷ codes "lease" ∷ [])
-members_of SnapCommit = members (codes "snap.commit") (codes "ns" ∷ codes "snapshotter" ∷ codes "key" ∷ codes "name" ∷ []) (codes "labels" ∷ codes "lease" ∷ [])
-members_of SnapRemove = members (codes "snap.remove") (codes "ns" ∷ codes "snapshotter" ∷ codes "key" ∷ []) []
-members_of SnapGet = members (codes "snap.get") (codes "ns" ∷ codes "snapshotter" ∷ codes "key" ∷ []) []
-members_of SnapLabel = members (codes "snap.label") (codes "ns" ∷ codes "snapshotter" ∷ codes "name" ∷ codes "key" ∷ codes "value" ∷ []) []
-members_of SnapList = members (codes "snap.list") (codes "ns" ∷ codes "snapshotter" ∷ []) []
-members_of LeaseAdd = members (codes "lease.add") (codes "ns" ∷ codes "id" ∷ []) (codes "labels" ∷ [])
-members_of LeaseRemove = members (codes "lease.remove") (codes "ns" ∷ codes "id" ∷ []) (codes "sync" ∷ [])
-members_of LeaseGet = members (codes "lease.get") (codes "ns" ∷ codes "id" ∷ []) []
-members_of LeaseLabel = members (codes "lease.label") (codes "ns" ∷ codes "id" ∷ codes "key" ∷ codes "value" ∷ []) []
-members_of LeaseList = members (codes "lease.list") (codes "ns" ∷ []) []
-members_of LeaseHold = members (codes "lease.hold") (codes "ns" ∷ codes "id" ∷ codes "type" ∷ codes "resource" ∷ []) []
-members_of LeaseDrop = members (codes "lease.drop") (codes "ns" ∷ codes "id" ∷ codes "type" ∷ codes "resource" ∷ []) []
-members_of LeaseResources = members (codes "lease.resources") (codes "ns" ∷ codes "id" ∷ []) []
-members_of Profile = members (codes "profile") (codes "v" ∷ []) []
-members_of GcRun = members (codes "gc.run") (codes "at" ∷ []) []
-members_of GcPlan = members (codes "gc.plan") (codes "at" ∷ []) []
-
-abbrev pub ops : List Op
-ops = NsAdd ∷ NsRemove ∷ NsList ∷ ImageAdd ∷ ImageTarget ∷ ImageRemove ∷ ImageGet ∷ ImageList ∷ ImageLabel ∷ ContainerAdd ∷ ContainerRemove ∷ ContainerGet ∷ ContainerList ∷ ContainerLabel ∷ ContentAdd ∷ ContentRemove ∷ ContentGet ∷ ContentLabel ∷ ContentList ∷ IngestBegin ∷ IngestCommit ∷ IngestAbort ∷ IngestGet ∷ IngestList ∷ SnapPrepare ∷ SnapView ∷ SnapCommit ∷ SnapRemove ∷ SnapGet ∷ SnapLabel ∷ SnapList ∷ LeaseAdd ∷ LeaseRemove ∷ LeaseGet ∷ LeaseLabel ∷ LeaseList ∷ LeaseHold ∷ LeaseDrop ∷ LeaseResources ∷ Profile ∷ GcRun ∷ GcPlan ∷ []
-
-abbrev pub op_named : Text → Option Op
-op_named name = find (λ op. bytes_eq (members_of op).op name) ops
+members_of op = record { op = (row_of op).op; required = (row_of op).reads.required; optional = (row_of op).reads.optional }
 
 -- a row of the program's table, as texts
 abbrev pub row_view : OpForm → Members
-row_view row = members row.op.now (map (λ t. t.now) row.required.now) (map (λ t. t.now) row.optional.now)
+row_view row = record { op = row.op.now; required = map (λ t. t.now) row.required.now; optional = map (λ t. t.now) row.optional.now }

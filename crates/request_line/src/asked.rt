@@ -6,7 +6,20 @@ use meta_types::{RawText, Removal, Request};
 pub enum Asked {
     Request(Request),
     /// A collection at a moment, or a dry run of one.
-    Collect { at: RawText, dry: bool },
+    Collect {
+        at: RawText,
+        dry: bool,
+    },
     /// A removal with a collection at a moment, as one event.
-    Remove { removal: Removal, at: RawText },
+    Remove {
+        removal: Removal,
+        at: RawText,
+    },
+    /// Why a row is kept at a moment: a question, and no event.
+    Explain {
+        ns: RawText,
+        kind: RawText,
+        resource: RawText,
+        at: RawText,
+    },
 }

@@ -1,7 +1,7 @@
 //! What a line asks for: collections and dry runs.
 ghost use Rattle.std.specs.Prelude.{◌≡◌};
 ghost use Rattle.serde_json.specs.View.{members_view};
-ghost use Rattle.request_line.specs.EachOp.{asked_of};
+ghost use Rattle.request_line.specs.Table.{asked_of};
 
 use crate::asked::Asked;
 use crate::members::{Members, text};

@@ -2,7 +2,7 @@
 ghost use Rattle.std.specs.Prelude.{◌≡◌, None, IfOk};
 ghost use Rattle.serde_json.specs.View.{members_view};
 ghost use Rattle.meta_types.specs.Faults.{Refuses};
-ghost use Rattle.request_line.specs.EachOp.{asked_of};
+ghost use Rattle.request_line.specs.Table.{asked_of};
 
 use crate::asked::Asked;
 use crate::members::{Members, labels, text, text_if_any};

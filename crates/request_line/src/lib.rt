@@ -12,7 +12,7 @@ mod line;
 mod members;
 mod namespace_ops;
 mod op;
-mod ops;
+mod question_ops;
 mod snapshot_ops;
 
 pub use asked::Asked;

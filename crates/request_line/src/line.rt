@@ -7,7 +7,7 @@ ghost use Rattle.request_line.specs.Refusals.{IsUnread};
 use crate::asked::Asked;
 use crate::check::{are_of, op_in};
 use crate::members::members_in;
-use crate::ops::ask_for;
+use crate::op::ask_for;
 use meta_types::Fault;
 use serde_json::{Map, Value};
 use std::alloc::Global;

@@ -6,3 +6,7 @@ pub mod Runs
 pub mod Outcomes
 pub mod WholeScripts
 pub mod Served
+pub mod Asking
+mod OneThing
+mod OneTelling
+pub mod OneOutput

@@ -1,17 +1,23 @@
 -- On the answer to a line.
-use Rattle.std.proofs.Common.{◌≡◌, ◌∙◌, ◌<◌, ◌≤◌, ◌==◌, ℕ, List, [], length, Option, Some, None, Result, Ok, Err, refl, sym, true, false, nat_lt, arith, inl, inr, subst}
+use Rattle.std.proofs.Common.{◌≡◌, ◌∙◌, ◌<◌, ◌≤◌, ◌==◌, ℕ, List, [], ◌∷◌, length, Option, Some, None, Result, Ok, Err, refl, sym, true, false, nat_lt, arith, inl, inr, subst}
 use Rattle.std.specs.Result.{IsErrAnd, IfErr}
+use Rattle.std.specs.Prelude.{IfOk}
+use Rattle.std.proofs.lemmas.Bool.{both_ways}
 use Rattle.std.proofs.lemmas.Bool.Decides.{nat_tests}
 use Rattle.meta_types.specs.declared.fault.Fault.{Fault}
 use Rattle.meta_types.specs.declared.fault.Fault.TheVariants.{TooLong}
 use Rattle.meta_types.specs.Rows.{State}
-use Rattle.meta_types.specs.Steps.{Answer, refused}
+use Rattle.meta_types.specs.Steps.{refused}
+use Rattle.meta_types.specs.Questions.{Telling, LineAnswer, of_event}
 use Rattle.request_line.specs.Lines.{asked_in}
 use Rattle.request_line.specs.Refusals.{IsUnread}
 use Rattle.request_line.specs.declared.asked.Asked.{Asked}
-use Rattle.reply_line.specs.Replies.{answer_text}
-use Rattle.scripts.specs.LineSteps.{Refusal, out_of_memory, no_worker, asked_step, answer_step, line_step, with_line_feed}
-use Rattle.scripts.specs.Served.{IsRefused}
+use Rattle.reply_line.specs.Explained.{line_answer_text}
+use Rattle.scripts.specs.LineSteps.{Refusal, out_of_memory, no_worker, tells, asked_step, short_request, answer_step, line_step, with_line_feed, IsLineAnswer, IsTrueOf, IsTrueAt}
+use Rattle.scripts.specs.Served.{IsServed, IsRefused}
+
+pub some_byte : (n : ℕ) → 0 < n → (n == 0) ≡ false
+some_byte n some = grind (arith, nat_tests)
 
 not_empty : (n : ℕ) → 65536 < n → (n == 0) ≡ false
 not_empty n long = grind (arith, nat_tests)
@@ -20,7 +26,9 @@ is_long : (n : ℕ) → 65536 < n → nat_lt 65536 n ≡ true
 is_long n long = grind (arith, nat_tests)
 
 -- a line that is too long
-pub line_step-long : (state : State) (line : List ℕ) → 65536 < length line → line_step state None line ≡ (with_line_feed (answer_text (refused TooLong)), state)
+pub line_step-long : (state : State) (line : List ℕ) → 65536 < length line
+    → line_step state None
+    line ≡ (with_line_feed (line_answer_text (of_event (refused TooLong))), state)
 unfolding line_step
 line_step-long state line long = rw (not_empty (length line) long, is_long (length line) long) refl
 
@@ -34,37 +42,92 @@ is_short n short = grind (arith, nat_tests)
 
 module _ (state : State) (line : List ℕ) (short : length line ≤ 65536) where
   -- a line that asks for something
-  pub step-asked : (asked : Asked) → asked_in line ≡ Some asked → answer_step state None line ≡ asked_step state asked
-  step-asked asked e = rw (is_short (length line) short, e) refl
+  asks : (asked : Asked) → asked_in line ≡ Some asked → short_request line ≡ Some asked
+  asks asked e = rw (is_short (length line) short, e) refl
+
+  step-asked : (telling : Telling) (asked : Asked) → asked_in line ≡ Some asked
+      → answer_step state (Some (tells telling)) line ≡ asked_step state telling asked
+  step-asked telling asked e = rw (is_short (length line) short, e) refl
 
   -- a line that can't be read
-  pub step-unread : (fault : Fault) → IsUnread (asked_in line) fault → (refusal : Option Refusal) × (answer_step state refusal line ≡ (refused fault, state))
+  pub step-unread : (fault : Fault) → IsUnread (asked_in line) fault
+      → IsLineAnswer state line (of_event (refused fault)) state
   step-unread fault u = elim u [
-    | inl e ↦ (Some out_of_memory, rw e refl)
-    | inr e ↦ (None, rw (is_short (length line) short, e.1, e.0) refl)
+    | inl e ↦ (Some out_of_memory, rw e refl, tt)
+    | inr e ↦ (None, rw (is_short (length line) short, e.1, e.0) refl, tt)
   ]
 
+  -- what it asks for is done
+  served_line : (asked : Asked) (answer : LineAnswer) (new : State) → asked_in line ≡ Some asked
+      → IsServed state asked answer new → IsLineAnswer state line answer new
+  served_line asked answer new e s = (
+    Some (tells s.1),
+    step-asked s.1 asked e
+        ∙ s.2,
+    subst (λ (what : Option Asked). IsTrueOf state what answer) (sym (asks asked e))
+        s.0,
+  )
+
   -- what it asks for is refused
-  pub refused_line : (asked : Asked) (fault : Fault) (new : State) → asked_in line ≡ Some asked → IsRefused state asked fault new → (refusal : Option Refusal) × (answer_step state refusal line ≡ (refused fault, new))
+  refused_line : (asked : Asked) (fault : Fault) (new : State) → asked_in line ≡ Some asked
+      → IsRefused state asked fault new → IsLineAnswer state line (of_event (refused fault)) new
   refused_line asked fault new e r = elim r [
-    | inl f ↦ (Some out_of_memory, (λ i. (refused (sym f.0 i), sym f.1 i)))
+    | inl f ↦ (Some out_of_memory, (λ i. (of_event (refused (sym f.0 i)), sym f.1 i)), tt)
     | inr f ↦ elim f [
-      | inl n ↦ (Some no_worker, rw (is_short (length line) short, e, n.1, n.0, n.2) refl)
-      | inr s ↦ (None, step-asked asked e ∙ s)
+      | inl n ↦ (Some no_worker, rw (is_short (length line) short, e, n.1, n.0, n.2) refl, tt)
+      | inr s ↦ served_line asked (of_event (refused fault)) new e s
     ]
   ]
 
   -- the same of what a call answers
+  pub served_call : {T : Type 0} (of : T → LineAnswer) (result : Result T Fault) (asked : Asked)
+      (new : State) → asked_in line ≡ Some asked
+      → IfOk result (λ x. IsServed state asked (of x) new)
+      → IfOk result (λ x. IsLineAnswer state line (of x) new)
+  served_call of (Ok x) asked new e s = served_line asked (of x) new e s
+  served_call of (Err fault) asked new e s = tt
+
   pub refused_call : {T : Type 0} (result : Result T Fault) (asked : Asked) (new : State) → asked_in line ≡ Some asked → IfErr result (λ fault. IsRefused state asked fault new)
-      → IfErr result (λ fault. (refusal : Option Refusal) × (answer_step state refusal line ≡ (refused fault, new)))
+      → IfErr result (λ fault. IsLineAnswer state line (of_event (refused fault)) new)
   refused_call (Ok x) asked new e r = tt
   refused_call (Err fault) asked new e r = refused_line asked fault new e r
 
 -- a line that isn't empty is answered
-pub line_step-answer : (state : State) (refusal : Option Refusal) (line : List ℕ) (answer : Answer) (new : State) → (length line == 0) ≡ false → answer_step state refusal line ≡ (answer, new)
-    → line_step state refusal line ≡ (with_line_feed (answer_text answer), new)
+pub line_step-answer : (state : State) (refusal : Option Refusal) (line : List ℕ)
+    (answer : LineAnswer) (new : State) → (length line == 0) ≡ false
+    → answer_step state refusal line ≡ (answer, new)
+    → line_step state refusal line ≡ (with_line_feed (line_answer_text answer), new)
 unfolding line_step
 line_step-answer state refusal line answer new full e = rw (full, e) refl
+
+-- what is right of the answer is right of the step
+pub true_at : (state : State) (refusal : Option Refusal) (line : List ℕ) (answer : LineAnswer)
+    (new : State) → answer_step state refusal line ≡ (answer, new)
+    → IsTrueOf state (short_request line) answer
+    → IsTrueAt state refusal line
+true_at state refusal [] answer new e right = tt
+true_at state refusal (byte ∷ line) answer new e right =
+    subst (λ (step : LineAnswer × State). IsTrueOf state (short_request (byte ∷ line)) step.0)
+    (sym e) right
+
+-- an empty line asks for nothing
+pub true_at_empty : (state : State) (refusal : Option Refusal) (line : List ℕ)
+    → (length line == 0) ≡ true → IsTrueAt state refusal line
+true_at_empty state refusal [] empty = tt
+true_at_empty state refusal (byte ∷ line) empty =
+    absurd (both_ways (length (byte ∷ line) == 0)
+    (some_byte (length (byte ∷ line)) (omega arith)) empty)
+
+-- nor does one that is too long
+pub true_at_long : (state : State) (line : List ℕ) → 65536 < length line → IsTrueAt state None line
+true_at_long state line long =
+    true_at state None line (of_event (refused TooLong)) state
+    (rw (is_long (length line) long) refl) tt
+
+-- memory may refuse any line
+pub true_at_memory : (state : State) (line : List ℕ) → IsTrueAt state (Some out_of_memory) line
+true_at_memory state [] = tt
+true_at_memory state (byte ∷ line) = tt
 
 -- `?` passes a fault on as it is
 pub passed_on : {T : Type 0} (result : Result T Fault) (fault : Fault) (P : Fault → Type 0) → IsErrAnd result (λ other. other ≡ fault) → P fault → IfErr result P

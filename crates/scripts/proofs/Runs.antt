@@ -1,18 +1,28 @@
 -- On how far a run has come.
-use Rattle.std.proofs.Common.{◌≡◌, ◌∙◌, ap, sym, refl, ℕ, List, [], ◌∷◌, ◌++◌, false, append_assoc, Option}
+use Rattle.std.proofs.Common.{◌≡◌, ◌∙◌, ap, sym, refl, ℕ, List, [], ◌∷◌, ◌++◌, false, append_assoc, Option, Some, subst, drop}
 use Rattle.std.specs.List.{list_any}
 use Rattle.std.specs.Io.KnownBytes.{Appends, Consumes, Keeps}
 use Rattle.std.proofs.lemmas.List.{append-nil}
 use Rattle.std.proofs.lemmas.List.Folds.{list_any-append}
-use Rattle.scripts.specs.LineSteps.{Refusal, line_step}
+use Rattle.scripts.specs.LineSteps.{Refusal, out_of_memory, line_step, IsTrueAt}
 use Rattle.meta_types.specs.Rows.{State, empty_store}
-use Rattle.scripts.proofs.LineAnswers.{line_step-empty}
+use Rattle.scripts.proofs.LineAnswers.{line_step-empty, true_at_memory}
 use Rattle.scripts.specs.declared.line_buffer.LineBuffer.{LineBuffer}
 use Rattle.scripts.specs.Lines.{is_line_feed, lines_of, whole_lines}
-use Rattle.scripts.specs.Output.{Refusals, output_from, output_of, IsOutput, IsWholeOutput, IsBeginning, Exchanges}
+use Rattle.scripts.specs.Output.{Refusals, first_refusal, output_from, output_of, AreTrue, IsOutput, IsWholeOutput, IsBeginning, Exchanges}
 use Rattle.scripts.specs.Progress.{Progress, IsLine, Answers, Advances, Breaks, BeginsReply, EndsWith, Runs}
 use Rattle.scripts.proofs.Scripts.{lines_of-line, lines_of-last, whole_lines-ended, whole_lines-rest}
 use Rattle.scripts.proofs.Writers.{Appends-append, Appends-none, Appends-Keeps, Consumes-append, Consumes-none, Consumes-Keeps}
+
+-- memory refuses each of these lines
+abbrev unread : List (List ℕ) → Refusals
+unread [] = []
+unread (line ∷ lines) = Some out_of_memory ∷ unread lines
+
+unread_true : (state : State) (lines : List (List ℕ)) → AreTrue state (unread lines) lines
+unread_true state [] = tt
+unread_true state (line ∷ lines) =
+    (true_at_memory state line, unread_true (line_step state (Some out_of_memory) line).1 lines)
 
 -- a run that begins
 pub Progress-empty : (buffer : LineBuffer) → IsLine buffer [] → Progress [] [] empty_store buffer
@@ -24,6 +34,7 @@ Progress-empty buffer e = record {
   is_whole = refl;
   no_feed = refl;
   is_line = e;
+  true_on = λ more tail told. told;
   goes_on = λ more tail. refl;
 }
 
@@ -38,6 +49,7 @@ Progress-piece taken written state old new piece p add none = record {
   is_whole = p.is_whole;
   no_feed = list_any-append is_line_feed p.line piece ∙ rw (p.no_feed, none) refl;
   is_line = add p.line p.is_line;
+  true_on = p.true_on;
   goes_on = p.goes_on;
 }
 
@@ -46,6 +58,18 @@ reply_next : (taken written : List ℕ) (state : State) (old : LineBuffer) (p : 
     → output_of (p.refusals ++ a.0 ∷ more) (p.whole ++ (p.line ++ 10 ∷ tail)) ≡ written ++ (out ++ output_from next more (lines_of tail))
 reply_next taken written state old p out next a more tail =
     p.goes_on (a.0 ∷ more) (p.line ++ 10 ∷ tail) ∙ rw (lines_of-line p.line tail p.no_feed, a.1) refl
+
+-- the answer to the question of the line is right
+true_next : (taken written : List ℕ) (state : State) (old : LineBuffer)
+    (p : Progress taken written state old) (out : List ℕ) (next : State)
+    (a : Answers state p.line out next) (more : Refusals) (tail : List ℕ)
+    → AreTrue next more (lines_of tail)
+    → AreTrue empty_store (p.refusals ++ a.0 ∷ more)
+    (lines_of (p.whole ++ (p.line ++ 10 ∷ tail)))
+true_next taken written state old p out next a more tail told =
+    p.true_on (a.0 ∷ more) (p.line ++ 10 ∷ tail)
+    (subst (AreTrue state (a.0 ∷ more)) (sym (lines_of-line p.line tail p.no_feed))
+    (a.2, rw a.1 told))
 
 -- a line that was answered
 pub Progress-line : (taken written : List ℕ) (state : State) (old new : LineBuffer) (p : Progress taken written state old) (out : List ℕ) (next : State) → Answers state p.line out next → IsLine new []
@@ -58,6 +82,9 @@ Progress-line taken written state old new p out next a e = record {
   is_whole = whole_lines-ended (p.whole ++ p.line);
   no_feed = refl;
   is_line = e;
+  true_on =
+      λ more tail told. simp append_assoc
+      (true_next taken written state old p out next a more tail told);
   goes_on = λ more tail. simp append_assoc (reply_next taken written state old p out next a more tail);
 }
 
@@ -65,20 +92,42 @@ Progress-line taken written state old new p out next a e = record {
 pub begins_line : (taken written : List ℕ) (state : State) (old : LineBuffer) (p : Progress taken written state old) (out front back : List ℕ) (next : State) → Answers state p.line out next → front ++ back ≡ out
     → (tail : List ℕ) → IsBeginning ((taken ++ 10 ∷ []) ++ tail) (written ++ front)
 begins_line taken written state old p out front back next a e tail =
-    let after = output_from next [] (lines_of tail) in
-    let whole = reply_next taken written state old p out next a [] tail ∙ ap (λ o. written ++ (o ++ after)) (sym e) in
-    (p.refusals ++ a.0 ∷ [], back ++ after, rw p.parts (simp append_assoc (sym (simp append_assoc at whole))))
+    let more = unread (lines_of tail) in
+    let after = output_from next more (lines_of tail) in
+    let whole = reply_next taken written state old p out next a more tail
+    ∙ ap (λ o. written ++ (o ++ after)) (sym e) in
+    let told =
+    true_next taken written state old p out next a more tail
+    (unread_true next (lines_of tail)) in (
+      p.refusals ++ a.0 ∷ more,
+      back ++ after,
+      rw p.parts
+          (simp append_assoc (sym (simp append_assoc at whole))),
+      rw p.parts (simp append_assoc told),
+    )
 
 -- what was written so far
 pub begins : (taken written : List ℕ) (state : State) (buffer : LineBuffer) → Progress taken written state buffer → (tail : List ℕ) → IsBeginning (taken ++ tail) written
 begins taken written state buffer p tail =
-    (p.refusals ++ [], output_from state [] (lines_of (p.line ++ tail)), rw p.parts (simp append_assoc (sym (p.goes_on [] (p.line ++ tail)))))
+    let lines = lines_of (p.line ++ tail) in
+    let more = unread lines in (
+      p.refusals ++ more,
+      output_from state more lines,
+      rw p.parts
+          (simp append_assoc (sym (p.goes_on more (p.line ++ tail)))),
+      rw p.parts
+          (simp append_assoc (p.true_on more (p.line ++ tail) (unread_true state lines))),
+    )
 
 -- an end that wrote nothing
 pub Breaks-none : (buffer : LineBuffer) (state : State) (bytes : List ℕ) (held : Option (List ℕ)) → Breaks buffer state bytes held held
 Breaks-none buffer state bytes held = record {
-  begins = λ taken written p.
-      ([], Appends-none held, λ tail. simp (append_assoc, append-nil) (begins taken written state buffer p (bytes ++ tail)));
+  begins = λ taken written p. (
+    [],
+    Appends-none held,
+    λ tail. rw (append_assoc taken bytes tail, append-nil written)
+        (begins taken written state buffer p (bytes ++ tail)),
+  );
 }
 
 pub Advances-none : (buffer : LineBuffer) (state : State) (held : Option (List ℕ)) → Advances buffer state buffer state [] held held
@@ -142,27 +191,65 @@ last_output : (taken written : List ℕ) (state : State) (buffer : LineBuffer) (
 last_output taken written state buffer p out next a =
     rw p.parts (sym (p.goes_on (a.0 ∷ []) p.line ∙ ap (λ o. written ++ o) (last_reply state a.0 p.line p.no_feed ∙ ap (λ (q : List ℕ × State). q.0) a.1)))
 
+last_true : (state : State) (refusal : Option Refusal) (line : List ℕ)
+    → list_any is_line_feed line ≡ false → IsTrueAt state refusal line
+    → AreTrue state (refusal ∷ []) (lines_of line)
+last_true state refusal [] none told = tt
+last_true state refusal (b ∷ line) none told =
+    subst (AreTrue state (refusal ∷ [])) (sym (lines_of-last b line none)) (told, tt)
+
+all_true : (taken written : List ℕ) (state : State) (buffer : LineBuffer)
+    (p : Progress taken written state buffer) (out : List ℕ) (next : State)
+    (a : Answers state p.line out next)
+    → AreTrue empty_store (p.refusals ++ a.0 ∷ []) (lines_of taken)
+all_true taken written state buffer p out next a =
+    rw p.parts (p.true_on (a.0 ∷ []) p.line (last_true state a.0 p.line p.no_feed a.2))
+
 pub EndsWith-reply : (buffer : LineBuffer) (state : State) (h0 h1 : Option (List ℕ)) → ((line : List ℕ) → IsLine buffer line → (bytes : List ℕ) × (next : State) × Answers state line bytes next × Appends h0 h1 bytes)
     → EndsWith IsOutput buffer state h0 h1
 EndsWith-reply buffer state h0 h1 reply = record {
   ends = λ taken written p.
-      let r = reply p.line p.is_line in
-      (r.0, r.3, (p.refusals ++ r.2.0 ∷ [], last_output taken written state buffer p r.0 r.1 r.2));
+      let r = reply p.line p.is_line in (
+        r.0,
+        r.3,
+        (
+          p.refusals ++ r.2.0 ∷ [],
+          last_output taken written state buffer p r.0 r.1 r.2,
+          all_true
+              taken written state buffer p r.0 r.1 r.2,
+        ),
+      );
 }
 
 pub EndsWith-front : (buffer : LineBuffer) (state : State) (h0 h1 : Option (List ℕ)) → ((line : List ℕ) → IsLine buffer line → BeginsReply state line h0 h1)
     → EndsWith IsBeginning buffer state h0 h1
 EndsWith-front buffer state h0 h1 reply = record {
   ends = λ taken written p.
-      let r = reply p.line p.is_line in
-      (r.4.0, r.4.2, (p.refusals ++ r.3.0 ∷ [], r.1, append_assoc written r.4.0 r.1 ∙ ap (λ o. written ++ o) r.4.1 ∙ last_output taken written state buffer p r.0 r.2 r.3));
+      let r = reply p.line p.is_line in (
+        r.4.0,
+        r.4.2,
+        (
+          p.refusals ++ r.3.0 ∷ [],
+          r.1,
+          append_assoc written r.4.0 r.1
+              ∙ ap (λ o. written ++ o) r.4.1
+              ∙ last_output taken written state buffer p r.0 r.2 r.3,
+          all_true taken written state
+              buffer p r.0 r.2 r.3,
+        ),
+      );
 }
 
 -- What was answered is the output for the whole lines.
 pub whole_output : (taken written : List ℕ) (state : State) (buffer : LineBuffer) → Progress taken written state buffer → IsWholeOutput taken written
 whole_output taken written state buffer p =
-    let whole : whole_lines taken ≡ p.whole = ap whole_lines p.parts ∙ whole_lines-rest p.whole p.line p.is_whole p.no_feed in
-    (p.refusals, rw whole (sym (simp append-nil at (p.goes_on [] []))))
+    let whole : whole_lines taken ≡ p.whole = ap whole_lines p.parts
+    ∙ whole_lines-rest p.whole p.line p.is_whole p.no_feed in (
+      p.refusals,
+      rw whole (sym (simp append-nil at (p.goes_on [] []))),
+      rw whole
+          (simp append-nil at (p.true_on [] [] tt)),
+    )
 
 pub Runs-none : (state : State) (buffer : LineBuffer) (left held : Option (List ℕ)) → Progress [] [] state buffer → Runs state buffer left left held held
 Runs-none state buffer left held p = record { read = []; written = []; consumes = Consumes-none left; appends = Appends-none held; progress = p }
@@ -224,4 +311,12 @@ Runs-begins {s0 = s0} {b0 = b0} {l0 = l0} {l1 = l1} {l2 = l2} r kept = record {
 
 -- a run that read and wrote nothing
 pub Exchanges-none : (left held : Option (List ℕ)) → Exchanges IsBeginning left left held held
-Exchanges-none left held = record { read = []; written = []; consumes = Consumes-none left; appends = Appends-none held; related = ([], [], refl) }
+Exchanges-none left held =
+    record {
+      read = [];
+      written = [];
+      consumes = Consumes-none left;
+      appends =
+          Appends-none held;
+      related = ([], [], refl, tt);
+    }

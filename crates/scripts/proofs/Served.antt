@@ -8,6 +8,7 @@ use Rattle.meta_types.specs.Rows.{State}
 use Rattle.meta_types.specs.Backends.{BackNames, no_objects}
 use Rattle.meta_types.specs.Reports.{Report}
 use Rattle.meta_types.specs.Steps.{Answer, answered, reported, Event, collect, remove_collect}
+use Rattle.meta_types.specs.Questions.{of_event}
 use Rattle.meta_types.specs.Histories.{Step}
 use Rattle.meta_types.specs.declared.fault.Fault.{Fault}
 use Rattle.meta_types.specs.declared.fault.Fault.TheVariants.{InvalidArgument, NotFound, AlreadyExists, FailedPrecondition, BadLine, TooLong, OutOfMemory, NoWorker, BackendFailed, ReadFailed, WriteFailed, Mismatch}
@@ -20,7 +21,7 @@ use Rattle.backend_sweep.specs.Swept.{count_names}
 use Rattle.collection.specs.Refused.{CollectFails}
 use Rattle.store_front.specs.KeptAnswers.{kept_reply, kept_report, kept_fault, Takes, reply_failures, report_failures}
 use Rattle.scripts.specs.EventSteps.{event_step}
-use Rattle.scripts.specs.LineSteps.{asked_step, asks_collection}
+use Rattle.scripts.specs.LineSteps.{told_in, line_step_of, asked_step, asks_collection}
 use Rattle.scripts.specs.Served.{IsServed, IsRefused}
 use Rattle.scripts.proofs.Outcomes.{no_event_has_another_step}
 
@@ -39,12 +40,14 @@ no_names names e =
 
 -- ---- the request is an event
 
-module _ (old new : State) (asked : Asked) (event : Event) (is : asked_step old asked ≡ event_step old event) where
+module _ (old new : State) (asked : Asked) (event : Event)
+    (is : asked_step old (told_in None) asked ≡ line_step_of (event_step old event)) where
   -- a step is the answer
-  step_served : (answer : Answer) → Step old event no_objects answer new → IsServed old asked answer new
+  step_served : (answer : Answer) → Step old event no_objects answer new
+      → IsServed old asked (of_event answer) new
   step_served answer step =
       let s = no_event_has_another_step old event answer new step in
-      is ∙ (λ i. (sym s.0 i, sym s.1 i))
+      (tt, told_in None, is ∙ (λ i. (of_event (sym s.0 i), sym s.1 i)))
 
   reply_refused : (fault : Fault) (least : Option Fault) → Takes old event (kept_fault fault) new → Fails fault least → 0 ≡ 0 + reply_failures (Err fault) → IsRefused old asked fault new
   reply_refused InvalidArgument least step fails none = inr (inr (step_served _ step))
@@ -75,7 +78,8 @@ module _ (old new : State) (asked : Asked) (event : Event) (is : asked_step old 
   report_refused collects (Mismatch place) least step fails = absurd fails
 
   -- a report without a failure is the answer
-  report_served : (report : Report) → Step old event report.failed (reported report) new → count_names report.failed ≡ 0 → IsServed old asked (reported report) new
+  report_served : (report : Report) → Step old event report.failed (reported report) new
+      → count_names report.failed ≡ 0 → IsServed old asked (of_event (reported report)) new
   report_served report step none = step_served (reported report) (subst (λ (failed : BackNames). Step old event failed (reported report) new) (no_names report.failed none) step)
 
   pub report_err : asks_collection (Some asked) ≡ true → (result : Result Report Fault) (least : Option Fault) → Takes old event (kept_report result) new → IfErr result (λ fault. CollectFails fault least)
@@ -84,7 +88,8 @@ module _ (old new : State) (asked : Asked) (event : Event) (is : asked_step old 
   report_err collects (Err fault) least step fails = report_refused collects fault least step fails
 
   module _ (before after : ℕ) (was : before ≡ 0) (stays : after ≡ 0) where
-    pub reply_ok : (result : Result Reply Fault) → Takes old event (kept_reply result) new → IfOk result (λ reply. IsServed old asked (answered reply) new)
+    pub reply_ok : (result : Result Reply Fault) → Takes old event (kept_reply result) new
+        → IfOk result (λ reply. IsServed old asked (of_event (answered reply)) new)
     reply_ok (Ok reply) step = step_served (answered reply) step
     reply_ok (Err fault) step = tt
 
@@ -93,23 +98,31 @@ module _ (old new : State) (asked : Asked) (event : Event) (is : asked_step old 
     reply_err (Ok reply) least step fails count = tt
     reply_err (Err fault) least step fails count = reply_refused fault least step fails (omega arith)
 
-    pub report_ok : (result : Result Report Fault) → Takes old event (kept_report result) new → after ≡ before + report_failures result → IfOk result (λ report. IsServed old asked (reported report) new)
+    pub report_ok : (result : Result Report Fault) → Takes old event (kept_report result) new
+        → after ≡ before + report_failures result
+        → IfOk result (λ report. IsServed old asked (of_event (reported report)) new)
     report_ok (Ok report) step count = report_served report step (omega arith)
     report_ok (Err fault) step count = tt
 
 -- ---- which event
 
 -- a collection at a moment, whatever the number of workers
-pub is_collection : (old : State) (text : List ℕ) (at : ℤ) (dry : Bool) (workers : ℕ) → instant_of text ≡ Some at → is_worker_count workers ≡ true → asked_step old (A.Collect text dry) ≡ event_step old (collect at dry workers)
+pub is_collection : (old : State) (text : List ℕ) (at : ℤ) (dry : Bool) (workers : ℕ)
+    → instant_of text ≡ Some at → is_worker_count workers ≡ true
+    → asked_step old (told_in None) (A.Collect text dry) ≡ line_step_of
+    (event_step old (collect at dry workers))
 is_collection old text at dry workers read allowed = rw (read, allowed) refl
 
 -- a removal with a collection at a moment
-pub is_removal : (old : State) (removal : Removal) (text : List ℕ) (at : ℤ) (workers : ℕ) → instant_of text ≡ Some at → is_worker_count workers ≡ true → asked_step old (A.Remove removal text) ≡ event_step old (remove_collect removal at workers)
+pub is_removal : (old : State) (removal : Removal) (text : List ℕ) (at : ℤ) (workers : ℕ)
+    → instant_of text ≡ Some at → is_worker_count workers ≡ true
+    → asked_step old (told_in None) (A.Remove removal text) ≡ line_step_of
+    (event_step old (remove_collect removal at workers))
 is_removal old removal text at workers read allowed = rw (read, allowed) refl
 
 -- a moment that can't be read is no event
 pub no_collection : (old : State) (text : List ℕ) (dry : Bool) → instant_of text ≡ None → IsRefused old (A.Collect text dry) InvalidArgument old
-no_collection old text dry e = inr (inr (rw e refl))
+no_collection old text dry e = inr (inr (tt, told_in None, rw e refl))
 
 pub no_removal : (old : State) (removal : Removal) (text : List ℕ) → instant_of text ≡ None → IsRefused old (A.Remove removal text) InvalidArgument old
-no_removal old removal text e = inr (inr (rw e refl))
+no_removal old removal text e = inr (inr (tt, told_in None, rw e refl))

@@ -6,65 +6,113 @@ use Rattle.meta_types.specs.Rows.{State}
 use Rattle.meta_types.specs.Ops.{Outcome, least_fault}
 use Rattle.meta_types.specs.Requests.{outcome}
 use Rattle.meta_types.specs.Steps.{Answer, answered, refused, Event, requested, collect, remove_collect, collect_fault, remove_collect_fault}
+use Rattle.meta_types.specs.Questions.{Telling, LineAnswer, of_event}
 use Rattle.meta_types.specs.declared.fault.Fault.{Fault}
 use Rattle.meta_types.specs.declared.fault.Fault.TheVariants.{InvalidArgument, BadLine, TooLong, OutOfMemory, NoWorker}
 use Rattle.meta_types.specs.declared.reply.Reply.TheVariants as R
 use Rattle.request_core.proofs.EachRequest.{quiet}
 use Rattle.request_line.specs.Lines.{asked_in}
 use Rattle.request_line.specs.declared.asked.Asked.{Asked}
+use Rattle.request_line.specs.declared.asked.Asked.TheVariants as A
 use Rattle.reply_line.specs.Fixed.{is_done}
-use Rattle.reply_line.specs.Replies.{answer_text}
 use Rattle.scripts.specs.EventSteps.{plans, collects, event_step}
-use Rattle.scripts.specs.LineSteps.{Refusal, out_of_memory, no_worker, event_for, asked_step, line_answer, answer_step, short_request, asks_collection, line_step, with_line_feed}
+use Rattle.scripts.specs.LineSteps.{Refusal, out_of_memory, no_worker, tells, told_in, event_for, line_step_of, asked_step, line_answer, answer_step, short_request, asks_collection, line_step, with_line_feed, IsLineAnswer, IsTrueAt}
 use Rattle.scripts.specs.Telling.{only_tells, IsSaid}
-use Rattle.scripts.proofs.LineAnswers.{line_step-answer}
+use Rattle.scripts.proofs.LineAnswers.{line_step-answer, true_at, true_at_memory}
 
 -- where the answer only tells, the store is as before
-abbrev IsQuiet : State → Answer × State → Type 0
+abbrev IsQuiet : State → LineAnswer × State → Type 0
 IsQuiet state step = only_tells step.0 ≡ true → step.1 ≡ state
 
-either_way : {A : Type 0} (state : State) (f : A → Answer × State) (found : Option A) (other : Answer × State)
-    → ((x : A) → IsQuiet state (f x)) → IsQuiet state other → IsQuiet state (option_map_or f found other)
-either_way state f None other each none = none
-either_way state f (Some x) other each none = each x
+-- the same of an event
+abbrev IsQuietEvent : State → Answer × State → Type 0
+IsQuietEvent state step = IsQuiet state (line_step_of step)
 
-by_test : (state : State) (b : Bool) (one two : Answer × State) → IsQuiet state one → IsQuiet state two → IsQuiet state (if b then one else two)
-by_test state true one two p q = p
-by_test state false one two p q = q
+module _ {Step : Type 0} (P : Step → Type 0) where
+  either_way : {A : Type 0} (f : A → Step) (found : Option A) (other : Step) → ((x : A) → P (f x))
+      → P other → P (option_map_or f found other)
+  either_way f None other each none = none
+  either_way f (Some x) other each none = each x
+
+  by_test : (b : Bool) (one two : Step) → P one → P two → P (if b then one else two)
+  by_test true one two p q = p
+  by_test false one two p q = q
 
 request_quiet : (state : State) (o : Outcome) (fault : Option Fault) → ((o.reply ≡ R.Done) ⊎ (o.after ≡ state))
-    → IsQuiet state (option_map_or refused fault (answered o.reply), if is_some fault then state else o.after)
-request_quiet state o (Some fault) either tells = refl
-request_quiet state o None (inl done) tells = let wrong : false ≡ true = subst (λ r. not (is_done r) ≡ true) done tells in absurd cc
-request_quiet state o None (inr same) tells = same
+    → IsQuietEvent state
+    (option_map_or refused fault (answered o.reply), if is_some fault then state else o.after)
+request_quiet state o (Some fault) either only = refl
+request_quiet state o None (inl done) only = let wrong : false ≡ true =
+    subst (λ r. not (is_done r) ≡ true) done only in absurd cc
+request_quiet state o None (inr same) only = same
 
 -- a collection's report isn't dry
-dry_quiet : (state : State) (at : ℤ) (dry : Bool) → IsQuiet state (if dry then plans state at else collects state at)
-dry_quiet state at true tells = refl
-dry_quiet state at false tells = absurd cc
+dry_quiet : (state : State) (at : ℤ) (dry : Bool)
+    → IsQuietEvent state (if dry then plans state at else collects state at)
+dry_quiet state at true only = refl
+dry_quiet state at false only = absurd cc
 
-event_quiet : (state : State) (event : Event) → IsQuiet state (event_step state event)
+event_quiet : (state : State) (event : Event) → IsQuietEvent state (event_step state event)
 event_quiet state (requested request) = request_quiet state (outcome state request) (least_fault (outcome state request)) (quiet state request)
 event_quiet state (collect at dry workers) =
-    either_way state (λ fault. (refused fault, state)) (collect_fault state.records workers) (if dry then plans state at else collects state at) (λ fault tells. refl) (dry_quiet state at dry)
+    either_way (IsQuietEvent state) (λ fault. (refused fault, state))
+    (collect_fault state.records workers) (if dry then plans state at else collects state at)
+    (λ fault only. refl) (dry_quiet state at dry)
 event_quiet state (remove_collect removal at workers) =
-    either_way state (λ fault. (refused fault, state)) (remove_collect_fault state removal workers) _ (λ fault tells. refl) (λ tells. absurd cc)
+    either_way (IsQuietEvent state) (λ fault. (refused fault, state))
+    (remove_collect_fault state removal workers) _ (λ fault only. refl) (λ only. absurd cc)
 
-line_quiet : (state : State) (line : List ℕ) → IsQuiet state (line_answer state line)
-line_quiet state line =
-    by_test state (nat_lt 65536 (length line)) (refused TooLong, state) (option_map_or (asked_step state) (asked_in line) (refused BadLine, state)) (λ tells. refl)
-    (either_way state (asked_step state) (asked_in line) (refused BadLine, state) (λ asked. either_way state (event_step state) (event_for asked) (refused InvalidArgument, state) (event_quiet state) (λ tells. refl)) (λ tells. refl))
+-- an event, where the moment can be read
+at_moment_quiet : (state : State) (event : Option Event)
+    → IsQuietEvent state (option_map_or (event_step state) event (refused InvalidArgument, state))
+at_moment_quiet state event =
+    either_way (IsQuietEvent state) (event_step state) event (refused InvalidArgument, state)
+    (event_quiet state) (λ only. refl)
+
+asked_quiet : (state : State) (telling : Telling) (asked : Asked)
+    → IsQuiet state (asked_step state telling asked)
+asked_quiet state telling (A.Request request) = event_quiet state (requested request)
+asked_quiet state telling (A.Collect at dry) = at_moment_quiet state (event_for (A.Collect at dry))
+asked_quiet state telling (A.Remove removal at) =
+    at_moment_quiet state (event_for (A.Remove removal at))
+asked_quiet state telling (A.Explain ns kind name at) = λ only. refl
+
+line_quiet : (state : State) (telling : Telling) (line : List ℕ)
+    → IsQuiet state (line_answer state telling line)
+line_quiet state telling line =
+    by_test (IsQuiet state) (nat_lt 65536 (length line)) (of_event (refused TooLong), state)
+    (option_map_or (asked_step state telling) (asked_in line)
+    (of_event (refused BadLine), state)) (λ only. refl)
+    (either_way (IsQuiet state) (asked_step state telling) (asked_in line)
+    (of_event (refused BadLine), state) (asked_quiet state telling) (λ only. refl))
 
 step_quiet : (state : State) (refusal : Option Refusal) (line : List ℕ) → IsQuiet state (answer_step state refusal line)
-step_quiet state None line = line_quiet state line
-step_quiet state (Some out_of_memory) line = λ tells. refl
-step_quiet state (Some no_worker) line = by_test state (asks_collection (short_request line)) (refused NoWorker, state) (line_answer state line) (λ tells. refl) (line_quiet state line)
+step_quiet state None line = line_quiet state (told_in None) line
+step_quiet state (Some (tells telling)) line = line_quiet state telling line
+step_quiet state (Some out_of_memory) line = λ only. refl
+step_quiet state (Some no_worker) line =
+    by_test (IsQuiet state) (asks_collection (short_request line))
+    (of_event (refused NoWorker), state) (line_answer state (told_in None) line) (λ only. refl)
+    (line_quiet state (told_in None) line)
 
 -- what is said for the answer to a line is a reply to it
-pub line_step-said : (state : State) (refusal : Option Refusal) (line : List ℕ) (answer : Answer) (new : State) (bytes : List ℕ) → (length line == 0) ≡ false → answer_step state refusal line ≡ (answer, new) → IsSaid answer bytes
+pub line_step-said : (state : State) (line : List ℕ) (answer : LineAnswer) (new : State)
+    (bytes : List ℕ) → (length line == 0) ≡ false → IsLineAnswer state line answer new
+    → IsSaid answer bytes
     → (refusal : Option Refusal) × (line_step state refusal line ≡ (with_line_feed bytes, new))
-line_step-said state refusal line answer new bytes full is (inl text) =
-    (refusal, line_step-answer state refusal line answer new full is ∙ (λ i. (with_line_feed (sym text i), new)))
-line_step-said state refusal line answer new bytes full is (inr told) =
-    let same : state ≡ new = sym (sym (ap (λ step. step.1) is) ∙ step_quiet state refusal line (ap (λ step. only_tells step.0) is ∙ told.0)) in
-    (Some out_of_memory, line_step-answer state (Some out_of_memory) line (refused OutOfMemory) state full refl ∙ (λ i. (with_line_feed (sym told.1 i), same i)))
+    × IsTrueAt state refusal line
+line_step-said state line answer new bytes full is (inl text) = (
+  is.0,
+  line_step-answer state is.0 line answer new full is.1
+      ∙ (λ i. (with_line_feed (sym text i), new)),
+  true_at state is.0 line answer new is.1 is.2,
+)
+line_step-said state line answer new bytes full is (inr told) =
+    let same : state ≡ new =
+    sym (sym (ap (λ step. step.1) is.1)
+    ∙ step_quiet state is.0 line (ap (λ step. only_tells step.0) is.1 ∙ told.0)) in (
+      Some out_of_memory,
+      line_step-answer state (Some out_of_memory) line (of_event (refused OutOfMemory)) state full
+          refl ∙ (λ i. (with_line_feed (sym told.1 i), same i)),
+      true_at_memory state line,
+    )

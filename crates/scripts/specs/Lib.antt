@@ -2,8 +2,10 @@ pub mod Lines
 pub mod EventSteps
 pub mod EventLaws
 pub mod LineSteps
+pub mod LineAnswers
 pub mod Telling
 pub mod Served
 pub mod Output
 pub mod WholeScripts
+pub mod OneOutput
 pub mod Progress

@@ -1,13 +1,14 @@
 -- What is written for a script, and how a run may end. Ours, unless a source stands beside.
 use Rattle.std.specs.Prelude.{◌≡◌, ℕ, List, [], ◌∷◌, ◌++◌, drop, Option, None, ◌⊎◌}
 use Rattle.meta_types.specs.Rows.{State, empty_store}
-use Rattle.scripts.specs.LineSteps.{Refusal, line_step}
+use Rattle.scripts.specs.LineSteps.{Refusal, line_step, IsTrueAt}
 use Rattle.scripts.specs.Lines.{lines_of, whole_lines}
 use Rattle.std.specs.Io.KnownBytes.{Appends, Consumes}
 use Rattle.meta_types.specs.declared.fault.Fault.{Fault}
 use Rattle.meta_types.specs.declared.fault.Fault.TheVariants.{InvalidArgument, OutOfMemory, ReadFailed, WriteFailed}
 
--- The refusals of a run, one place a line: what the line was refused with, though the store would answer it. A list that is too short names no further line.
+-- The refusals of a run, one place a line: what the line was refused with, though the store would
+-- answer it, or the answer to its question. A list that is too short names no further line.
 abbrev pub Refusals : Type 0
 Refusals = List (Option Refusal)
 
@@ -26,9 +27,18 @@ output_from state refusals (line ∷ lines) =
 abbrev pub output_of : Refusals → List ℕ → List ℕ
 output_of refusals script = output_from empty_store refusals (lines_of script)
 
--- the bytes are the output for the script, under some refusals
+-- from a store on, all answers to questions are right
+abbrev pub AreTrue : State → Refusals → List (List ℕ) → Type 0
+AreTrue state refusals [] = Unit {0}
+AreTrue state refusals (line ∷ lines) =
+    IsTrueAt state (first_refusal refusals) line
+    × AreTrue (line_step state (first_refusal refusals) line).1 (drop 1 refusals) lines
+
+-- the bytes are the output for the script, under some refusals, and all answers to its questions
+-- are right
 abbrev pub IsOutput : List ℕ → List ℕ → Type 0
 IsOutput script bytes = (refusals : Refusals) × (bytes ≡ output_of refusals script)
+    × AreTrue empty_store refusals (lines_of script)
 
 -- the bytes are the output for the whole lines of the script, under some refusals
 abbrev pub IsWholeOutput : List ℕ → List ℕ → Type 0
@@ -36,7 +46,8 @@ IsWholeOutput script bytes = IsOutput (whole_lines script) bytes
 
 -- the bytes begin the output for the script, under some refusals
 abbrev pub IsBeginning : List ℕ → List ℕ → Type 0
-IsBeginning script bytes = (refusals : Refusals) × (rest : List ℕ) × (bytes ++ rest ≡ output_of refusals script)
+IsBeginning script bytes = (refusals : Refusals) × (rest : List ℕ)
+    × (bytes ++ rest ≡ output_of refusals script) × AreTrue empty_store refusals (lines_of script)
 
 -- ---- runs
 

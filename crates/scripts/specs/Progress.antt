@@ -2,13 +2,13 @@
 use Rattle.std.specs.Prelude.{◌≡◌, ◌<◌, ℕ, List, ◌++◌, length, false, MatchBool, Option}
 use Rattle.std.specs.List.{list_any}
 use Rattle.std.specs.Io.KnownBytes.{Appends, Consumes, IsAtEnd}
-use Rattle.scripts.specs.LineSteps.{Refusal, line_step}
-use Rattle.meta_types.specs.Rows.{State}
+use Rattle.scripts.specs.LineSteps.{Refusal, line_step, IsTrueAt}
+use Rattle.meta_types.specs.Rows.{State, empty_store}
 use Rattle.scripts.specs.declared.line_buffer.LineBuffer.{LineBuffer}
 use Rattle.scripts.specs.declared.script.Run.{Run}
 use Rattle.scripts.specs.declared.script.Run.TheVariants.{GoesOn, HasEnded}
 use Rattle.scripts.specs.Lines.{is_line_feed, lines_of, whole_lines}
-use Rattle.scripts.specs.Output.{Refusals, output_from, output_of, IsOutput, IsBeginning, Exchanges}
+use Rattle.scripts.specs.Output.{Refusals, output_from, output_of, AreTrue, IsOutput, IsBeginning, Exchanges}
 
 -- the buffer holds the line, or knows that it is too long
 abbrev pub IsLine : LineBuffer → List ℕ → Type 0
@@ -23,6 +23,8 @@ pub record Progress (taken written : List ℕ) (state : State) (buffer : LineBuf
   pub is_whole : whole_lines whole ≡ whole
   pub no_feed : list_any is_line_feed line ≡ false
   pub is_line : IsLine buffer line
+  pub true_on : (more : Refusals) (tail : List ℕ) → AreTrue state more (lines_of tail)
+      → AreTrue empty_store (refusals ++ more) (lines_of (whole ++ tail))
   pub goes_on : (more : Refusals) (tail : List ℕ) → output_of (refusals ++ more) (whole ++ tail) ≡ written ++ output_from state more (lines_of tail)
 
 -- The bytes were taken in, and what they ask for was written.
@@ -41,7 +43,8 @@ WritesFront held_old held rest bytes = (front : List ℕ) × (front ++ rest ≡ 
 
 -- The reply to a line, as bytes.
 abbrev pub Answers : State → List ℕ → List ℕ → State → Type 0
-Answers old line bytes new = (refusal : Option Refusal) × (line_step old refusal line ≡ (bytes, new))
+Answers old line bytes new = (refusal : Option Refusal)
+    × (line_step old refusal line ≡ (bytes, new)) × IsTrueAt old refusal line
 
 -- The reply to a line was written.
 abbrev pub Replies : State → List ℕ → State → Option (List ℕ) → Option (List ℕ) → Type 0

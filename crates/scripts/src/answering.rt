@@ -5,14 +5,17 @@ ghost use Rattle.meta_types.specs.Faults.{Refuses};
 ghost use Rattle.meta_types.specs.Limits.{is_worker_count};
 ghost use Rattle.meta_types.specs.Steps.{refused};
 ghost use Rattle.meta_types.specs.declared.fault.Fault.TheVariants.{TooLong as too_long_fault};
-ghost use Rattle.reply_line.specs.Answers.{answer_of};
+ghost use Rattle.meta_types.specs.Questions.{of_event};
 ghost use Rattle.reply_line.specs.Replies.{answer_text};
-ghost use Rattle.scripts.specs.LineSteps.{Refusal, answer_step, line_step, reply_bytes};
+ghost use Rattle.reply_line.specs.Explained.{line_answer_text, told_of, told_text};
+ghost use Rattle.scripts.specs.LineAnswers.{line_answer_of};
+ghost use Rattle.scripts.specs.LineSteps.{Refusal, line_step, reply_bytes, IsLineAnswer, IsTrueAt};
 ghost use Rattle.scripts.specs.Telling.{only_tells, IsSaid};
 
+use crate::line_answer::LineAnswer;
 use crate::serving::do_asked;
-use meta_types::{Fault, Reply};
-use reply_line::{Answer, lent_text, refusal_text};
+use meta_types::{Explanation, Fault, Reply};
+use reply_line::{Answer, explanation_text, lent_text, refusal_text};
 use request_line::read_line;
 use std::alloc::Global;
 use std::borrow::CowStr;
@@ -30,16 +33,14 @@ fn do_line<L: Ledger, K: Keeps, R: Threads + Wait + Sync>(
     session: &mut Session<L>,
     line: &[u8],
     workers: usize,
-) -> Result<Answer, Fault>
+) -> Result<LineAnswer, Fault>
     requires opened { session.old.number < locked.old.opened }
     requires length { length line.now ≤ 65536 }
     requires workers { is_worker_count workers ≡ true }
-    ensures ok { IfOk result (λ answer. (refusal : Option Refusal)
-        × (answer_step locked.old.store.state refusal line.now
-        ≡ (answer_of answer, locked.new.store.state))) }
-    ensures err { IfErr result (λ fault. (refusal : Option Refusal)
-        × (answer_step locked.old.store.state refusal line.now
-        ≡ (refused fault, locked.new.store.state))) }
+    ensures ok { IfOk result (λ answer. IsLineAnswer locked.old.store.state line.now
+        (line_answer_of answer) locked.new.store.state) }
+    ensures err { IfErr result (λ fault. IsLineAnswer locked.old.store.state line.now
+        (of_event (refused fault)) locked.new.store.state) }
     ensures opened { session.new.number < locked.new.opened }
 {
     let asked = read_line(alloc, line)?;
@@ -54,39 +55,58 @@ fn line_outcome<L: Ledger, K: Keeps, R: Threads + Wait + Sync>(
     session: &mut Session<L>,
     line: &[u8],
     workers: usize,
-) -> Answer
+) -> LineAnswer
     requires opened { session.old.number < locked.old.opened }
     requires length { length line.now ≤ 65536 }
     requires workers { is_worker_count workers ≡ true }
-    ensures answer { (refusal : Option Refusal)
-        × (answer_step locked.old.store.state refusal line.now
-        ≡ (answer_of result, locked.new.store.state)) }
+    ensures answer { IsLineAnswer locked.old.store.state line.now
+        (line_answer_of result) locked.new.store.state }
     ensures opened { session.new.number < locked.new.opened }
 {
     match do_line(locked, rt, alloc, session, line, workers) {
         Ok(answer) => answer,
-        Err(fault) => Answer::Refused(fault),
+        Err(fault) => LineAnswer::Event(Answer::Refused(fault)),
     }
 }
 
 // Whether an answer only tells, so that the store is as before.
-fn only_tells(answer: &Answer) -> bool
-    ensures { result ≡ only_tells (answer_of answer.now) }
+fn only_tells(answer: &LineAnswer) -> bool
+    ensures { result ≡ only_tells (line_answer_of answer.now) }
 {
     match answer {
-        Answer::Replied(Reply::Done) => false,
-        Answer::Replied(_) => true,
-        Answer::Reported(report) => report.dry,
-        Answer::Refused(_) => false,
+        LineAnswer::Event(Answer::Replied(Reply::Done)) => false,
+        LineAnswer::Event(Answer::Replied(_)) => true,
+        LineAnswer::Event(Answer::Reported(report)) => report.dry,
+        LineAnswer::Event(Answer::Refused(_)) => false,
+        LineAnswer::Explained(_) => true,
+    }
+}
+
+fn told_text(alloc: Global, explanation: &Explanation) -> Result<CowStr<'static, Global>, Fault>
+    ensures fault { Refuses result None }
+    ensures ok { IfOk result (λ text. cow_str_bytes text ≡ told_text (told_of explanation.now)) }
+{
+    let text = explanation_text(alloc, explanation)?;
+    Ok(CowStr::Owned(text))
+}
+
+fn text_of(alloc: Global, answer: &LineAnswer) -> Result<CowStr<'static, Global>, Fault>
+    ensures fault { Refuses result None }
+    ensures ok { IfOk result (λ text. cow_str_bytes text
+        ≡ line_answer_text (line_answer_of answer.now)) }
+{
+    match answer {
+        LineAnswer::Event(answer) => lent_text(alloc, answer),
+        LineAnswer::Explained(explanation) => told_text(alloc, explanation),
     }
 }
 
 // The text of an answer. Where it can't be made for one that only tells, memory refuses the line.
-fn said(alloc: Global, answer: &Answer) -> Result<CowStr<'static, Global>, Fault>
+fn said(alloc: Global, answer: &LineAnswer) -> Result<CowStr<'static, Global>, Fault>
     ensures fault { Refuses result None }
-    ensures ok { IfOk result (λ text. IsSaid (answer_of answer.now) (cow_str_bytes text)) }
+    ensures ok { IfOk result (λ text. IsSaid (line_answer_of answer.now) (cow_str_bytes text)) }
 {
-    if let Ok(text) = lent_text(alloc, answer) {
+    if let Ok(text) = text_of(alloc, answer) {
         return Ok(text);
     }
     if only_tells(answer) {
@@ -111,7 +131,8 @@ pub fn answer_line<L: Ledger, K: Keeps, R: Threads + Wait + Sync>(
     ensures fault { Refuses result None }
     ensures ok { IfOk result (λ reply. (refusal : Option Refusal)
         × (line_step locked.old.store.state refusal line.now
-        ≡ (reply_bytes reply, locked.new.store.state))) }
+        ≡ (reply_bytes reply, locked.new.store.state))
+        × IsTrueAt locked.old.store.state refusal line.now) }
     ensures err { OnErr result ((refusal : Option Refusal)
         × (locked.new.store.state ≡ (line_step locked.old.store.state refusal line.now).1)) }
     ensures opened { session.new.number < locked.new.opened }

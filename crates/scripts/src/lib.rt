@@ -3,6 +3,7 @@
 
 mod answering;
 pub mod laws;
+mod line_answer;
 mod line_buffer;
 mod lines;
 mod script;

@@ -3,7 +3,7 @@ ghost use Rattle.std.specs.Prelude.{◌≡◌, ◌≤◌, length, true, IfOk, On
 ghost use Rattle.meta_types.specs.Faults.{Refuses};
 ghost use Rattle.meta_types.specs.Limits.{is_worker_count};
 ghost use Rattle.meta_types.specs.Rows.{empty_store};
-ghost use Rattle.scripts.specs.LineSteps.{Refusal, line_step, reply_bytes};
+ghost use Rattle.scripts.specs.LineSteps.{Refusal, line_step, reply_bytes, IsTrueAt};
 
 use crate::answering::answer_line;
 use meta_types::Fault;
@@ -68,7 +68,8 @@ impl<L: Ledger> ScriptStore<L> {
         requires { length line.now ≤ 65536 }
         ensures fault { Refuses result None }
         ensures ok { IfOk result (λ reply. (refusal : Option Refusal)
-            × (line_step self.old refusal line.now ≡ (reply_bytes reply, self.new))) }
+            × (line_step self.old refusal line.now ≡ (reply_bytes reply, self.new))
+            × IsTrueAt self.old refusal line.now) }
         ensures err { OnErr result ((refusal : Option Refusal)
             × (self.new ≡ (line_step self.old refusal line.now).1)) }
     {

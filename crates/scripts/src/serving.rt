@@ -1,15 +1,18 @@
-//! Does what a line asks for: a request, a collection, or a removal with one.
+//! Does what a line asks for: a request, a collection, a removal with one, or a question.
 ghost use Rattle.std.specs.Prelude.{◌≡◌, ◌<◌, IfOk, IfErr, true};
 ghost use Rattle.meta_types.specs.Limits.{is_worker_count};
 ghost use Rattle.meta_types.specs.Steps.{answered, reported};
-ghost use Rattle.reply_line.specs.Answers.{answer_of};
+ghost use Rattle.meta_types.specs.Questions.{explained, of_event, of_question};
+ghost use Rattle.reply_line.specs.Explained.{told_of};
 ghost use Rattle.request_line.specs.declared.asked.Asked.TheVariants as A;
+ghost use Rattle.scripts.specs.LineAnswers.{line_answer_of};
 ghost use Rattle.scripts.specs.Served.{IsServed, IsRefused};
 
+use crate::line_answer::LineAnswer;
 use backend_sweep::OpenSweepGate;
 use gc_labels::read_instant;
 use gc_report::Report;
-use meta_types::{Fault, RawText, Removal, Reply, Request};
+use meta_types::{Explanation, Fault, Object, RawText, Removal, Reply, Request, ShortName};
 use reply_line::Answer;
 use request_line::Asked;
 use std::alloc::Global;
@@ -28,7 +31,7 @@ fn do_request<L: Ledger, K: Keeps>(
 ) -> Result<Reply, Fault>
     requires { session.old.number < locked.old.opened }
     ensures ok { IfOk result (λ reply. IsServed locked.old.store.state (A.Request request)
-        (answered reply) locked.new.store.state) }
+        (of_event (answered reply)) locked.new.store.state) }
     ensures err { IfErr result (λ fault. IsRefused locked.old.store.state (A.Request request)
         fault locked.new.store.state) }
     ensures opened { session.new.number < locked.new.opened }
@@ -52,7 +55,7 @@ fn collect<L: Ledger, K: Keeps, R: Threads + Wait + Sync>(
     requires opened { session.old.number < locked.old.opened }
     requires workers { is_worker_count workers ≡ true }
     ensures ok { IfOk result (λ report. IsServed locked.old.store.state (A.Collect at.now dry)
-        (reported report) locked.new.store.state) }
+        (of_event (reported report)) locked.new.store.state) }
     ensures err { IfErr result (λ fault. IsRefused locked.old.store.state (A.Collect at.now dry)
         fault locked.new.store.state) }
     ensures opened { session.new.number < locked.new.opened }
@@ -88,7 +91,7 @@ fn remove<L: Ledger, K: Keeps, R: Threads + Wait + Sync>(
     requires opened { session.old.number < locked.old.opened }
     requires workers { is_worker_count workers ≡ true }
     ensures ok { IfOk result (λ report. IsServed locked.old.store.state
-        (A.Remove removal at.now) (reported report) locked.new.store.state) }
+        (A.Remove removal at.now) (of_event (reported report)) locked.new.store.state) }
     ensures err { IfErr result (λ fault. IsRefused locked.old.store.state
         (A.Remove removal at.now) fault locked.new.store.state) }
     ensures opened { session.new.number < locked.new.opened }
@@ -111,6 +114,30 @@ fn remove<L: Ledger, K: Keeps, R: Threads + Wait + Sync>(
     report
 }
 
+// Tells what keeps a row at a moment, where the texts are allowed.
+fn explain<L: Ledger, K: Keeps, R: Threads + Wait + Sync>(
+    locked: &MemLocked<L, K>,
+    rt: &R,
+    alloc: Global,
+    ns: &RawText,
+    kind: &RawText,
+    resource: &RawText,
+    at: &RawText,
+) -> Result<Explanation, Fault>
+    ensures ok { IfOk result (λ e. IsServed locked.now.store.state
+        (A.Explain ns.now kind.now resource.now at.now)
+        (of_question (explained (told_of e))) locked.now.store.state) }
+    ensures err { IfErr result (λ fault. IsRefused locked.now.store.state
+        (A.Explain ns.now kind.now resource.now at.now) fault locked.now.store.state) }
+{
+    let Some(at) = read_instant(at.text()) else {
+        return Err(Fault::InvalidArgument);
+    };
+    let ns = ShortName::read(alloc, ns.text())?;
+    let object = Object::read(alloc, kind.text(), resource.text())?;
+    locked.explain(rt, alloc, &ns, &object, at)
+}
+
 /// Does what a line asks for, with this number of workers where it is a collection.
 pub fn do_asked<L: Ledger, K: Keeps, R: Threads + Wait + Sync>(
     locked: &mut MemLocked<L, K>,
@@ -119,11 +146,11 @@ pub fn do_asked<L: Ledger, K: Keeps, R: Threads + Wait + Sync>(
     session: &mut Session<L>,
     asked: Asked,
     workers: usize,
-) -> Result<Answer, Fault>
+) -> Result<LineAnswer, Fault>
     requires opened { session.old.number < locked.old.opened }
     requires workers { is_worker_count workers ≡ true }
     ensures ok { IfOk result (λ answer. IsServed locked.old.store.state asked
-        (answer_of answer) locked.new.store.state) }
+        (line_answer_of answer) locked.new.store.state) }
     ensures err { IfErr result (λ fault. IsRefused locked.old.store.state asked fault
         locked.new.store.state) }
     ensures opened { session.new.number < locked.new.opened }
@@ -131,15 +158,24 @@ pub fn do_asked<L: Ledger, K: Keeps, R: Threads + Wait + Sync>(
     match asked {
         Asked::Request(asked) => {
             let reply = do_request(locked, alloc, session, asked)?;
-            Ok(Answer::Replied(reply))
+            Ok(LineAnswer::Event(Answer::Replied(reply)))
         }
         Asked::Collect { at, dry } => {
             let report = collect(locked, rt, alloc, session, &at, dry, workers)?;
-            Ok(Answer::Reported(report))
+            Ok(LineAnswer::Event(Answer::Reported(report)))
         }
         Asked::Remove { removal, at } => {
             let report = remove(locked, rt, alloc, session, removal, &at, workers)?;
-            Ok(Answer::Reported(report))
+            Ok(LineAnswer::Event(Answer::Reported(report)))
+        }
+        Asked::Explain {
+            ns,
+            kind,
+            resource,
+            at,
+        } => {
+            let told = explain(locked, rt, alloc, &ns, &kind, &resource, &at)?;
+            Ok(LineAnswer::Explained(told))
         }
     }
 }

@@ -5,3 +5,4 @@ pub mod KeptAnswers
 pub mod Parts
 pub mod Finish
 pub mod Cursors
+pub mod Questions

@@ -10,6 +10,7 @@ mod locked;
 mod session;
 mod store;
 
+pub use calls::explain::Explained;
 pub use calls::plan_copy::Planned;
 pub use event::entry::{Entry, Told};
 pub use event::event::{Answer, Event};

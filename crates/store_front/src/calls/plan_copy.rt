@@ -32,8 +32,8 @@ pub struct Planned {
 // The history so far, and the store that it leads to.
 #[derive(Drop)]
 pub(crate) struct Copied {
-    cut: History,
-    now: Base,
+    pub(crate) cut: History,
+    pub(crate) now: Base,
 }
 
 impl<L: Ledger, S: SnapBackend, B: BlobBackend, I: IngestBackend> Locked<L, S, B, I> {

@@ -1,12 +1,19 @@
 use Rattle.std.proofs.Common.{◌∙◌, None, ap, sym}
 use Rattle.scripts.proofs.Writers.{holds_on_err}
-use Rattle.scripts.proofs.LineAnswers.{line_step-empty, line_step-answer}
+use Rattle.scripts.proofs.LineAnswers.{line_step-empty, line_step-answer, true_at_empty}
 use Rattle.scripts.proofs.Unchanged.{line_step-said}
 use Rattle.scripts.proofs.answering.answer_line.Goals as goal
 
 -- an empty line
 pub returns-then-is_empty-clause-ok : goal.returns-then-is_empty-clause-ok
-returns-then-is_empty-clause-ok g c = (None, line_step-empty c.args.locked.now.store.state None c.args.line.now (sym c.if-is_empty.ensures))
+returns-then-is_empty-clause-ok g c =
+    let state = c.args.locked.now.store.state in
+    let empty = sym c.if-is_empty.ensures in (
+      None,
+      line_step-empty state None c.args.line.now empty,
+      true_at_empty state None
+          c.args.line.now empty,
+    )
 
 -- the text of the answer was refused
 pub returns-in_err-text-clause-err : goal.returns-in_err-text-clause-err
@@ -18,4 +25,5 @@ returns-in_err-text-clause-err g c =
 pub returns-clause-ok : goal.returns-clause-ok
 returns-clause-ok g c =
     let answer = c.line_outcome-answer.ensures.answer in
-    line_step-said c.args.locked.now.store.state answer.0 c.args.line.now _ _ _ (sym c.if-is_empty.ensures) answer.1 c.in_ok-text.ensures.ok
+    line_step-said c.args.locked.now.store.state c.args.line.now _ _ _ (sym c.if-is_empty.ensures)
+    answer c.in_ok-text.ensures.ok

@@ -1,14 +1,20 @@
-use Rattle.std.proofs.Common.{None, refl}
+use Rattle.std.proofs.Common.{[], Some, refl}
 use Rattle.std.specs.Cow.{cow_str_bytes}
 use Rattle.std.proofs.lemmas.Result.{on_err_weaker}
-use Rattle.scripts.specs.LineSteps.{line_step, with_line_feed}
-use Rattle.scripts.proofs.Writers.{WritesFront-none, holds_on_err}
+use Rattle.scripts.specs.LineSteps.{out_of_memory, line_step, with_line_feed}
+use Rattle.scripts.proofs.LineAnswers.{true_at_memory}
+use Rattle.scripts.proofs.Writers.{Appends-none, WritesFront-none, holds_on_err}
 use Rattle.scripts.proofs.script.write_reply.Goals as goal
 
 pub returns-in_err-buffered_reply-clause-err : goal.returns-in_err-buffered_reply-clause-err
 returns-in_err-buffered_reply-clause-err g c = holds_on_err c.from_residual.result (λ line is_line.
-    let step = line_step c.args.store.now None line in
-    (step.0, step.0, step.1, (None, refl), WritesFront-none _ step.0))
+    let step = line_step c.args.store.now (Some out_of_memory) line in (
+      step.0,
+      step.0,
+      step.1,
+      (Some out_of_memory, refl, true_at_memory c.args.store.now line),
+      WritesFront-none _ step.0,
+    ))
 
 pub returns-in-Some-clause-err : goal.returns-in-Some-clause-err
 returns-in-Some-clause-err g c = on_err_weaker c.write_line.result
@@ -16,3 +22,9 @@ returns-in-Some-clause-err g c = on_err_weaker c.write_line.result
     let known = rw c.in-Some.is at (c.in_ok-buffered_reply.ensures.ok line is_line) in
     (with_line_feed (cow_str_bytes c.in-Some.text), w.0, _, known, w.1))
     (rw c.as_str.ensures.value at c.write_line.ensures.err)
+
+-- an empty line has no reply
+pub returns-in-None-clause-ok : goal.returns-in-None-clause-ok
+returns-in-None-clause-ok g c = λ line is_line.
+    let known = rw c.in-None.is at (c.in_ok-buffered_reply.ensures.ok line is_line) in
+    ([], known, Appends-none _)

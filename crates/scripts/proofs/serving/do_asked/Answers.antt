@@ -1,6 +1,8 @@
 use Rattle.std.proofs.Common.{sym, subst}
 use Rattle.meta_types.specs.Steps.{reported}
+use Rattle.meta_types.specs.Questions.{explained, of_event, of_question}
 use Rattle.request_line.specs.declared.asked.Asked.{Asked}
+use Rattle.reply_line.specs.Explained.{told_of}
 use Rattle.scripts.specs.Served.{IsServed, IsRefused}
 use Rattle.scripts.proofs.LineAnswers.{passed_on}
 use Rattle.scripts.proofs.serving.do_asked.Goals as goal
@@ -16,4 +18,25 @@ returns-in_err-report-in-Remove-clause-err g c =
 -- the removal is done
 pub returns-in_ok-report-in-Remove-clause-ok : goal.returns-in_ok-report-in-Remove-clause-ok
 returns-in_ok-report-in-Remove-clause-ok g c =
-    subst (λ (asked : Asked). IsServed c.args.locked.now.store.state asked (reported c.in_ok-report-in-Remove.report) c.remove.new.locked.store.state) (sym c.in-Remove.is) c.in_ok-report-in-Remove.ensures.ok
+    subst (λ (asked : Asked). IsServed c.args.locked.now.store.state asked
+    (of_event (reported c.in_ok-report-in-Remove.report)) c.remove.new.locked.store.state)
+    (sym c.in-Remove.is)
+    c.in_ok-report-in-Remove.ensures.ok
+
+-- the question is refused
+pub returns-in_err-told-in-Explain-clause-err : goal.returns-in_err-told-in-Explain-clause-err
+returns-in_err-told-in-Explain-clause-err g c =
+    let state = c.args.locked.now.store.state in
+    passed_on c.from_residual-in_err-told-in-Explain.result _
+    (λ fault. IsRefused state c.args.asked.now fault state)
+    c.from_residual-in_err-told-in-Explain.ensures.1
+    (subst (λ (asked : Asked). IsRefused state asked c.in_err-told-in-Explain.field-0.0 state)
+    (sym c.in-Explain.is) c.in_err-told-in-Explain.ensures.err)
+
+-- the row is explained
+pub returns-in_ok-told-in-Explain-clause-ok : goal.returns-in_ok-told-in-Explain-clause-ok
+returns-in_ok-told-in-Explain-clause-ok g c =
+    let state = c.args.locked.now.store.state in
+    subst (λ (asked : Asked). IsServed state asked
+    (of_question (explained (told_of c.in_ok-told-in-Explain.told))) state)
+    (sym c.in-Explain.is) c.in_ok-told-in-Explain.ensures.ok

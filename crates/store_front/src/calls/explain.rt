@@ -1,0 +1,71 @@
+//! Explanations: questions, which are no entries.
+ghost use Rattle.std.specs.Prelude.{◌≡◌, IfOk, IfErr};
+ghost use Rattle.meta_types.specs.Explanations.{is_asked, explain_fault, IsExplanation};
+ghost use Rattle.meta_types.specs.Faults.{Refuses};
+ghost use Rattle.meta_types.specs.Histories.{IsLegal};
+ghost use Rattle.meta_types.specs.Rows.{State as Kept};
+ghost use Rattle.store_front.specs.Parts.{IsPart};
+ghost use Rattle.store_front.specs.Questions.{ExplainFails};
+
+use crate::calls::plan_copy::Copied;
+use crate::history::base::History;
+use crate::keeps::Keeps;
+use crate::locked::Locked;
+use crate::session::Session;
+use crate::store::Store;
+use back_model::{BlobBackend, IngestBackend, SnapBackend};
+use meta_types::{Explanation, Fault, Instant, Object, ShortName};
+use std::alloc::Global;
+use std::sync::Wait;
+use std::sync::ledger::Ledger;
+use std::thread::Threads;
+
+/// What keeps a row, and the history of the store that it was asked of.
+#[derive(Drop)]
+pub struct Explained {
+    pub explanation: Explanation,
+    pub cut: History,
+}
+
+impl<L: Ledger, S: SnapBackend, B: BlobBackend, I: IngestBackend, K: Keeps> Locked<L, S, B, I, K> {
+    /// What keeps a row at a moment, or kept it until its root ended. The store stays as it is.
+    pub fn explain<R: Threads + Sync>(
+        &self,
+        rt: &R,
+        alloc: Global,
+        ns: &ShortName,
+        object: &Object,
+        at: Instant,
+    ) -> Result<Explanation, Fault>
+        ensures fault { Refuses result
+            (explain_fault self.now.store.state.records ns.now object.now) }
+        ensures ok { IfOk result (λ e. IsExplanation self.now.store.state.records at.0
+            (is_asked ns.now object.now) e.kept e.path.items) }
+    {
+        explaining::explain(rt, alloc, self.state.records(), ns, object, at)
+    }
+}
+
+impl<L: Ledger, S: SnapBackend, B: BlobBackend, I: IngestBackend> Store<L, S, B, I> {
+    /// What keeps a row at a moment. Records and history are copied under one hold of the lock; the
+    /// question is answered after its release. It is no entry.
+    pub fn explain<R: Threads + Wait + Sync>(
+        &self,
+        rt: &R,
+        alloc: Global,
+        session: &Session<L>,
+        ns: &ShortName,
+        object: &Object,
+        at: Instant,
+    ) -> Result<Explained, Fault>
+        ensures own { IfOk result (λ e. IsPart e.cut.log session.now) }
+        ensures explained { IfOk result (λ e. (state : Kept) × IsLegal e.cut.base e.cut.log state
+            × IsExplanation state.records at.0 (is_asked ns.now object.now)
+            e.explanation.kept e.explanation.path.items) }
+        ensures fault { IfErr result (λ f. ExplainFails f ns.now object.now session.now) }
+    {
+        let Copied { cut, now } = self.inner.lock(rt).copies(alloc, session)?;
+        let explanation = explaining::explain(rt, alloc, &now.records, ns, object, at)?;
+        Ok(Explained { explanation, cut })
+    }
+}
