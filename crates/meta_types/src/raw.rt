@@ -1,13 +1,10 @@
 //! Texts of a request, as they came.
-ghost use Rattle.std.specs.Prelude.{◌≡◌, ◌&&◌, None, IfOk, string_bytes, bytes_eq};
+ghost use Rattle.std.specs.Prelude.{◌≡◌, ◌&&◌, string_bytes, bytes_eq};
 ghost use Rattle.std.specs.Cmp.Lexicographic.{pointwise};
 ghost use Rattle.std.specs.Cmp.{partial_equiv_from_equiv};
 ghost use Rattle.std.proofs.lemmas.Cmp.{nat_list_eq_equiv, on_equiv, and_equiv, lists_equiv};
 ghost use Rattle.meta_types.specs.Text.{texts_of};
-ghost use Rattle.meta_types.specs.Faults.{Refuses};
 
-use crate::fault::Fault;
-use std::alloc::{AllocError, Global};
 use std::marker::Model;
 
 /// A text that was not yet read as a name, a digest or a time.
@@ -34,15 +31,6 @@ impl PartialEq for RawText {
     }
 }
 
-impl Clone for RawText {
-    ghost is_clone = { λ a b. b ≡ a };
-
-    fn clone(&self) -> Result<RawText, AllocError> {
-        let text = self.text.clone()?;
-        Ok(RawText { text })
-    }
-}
-
 impl RawText {
     /// The text as it came.
     pub fn new(text: String) -> RawText
@@ -56,14 +44,6 @@ impl RawText {
         ensures { result.now ≡ self.now }
     {
         self.text.as_str()
-    }
-
-    /// A copy, with bytes of its own.
-    pub fn copy(&self) -> Result<RawText, Fault>
-        ensures fault { Refuses result None }
-        ensures ok { IfOk result (λ words. words ≡ self.now) }
-    {
-        Ok(RawText::clone(self)?)
     }
 }
 
@@ -93,29 +73,12 @@ impl PartialEq for RawLabels {
     }
 }
 
-impl Clone for RawLabels {
-    ghost is_clone = { λ a b. b ≡ a };
-
-    fn clone(&self) -> Result<RawLabels, AllocError> {
-        let entries = self.entries.clone()?;
-        Ok(RawLabels { entries })
-    }
-}
-
 impl RawLabels {
     /// The pairs as they came.
     pub fn new(entries: Vec<(String, String)>) -> RawLabels
         ensures { result ≡ texts_of entries.items }
     {
         RawLabels { entries }
-    }
-
-    /// Others of the same texts.
-    pub fn copy(&self, _alloc: Global) -> Result<RawLabels, Fault>
-        ensures fault { Refuses result None }
-        ensures ok { IfOk result (λ pairs. pairs ≡ self.now) }
-    {
-        Ok(RawLabels::clone(self)?)
     }
 
     /// The keys and values as they came.

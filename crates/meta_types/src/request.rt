@@ -201,7 +201,7 @@ pub enum Request {
 }
 
 /// A removal that is done with a collection, as one event.
-#[derive(PartialEq, Clone, Drop)]
+#[derive(PartialEq, Drop)]
 pub enum Removal {
     Image { ns: RawText, name: RawText },
     Lease { ns: RawText, id: RawText },
