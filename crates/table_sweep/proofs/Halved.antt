@@ -16,7 +16,7 @@ use Rattle.std.proofs.lemmas.Map.Text.{is_eq-slice_cmp}
 use Rattle.meta_types.specs.Text.{Text, text_cmp}
 use Rattle.table_sweep.specs.Depths.{Listed}
 use Rattle.table_sweep.specs.SnapshotPlaces.{has_name, name_of, name_cmp, stands_before, AreListed}
-use Rattle.table_sweep.proofs.KeyOrder.{then_total}
+use Rattle.meta_types.proofs.OrderThen.{then_total}
 use Rattle.table_sweep.proofs.FirstPlace.{first_at, none_first}
 
 -- what a list is asked is answered

@@ -11,7 +11,6 @@ pub mod Halved
 pub mod Steps
 pub mod Deep
 pub mod SortedObjects
-pub mod NumberOrder
 pub mod SortedRows
 pub mod NamesOrder
 pub mod CameRecords

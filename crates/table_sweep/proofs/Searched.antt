@@ -13,9 +13,9 @@ use Rattle.std.proofs.lemmas.Cmp.{on_total}
 use Rattle.std.proofs.lemmas.Map.Text.{is_eq-slice_cmp}
 use Rattle.meta_types.specs.Text.{Text, text_cmp}
 use Rattle.meta_types.specs.declared.rows.SnapRow.{SnapRow}
+use Rattle.meta_types.proofs.OrderThen.{then_total}
 use Rattle.table_sweep.specs.Depths.{Listed}
 use Rattle.table_sweep.specs.Owned.{object_of, object_cmp, name_of}
-use Rattle.table_sweep.proofs.KeyOrder.{then_total}
 
 module _ {X : Type 0} (ord : X → Ordering) where
   abbrev hits : X → Bool
