@@ -10,7 +10,6 @@ mod rows;
 mod same;
 mod writing;
 
-pub use copies::copy_names;
 pub use impact::{Impact, ImpactRows};
 pub use objects::Objects;
 pub use report::Report;
