@@ -94,6 +94,7 @@ fn collect_came<
     let plan = plan_held(rt, alloc, came, backends, at, workers, gate)?;
     let log = Spare::of(alloc, &plan)?;
     let list = Spare::of(alloc, &plan)?;
+    sweep_gate.before_sweep(alloc, &plan.report)?;
     let swept = sweep_shards(rt, alloc, backends, &plan, workers, sweep_gate)?;
     sweep(&mut came.tables, &mut came.leases, &plan.masks);
     Ok(reports_of(alloc, plan, swept, log, list))

@@ -116,7 +116,8 @@ fn said(alloc: Global, answer: &LineAnswer) -> Result<CowStr<'static, Global>, F
 }
 
 /// Answers one line, without its line feed: nothing for an empty one. Where the text of a
-/// collection's report can't be made, what the line asked for is done all the same.
+/// collection's report can't be made, its rows are gone all the same; the gate of its sweep sees
+/// to it that there was room.
 pub fn answer_line<L: Ledger, K: Keeps, R: Threads + Wait + Sync>(
     locked: &mut MemLocked<L, K>,
     rt: &R,

@@ -9,6 +9,7 @@ mod lines;
 mod script;
 mod script_store;
 mod serving;
+mod text_gate;
 mod writing;
 
 pub use answering::answer_line;

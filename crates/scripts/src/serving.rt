@@ -9,7 +9,7 @@ ghost use Rattle.scripts.specs.LineAnswers.{line_answer_of};
 ghost use Rattle.scripts.specs.Served.{IsServed, IsRefused};
 
 use crate::line_answer::LineAnswer;
-use backend_sweep::OpenSweepGate;
+use crate::text_gate::TextGate;
 use gc_labels::read_instant;
 use gc_report::Report;
 use meta_types::{Explanation, Fault, Object, RawText, Removal, Reply, Request, ShortName};
@@ -64,16 +64,7 @@ fn collect<L: Ledger, K: Keeps, R: Threads + Wait + Sync>(
         return Err(Fault::InvalidArgument);
     };
     locked.never_failed();
-    let report = locked.collect(
-        rt,
-        alloc,
-        session,
-        at,
-        dry,
-        workers,
-        &OpenGate,
-        &OpenSweepGate,
-    );
+    let report = locked.collect(rt, alloc, session, at, dry, workers, &OpenGate, &TextGate);
     locked.never_failed();
     report
 }
@@ -101,14 +92,7 @@ fn remove<L: Ledger, K: Keeps, R: Threads + Wait + Sync>(
     };
     locked.never_failed();
     let report = locked.remove_collect(
-        rt,
-        alloc,
-        session,
-        removal,
-        at,
-        workers,
-        &OpenGate,
-        &OpenSweepGate,
+        rt, alloc, session, removal, at, workers, &OpenGate, &TextGate,
     );
     locked.never_failed();
     report
