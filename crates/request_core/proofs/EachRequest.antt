@@ -1,4 +1,5 @@
--- Each request answers Done or leaves the state, and keeps a state sound. None of it speaks of code.
+-- Each request answers Done or leaves the state, and keeps a state
+-- sound. None of it speaks of code.
 use Rattle.std.proofs.Common.{◌≡◌, refl, None, sym, subst, ◌⊎◌, inl, inr}
 use Rattle.meta_types.specs.Rows.{State}
 use Rattle.meta_types.specs.Ops.{Outcome, least_fault}
@@ -14,7 +15,8 @@ use Rattle.request_core.proofs.CommitsSound.{after_snap_commit}
 use Rattle.request_core.proofs.SnapshotsSound.{after_snap_remove, after_snap_label}
 use Rattle.request_core.proofs.PreparesSound.{after_snap_prepare, after_snap_view}
 
--- it answers Done, or leaves the state; and where no fault applies, the state that it leaves is sound
+-- it answers Done, or leaves the state; and where no fault applies, the
+-- state that it leaves is sound
 record Keeps (state : State) (o : Outcome) : Type 0 where
   pub quiet : (o.reply ≡ Done) ⊎ (o.after ≡ state)
   pub sound : IsSound state → least_fault o ≡ None → IsSound o.after

@@ -26,7 +26,8 @@ store_of tables leases next profile snapshots blobs ingests failures = record {
   failures = failures;
 }
 
--- a fault is the least that applies; OutOfMemory may come at any time, a device's failure only where no fault applies
+-- a fault is the least that applies; OutOfMemory may come at any time, a device's failure only
+-- where no fault applies
 abbrev pub Fails : Fault → Option Fault → Type 0
 Fails InvalidArgument least = least ≡ Some InvalidArgument
 Fails NotFound least = least ≡ Some NotFound

@@ -1,4 +1,5 @@
--- What requests and histories keep. Each statement is the contract of a function of the module `laws`. Ours, unless a source stands beside.
+-- What requests and histories keep. Each statement is the contract of a function of the module
+-- `laws`. Ours, unless a source stands beside.
 use Rattle.std.specs.Prelude.{List}
 use Rattle.meta_types.specs.Rows.{State}
 use Rattle.meta_types.specs.Backends.{BackNames}

@@ -38,7 +38,8 @@ MakesOrFails (Err ReadFailed) before after = ⊥
 MakesOrFails (Err WriteFailed) before after = ⊥
 MakesOrFails (Err (Mismatch place)) before after = ⊥
 
--- an object that is held already is refused; else it is made, or memory ran out, or the device failed once
+-- an object that is held already is refused; else it is made, or memory ran
+-- out, or the device failed once
 abbrev pub MakesWhereFree : Bool → Result (Unit {0}) Fault → ℕ → ℕ → Type 0
 MakesWhereFree there (Ok _) before after = (there ≡ false) × (after ≡ before)
 MakesWhereFree there (Err AlreadyExists) before after = (there ≡ true) × (after ≡ before)
@@ -54,11 +55,13 @@ MakesWhereFree there (Err ReadFailed) before after = ⊥
 MakesWhereFree there (Err WriteFailed) before after = ⊥
 MakesWhereFree there (Err (Mismatch place)) before after = ⊥
 
--- what refuses a commit of a snapshot whose texts are allowed (containerd snapshots service, Commit)
+-- what refuses a commit of a snapshot whose texts are allowed
+-- (containerd snapshots service, Commit)
 abbrev pub commit_fault : State → Text → Text → Text → Text → Option Text → Option Fault
 commit_fault state ns snapshotter key name lease = found_fault (in_store state ns lease (commit_findings ns snapshotter key name state.records.tables.snapshots))
 
--- what refuses a new snapshot whose texts are allowed (containerd snapshots service, Prepare and View)
+-- what refuses a new snapshot whose texts are allowed (containerd
+-- snapshots service, Prepare and View)
 abbrev pub prepare_fault : State → SnapRow → Option Text → Option Fault
 prepare_fault state new lease = found_fault (prepare_findings state new.key.ns new.key.snapshotter new.key.name new.parent lease)
 

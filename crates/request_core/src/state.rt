@@ -48,7 +48,7 @@ impl Records {
         }
     }
 
-    /// The same records once more, which share their texts.
+    /// A copy, which shares the texts of the rows.
     pub fn copy(&self, alloc: Global) -> Result<Records, Fault>
         ensures fault { Refuses result None }
         ensures ok { IfOk result (λ records. records ≡ self.now) }

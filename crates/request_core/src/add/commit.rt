@@ -1,4 +1,4 @@
-//! A commit of a snapshot that happens whole or not at all.
+//! A commit of a snapshot, which happens whole or not at all.
 ghost use Rattle.std.specs.Prelude.{◌≡◌, true, None, OnOk, OnErr, IfOk, Err};
 ghost use Rattle.meta_types.specs.Ops.Snapshots.{committed};
 ghost use Rattle.meta_types.specs.Changes.{hold_under};

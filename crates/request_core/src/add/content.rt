@@ -129,8 +129,8 @@ fn content_row(ns: &ShortName, digest: &Digest, labels: Labels) -> Result<Conten
     Ok(ContentRow { ns, digest, labels })
 }
 
-// One look finds whether the row is there; where memory is wanting before it, the look tells which
-// fault comes first.
+// One look-up finds whether the row is there. Where memory runs out before it, the look-up tells
+// which fault comes first.
 fn add_row_of(
     tables: &mut Tables,
     alloc: Global,

@@ -1,4 +1,4 @@
-//! A beginning of an ingest that happens whole or not at all.
+//! The beginning of an ingest, which happens whole or not at all.
 ghost use Rattle.std.specs.Prelude.{◌≡◌, true, false, None, OnOk, OnErr, IfOk, Err};
 ghost use Rattle.meta_types.specs.Keys.{has_row, add_row};
 ghost use Rattle.meta_types.specs.Rows.{ingest_key};

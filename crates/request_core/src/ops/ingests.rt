@@ -28,7 +28,7 @@ use meta_types::{
 use std::alloc::Global;
 
 impl<S: SnapBackend, B: BlobBackend, I: IngestBackend> State<S, B, I> {
-    // The next number. It tells a proof that no ingest of the backend has it.
+    // The next number. It shows a proof that no ingest of the backend has it.
     fn free_number(&self) -> u64
         requires { IsSound self.now.state }
         ensures next { result ≡ self.now.state.records.next }
@@ -37,7 +37,7 @@ impl<S: SnapBackend, B: BlobBackend, I: IngestBackend> State<S, B, I> {
         self.records.next
     }
 
-    // Takes no memory.
+    // The least fault of a beginning; never OutOfMemory.
     fn check_begin(&self, ns: &ShortName, name: &Name, lease: &Option<Name>) -> Result<(), Fault>
         ensures fault { OnlyRefuses result (least_of false (lacks self.now.state ns.now lease.now)
             (has_row ingest_key (ns.now ∷ name.now ∷ []) self.now.state.records.tables.ingests)
@@ -129,7 +129,7 @@ impl<S: SnapBackend, B: BlobBackend, I: IngestBackend> State<S, B, I> {
         Ok(Reply::Names(names))
     }
 
-    // Takes no memory.
+    // The least fault of a commit; never OutOfMemory.
     fn check_ingest_commit(
         &self,
         ns: &ShortName,

@@ -26,7 +26,7 @@ use meta_types::{
 use std::alloc::Global;
 
 impl<S: SnapBackend, B: BlobBackend, I: IngestBackend> State<S, B, I> {
-    // Takes no memory.
+    // The least fault of a commit; never OutOfMemory.
     fn check_commit(&self, key: &SnapKey, name: &Name, lease: &Option<Name>) -> Result<(), Fault>
         ensures fault { OnlyRefuses result (commit_fault self.now.state key.now.ns
             key.now.snapshotter key.now.name name.now lease.now) }
@@ -41,7 +41,7 @@ impl<S: SnapBackend, B: BlobBackend, I: IngestBackend> State<S, B, I> {
         self.records.tables.check_commit(key, name)
     }
 
-    // Takes no memory.
+    // The least fault of a new snapshot; never OutOfMemory.
     fn check_prepare(&self, row: &SnapRow, lease: &Option<Name>) -> Result<(), Fault>
         ensures fault { OnlyRefuses result (prepare_fault self.now.state row.now lease.now) }
         ensures lease { OnOk result
@@ -60,8 +60,8 @@ impl<S: SnapBackend, B: BlobBackend, I: IngestBackend> State<S, B, I> {
         Ok(())
     }
 
-    // The number of a new snapshot's parent. It tells a proof that the backend holds the parent, and
-    // not the next number.
+    // The number of a new snapshot's parent. It shows a proof that the backend holds the parent,
+    // and not the next number.
     fn number_above(&self, row: &SnapRow) -> Option<u64>
         requires { IsSound self.now.state }
         ensures above { result ≡ option_map (λ above. above.number)

@@ -17,7 +17,7 @@ pub(crate) fn listing_of(alloc: Global, names: &[Name]) -> Result<Listing, Fault
     Ok(listing)
 }
 
-/// The same resources once more.
+/// Copies of the resources, which share their texts.
 pub(crate) fn copies(alloc: Global, resources: &[&Resource]) -> Result<Vec<Resource>, Fault>
     ensures fault { Refuses result None }
     ensures ok { IfOk result (λ copies. copies.items ≡ map (λ resource. resource.now) resources.now) }
