@@ -1,4 +1,5 @@
--- The step of each event is the one that the definitions allow where no device fails. Ours, unless a source stands beside.
+-- The step of each event is the one that the definitions allow where no device fails. Ours, unless
+-- a source stands beside.
 use Rattle.std.specs.Prelude.{◌≡◌}
 use Rattle.meta_types.specs.Rows.{State}
 use Rattle.meta_types.specs.Backends.{no_objects}

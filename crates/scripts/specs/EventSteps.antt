@@ -1,4 +1,5 @@
--- What each event answers, and the store after it, where no device fails. Ours, unless a source stands beside.
+-- What each event answers, and the store after it, where no device fails. Ours,
+-- unless a source stands beside.
 use Rattle.std.specs.Prelude.{Bool, true, false, if◌then◌else◌, ℤ}
 use Rattle.std.specs.Option.{option_map_or}
 use Rattle.meta_types.specs.Rows.{State}
@@ -23,7 +24,8 @@ collects state at = (reported (collection_report state at false), collected_stat
 abbrev pub plans : State → ℤ → Answer × State
 plans state at = (reported (collection_report state at true), state)
 
--- what an event answers, and the store after it; a removal with a collection collects the store without the row
+-- what an event answers, and the store after it; a removal with a collection
+-- collects the store without the row
 abbrev pub event_step : State → Event → Answer × State
 event_step state (requested request) = (answer_to state request, after state request)
 event_step state (collect at dry workers) =

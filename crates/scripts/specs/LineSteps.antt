@@ -17,8 +17,8 @@ use Rattle.request_line.specs.declared.asked.Asked.TheVariants as A
 use Rattle.reply_line.specs.Explained.{line_answer_text}
 use Rattle.scripts.specs.EventSteps.{event_step}
 
--- What a run adds to a line of its own: a refusal of what the store would answer, since memory ran
--- out or a thread couldn't be started; or the answer to its question.
+-- What a run adds to a line of its own. It is a refusal of what the store would answer, since
+-- memory ran out or a thread couldn't be started; or it is the answer to the line's question.
 pub data Refusal : Type 0 where
   out_of_memory : Refusal
   no_worker : Refusal
@@ -51,7 +51,8 @@ abbrev pub event_line_step : State → Option Event → LineAnswer × State
 event_line_step state event =
     line_step_of (option_map_or (event_step state) event (refused InvalidArgument, state))
 
--- the answer to a request, and the store after it; a moment that can't be read is refused, and is no event
+-- the answer to a request, and the store after it; a moment that can't be read
+-- is refused, and is no event
 abbrev pub asked_step : State → Telling → Asked → LineAnswer × State
 asked_step state telling (A.Explain ns kind name at) =
     question_step state telling (question_fault state.records ns kind name at)
@@ -111,7 +112,8 @@ IsTrueAt state refusal (byte ∷ line) =
 abbrev pub with_line_feed : List ℕ → List ℕ
 with_line_feed text = text ++ 10 ∷ []
 
--- what is written for a line, with its line feed, and the store after it; an empty line asks for nothing
+-- what is written for a line, with its line feed, and the store after it; an
+-- empty line asks for nothing
 unfoldable pub line_step : State → Option Refusal → List ℕ → List ℕ × State
 line_step state refusal line =
     if length line == 0 then ([], state)

@@ -17,7 +17,8 @@ abbrev pub first_refusal : Refusals → Option Refusal
 first_refusal [] = None
 first_refusal (refusal ∷ later) = refusal
 
--- what is written for the lines, from a store on: a line is answered, and the next meets the store that it left
+-- what is written for the lines, from a store on: a line is answered, and the next
+-- meets the store that it left
 abbrev pub output_from : State → Refusals → List (List ℕ) → List ℕ
 output_from state refusals [] = []
 output_from state refusals (line ∷ lines) =

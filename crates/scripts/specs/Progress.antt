@@ -14,7 +14,8 @@ use Rattle.scripts.specs.Output.{Refusals, output_from, output_of, AreTrue, IsOu
 abbrev pub IsLine : LineBuffer → List ℕ → Type 0
 IsLine buffer line = MatchBool buffer.is_too_long (65536 < length line) (buffer.bytes.items ≡ line)
 
--- These bytes were taken in and these were written, the whole lines among them are answered, and the buffer has what follows.
+-- These bytes were taken in and these were written, the whole lines among them are answered, and
+-- the buffer has what follows.
 pub record Progress (taken written : List ℕ) (state : State) (buffer : LineBuffer) : Type 0 where
   pub whole : List ℕ
   pub line : List ℕ

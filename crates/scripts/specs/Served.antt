@@ -13,7 +13,8 @@ abbrev pub IsServed : State → Asked → LineAnswer → State → Type 0
 IsServed old asked answer new = IsTrueOf old (Some asked) answer × (telling : Telling)
     × (asked_step old telling asked ≡ (answer, new))
 
--- memory ran out, or a thread for a collection couldn't be started, and nothing changed; or this fault is the answer
+-- memory ran out, or a thread for a collection couldn't be started, and nothing changed; or this
+-- fault is the answer
 abbrev pub IsRefused : State → Asked → Fault → State → Type 0
 IsRefused old asked fault new =
     ((fault ≡ OutOfMemory) × (new ≡ old))

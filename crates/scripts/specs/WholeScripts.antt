@@ -1,4 +1,6 @@
--- What a whole script is answered, line by line, without a word of how: the promise of this repository. Its statement is the contract of a function of the module `laws`. Ours, unless a source stands beside.
+-- What a whole script is answered, line by line, without a word of how: the promise of this
+-- repository. Its statement is the contract of a function of the module `laws`. Ours, unless a
+-- source stands beside.
 use Rattle.std.specs.Prelude.{◌≡◌, ◌⊎◌, ℕ, ℤ, List, [], ◌∷◌, ◌++◌, drop, length, true, false, nat_lt, if◌then◌else◌, is_some, Option, Some, None, option_map}
 use Rattle.std.specs.Option.{option_map_or}
 use Rattle.meta_types.specs.Time.{instant_of}
@@ -29,7 +31,7 @@ asked_fault state (A.Collect at dry) = if is_some (instant_of at) then collect_f
 asked_fault state (A.Explain ns kind name at) = question_fault state.records ns kind name at
 asked_fault state (A.Remove removal at) = if is_some (instant_of at) then remove_collect_fault state removal 1 else Some InvalidArgument
 
--- why a line is refused, if it is: it is too long, no request, or the store refuses what it asks for
+-- why a line is refused, if it is: it is too long, no request, or the store refuses its request
 abbrev pub line_fault : State → List ℕ → Option Fault
 line_fault state line = if nat_lt 65536 (length line) then Some TooLong else option_map_or (asked_fault state) (asked_in line) (Some BadLine)
 
@@ -60,7 +62,8 @@ IsDone state (A.Explain ns kind name at) (of_question (explained told)) new =
     Tells state.records ns kind name at told × (new ≡ state)
 IsDone state asked answer new = ⊥
 
--- A refused line changes nothing, and is refused for its own fault, or since memory ran out or a thread couldn't be started. Else it has no fault, and its request is done.
+-- A refused line changes nothing, and is refused for its own fault, or since memory ran out or a
+-- thread couldn't be started. Else it has no fault, and its request is done.
 abbrev pub IsAnswered : State → Option Refusal → List ℕ → LineAnswer → State → Type 0
 IsAnswered state refusal line (of_event (refused fault)) new =
     (new ≡ state) × ((line_fault state line ≡ Some fault) ⊎ (want refusal ≡ Some fault))
@@ -75,7 +78,8 @@ AnswersLine state refusal (byte ∷ line) reply new = (answer : LineAnswer)
 
 -- ---- what a script is answered
 
--- from this store on the lines are answered with these bytes, one after the other, and each store on the way is sound
+-- from this store on the lines are answered with these bytes, one after the other, and each store
+-- on the way is sound
 abbrev pub AnswersLines : State → Refusals → List (List ℕ) → List ℕ → Type 0
 AnswersLines state refusals [] written = IsSound state × (written ≡ [])
 AnswersLines state refusals (line ∷ lines) written =
@@ -83,9 +87,9 @@ AnswersLines state refusals (line ∷ lines) written =
 
 -- ---- as promises
 
--- for every script and every list of refusals in which the answers to questions are right, what is
--- written answers its lines, and each collection in it keeps what is reached and removes the rest
--- (containerd garbage-collection.md)
+-- For every script and every list of refusals in which the answers to questions are right, what is
+-- written answers its lines. Each collection in it keeps what is reached and removes the rest
+-- (containerd garbage-collection.md).
 abbrev pub EachCollectionKeepsWhatIsReached : Type 0
 EachCollectionKeepsWhatIsReached = (refusals : Refusals) (script : List ℕ)
     → AreTrue empty_store refusals (lines_of script)

@@ -10,7 +10,7 @@ pub fn outputs_go_by_the_steps_of_the_definitions()
 {}
 
 /// Of every script: each store on the way is sound, and each line is refused and changes nothing,
-/// or is answered by the definitions; a collection keeps exactly what a path of references leads
+/// or is answered by the definitions. A collection keeps exactly what a path of references leads
 /// to, and names the rest in its report. What a run writes is such an output.
 pub fn each_collection_keeps_what_is_reached()
     ensures outputs { EachCollectionKeepsWhatIsReached }

@@ -245,9 +245,9 @@ fn run_named<L: Ledger, T: Threads + Wait + Sync, R: Read, W: Write>(
 }
 
 /// The headline: whatever the script, with 1 to 16 workers that steal and whatever their schedule,
-/// what is written is the output of what was read, in which a collection removes just what no path
-/// of references reaches. A line may also be refused with 7 or 8, for memory or for a thread; then it
-/// changes nothing. The store's memory isn't freed: it goes with the process.
+/// what is written is the output of what was read. In it a collection removes exactly what no path
+/// of references reaches. A line may also be refused with 7 or 8, for memory or for a thread; then
+/// it changes nothing. The store's memory isn't freed: it goes with the process.
 pub fn run_script<T: Threads + Wait + Sync, R: Read, W: Write>(
     rt: &T,
     alloc: Global,
