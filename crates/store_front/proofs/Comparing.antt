@@ -135,13 +135,13 @@ module _ (opened : ℕ) (log : List Entry) (seats : List Seat) (next : List ℕ)
 
 -- ---- the end
 
--- each list that has just so many is its part
+-- each list that ends at its `next` is its part
 pub all_ended : (log : List Entry) (seats : List Seat) (next : List ℕ) → AreUpTo log seats next
     → AreEnded seats next → All (IsPart log) seats
 all_ended log seats next up ended j d here =
     (up j d 0 here).0 ∙ ap (λ (n : ℕ). take n (slice_index_or seats j d).list) (ended j d 0 here) ∙ take_all (length (slice_index_or seats j d).list) (slice_index_or seats j d).list (omega arith)
 
--- a list that has more differs there
+-- a list that goes on differs there
 pub one_longer : (log : List Entry) (seats : List Seat) (next : List ℕ) (place : ℕ)
     → AreUpTo log seats next → IsShort seats next place → OneDiffers log seats place
 one_longer log seats next place up short =

@@ -1,4 +1,4 @@
--- What all sessions were told together, beside the log.
+-- The answers that all sessions got together, beside the log.
 use Rattle.std.proofs.Common.{◌≡◌, ℕ, suc, ◌+◌, ◌<◌, List, [], ◌∷◌, length, Bool, true, false, refl, sym, ap, ◌∙◌, arith}
 use Rattle.std.specs.Prelude.{◌==◌, cond, filter, map, All, if◌then◌else◌}
 use Rattle.std.proofs.lemmas.Bool.{eq-eqb}
@@ -70,7 +70,7 @@ told_parts log (s ∷ seats) all =
     let rest = told_parts log seats (λ i d l. all (suc i) d (omega (arith, l))) in
     omega (arith, here, rest)
 
--- together the sessions were told each answer of the log once
+-- together the sessions got each answer of the log once
 pub told_all : (opened : ℕ) (log : List Entry) (seats : List Seat) → AreEach opened seats
     → AreOpened opened log → All (IsPart log) seats → told_to seats ≡ length log
 told_all opened log seats each opens all = told_parts log seats all ∙ whole opened log seats each opens

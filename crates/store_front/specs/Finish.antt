@@ -8,7 +8,7 @@ use Rattle.meta_types.specs.Limits.{is_worker_count, is_too_large}
 use Rattle.store_front.specs.Told.{Told, Seat, Course}
 use Rattle.store_front.specs.Parts.{part, IsPart, DifferFirst, AreOpened}
 
--- memory was wanting, or the session's part of the log and its list differ first at the place that is named
+-- memory ran out, or the session's part of the log and its list differ first at the named place
 abbrev pub CutFails : Fault → List Told → List Told → Type 0
 CutFails OutOfMemory xs ys = ⊤
 CutFails (Mismatch place) xs ys = DifferFirst xs ys place
@@ -23,7 +23,9 @@ CutFails BackendFailed xs ys = ⊥
 CutFails ReadFailed xs ys = ⊥
 CutFails WriteFailed xs ys = ⊥
 
--- a plan beside the lock is refused for the workers; where the state that the history leads to has too many rows; where the session's part of the log and its list differ; or memory or a thread was wanting
+-- A plan beside the lock is refused for the workers, or for too many rows in the state that the
+-- history leads to. It is refused where the session's part of the log and its list differ, and
+-- where memory ran out or a thread couldn't be started.
 abbrev pub PlanFails : Fault → ℕ → Seat → Type 0
 PlanFails InvalidArgument workers session = is_worker_count workers ≡ false
 PlanFails FailedPrecondition workers session =
@@ -48,7 +50,8 @@ abbrev pub OneDiffers : List Entry → List Seat → ℕ → Type 0
 OneDiffers log seats place =
     (i : ℕ) × (d : Seat) × (i < length seats) × DifferFirst (part (slice_index_or seats i d).number log) (slice_index_or seats i d).list place
 
--- the numbers are wrong, or memory was wanting, or a list and its part differ; the last two only where the numbers are right
+-- the numbers are wrong, or memory ran out, or a list and its part differ; the last two only where
+-- the numbers are right
 abbrev pub FinishFails : Fault → ℕ → List Entry → List Seat → Type 0
 FinishFails InvalidArgument opened log seats = ¬ (AreEach opened seats)
 FinishFails OutOfMemory opened log seats = AreEach opened seats
@@ -71,24 +74,24 @@ IsHistory h = (state : State) × IsLegal h.base h.log state
 abbrev pub AreOfThese : List Entry → List Seat → Type 0
 AreOfThese log seats = (opened : ℕ) × AreEach opened seats × AreOpened opened log
 
--- the session with nothing told yet
+-- the session with no answer yet
 abbrev pub fresh : Seat → Seat
 fresh s = record { number = s.number; list = [] }
 
--- how many answers these sessions were told
+-- how many answers these sessions got
 abbrev pub told_to : List Seat → ℕ
 told_to [] = 0
 told_to (s ∷ seats) = length s.list + told_to seats
 
 -- ---- while lists are emptied
 
--- so many are emptied
+-- the first `i` sessions are emptied
 abbrev pub cleared : ℕ → List Seat → List Seat
 cleared zero seats = seats
 cleared (suc i) [] = []
 cleared (suc i) (s ∷ seats) = fresh s ∷ cleared i seats
 
--- how many answers so many were told
+-- how many answers the first `i` sessions got
 abbrev pub told_first : ℕ → List Seat → ℕ
 told_first zero seats = 0
 told_first (suc i) [] = 0

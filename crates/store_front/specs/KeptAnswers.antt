@@ -1,4 +1,5 @@
--- What is kept of an answer, what an event did, and what refuses it. Ours, unless a source stands beside.
+-- Which answers an entry keeps, what an event did, and what refuses it. Ours,
+-- unless a source stands beside.
 use Rattle.std.specs.Prelude.{◌≡◌, Bool, true, false, ℕ, List, [], ◌∷◌, ◌++◌, Option, Some, None, Result, Ok, Err}
 use Rattle.meta_types.specs.Rows.{State}
 use Rattle.meta_types.specs.Reports.{Report}
@@ -25,17 +26,17 @@ kept_fault ReadFailed = None
 kept_fault WriteFailed = None
 kept_fault (Mismatch place) = None
 
--- what is kept of a reply
+-- the answer that an entry of a request keeps, if there is one
 abbrev pub kept_reply : Result Reply Fault → Option Answer
 kept_reply (Ok reply) = Some (answered reply)
 kept_reply (Err fault) = kept_fault fault
 
--- what is kept of a report
+-- the answer that an entry of a collection keeps, if there is one
 abbrev pub kept_report : Result Report Fault → Option Answer
 kept_report (Ok report) = Some (reported report)
 kept_report (Err fault) = kept_fault fault
 
--- what a store keeps of an answer: nothing, where it keeps no history
+-- the answer that a store keeps: none, where it keeps no history
 abbrev pub kept_if : Bool → Option Answer → Option Answer
 kept_if true kept = kept
 kept_if false kept = None

@@ -1,4 +1,4 @@
--- What a session was told, and what the locked store is. Ours, unless a source stands beside.
+-- The answers that a session got, and a history of the store. Ours, unless a source stands beside.
 use Rattle.std.specs.Prelude.{ℕ, List}
 use Rattle.meta_types.specs.Rows.{State}
 use Rattle.meta_types.specs.Steps.{Answer, Event}
@@ -9,7 +9,7 @@ pub record Told : Type 0 where
   pub event : Event
   pub answer : Answer
 
--- a session: its number, and what it was told, in order
+-- a session: its number, and its events with their answers, in order
 pub record Seat : Type 0 where
   pub number : ℕ
   pub list : List Told

@@ -1,4 +1,4 @@
-//! What a cut asks of the sessions that it is given.
+//! What a cut requires of the sessions that it is given.
 
 pub(crate) mod numbers;
 pub(crate) mod parts;

@@ -1,4 +1,4 @@
-//! Events of a history, and what is kept of them.
+//! Events of a history, and the entries that keep them.
 
 pub(crate) mod both;
 pub(crate) mod entry;

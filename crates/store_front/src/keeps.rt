@@ -1,4 +1,4 @@
-//! Whether a store keeps its history.
+//! The two kinds of stores: one that keeps its history, and one that keeps none.
 ghost use Rattle.std.specs.Prelude.{Bool, true, false};
 
 /// Whether a store keeps its history.

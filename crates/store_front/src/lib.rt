@@ -1,4 +1,4 @@
-//! A store behind one lock: a history that replays, and sessions that keep what they were told.
+//! A store behind one lock, its sessions, and a history or none.
 #![tactic(auto)]
 
 mod calls;

@@ -1,4 +1,4 @@
-//! The value behind the lock.
+//! The value behind the lock, and how it is opened.
 ghost use Rattle.std.specs.Prelude.{◌≡◌, ◌+◌, [], None, IfOk, IfErr, OnOk, OnErr, max};
 ghost use Rattle.meta_types.specs.Faults.{Refuses};
 ghost use Rattle.meta_types.specs.Rows.{empty_store};
@@ -40,7 +40,7 @@ pub struct Locked<
     pub(crate) keeps: PhantomData<K>,
 }
 
-/// Such a one over models in memory.
+/// The locked value over models in memory.
 pub type MemLocked<L, K> = Locked<L, MemBackend, MemBlobs, MemIngests, K>;
 
 impl<L: Ledger, S: SnapBackend, B: BlobBackend, I: IngestBackend, K: Keeps> Model

@@ -1,11 +1,11 @@
-//! Sessions.
+//! Sessions: the clients of a store, each with the answers that it got.
 ghost use Rattle.std.specs.Prelude.{◌≡◌};
 
 use crate::event::entry::Told;
 use std::marker::Model;
 use std::sync::ledger::{Ledger, Share};
 
-/// A client of the store that `L` names: its number, and what it was told, in order.
+/// A client of the store that `L` names: its number, and the answers that it got, in order.
 #[derive(Drop)]
 pub struct Session<L: Ledger> {
     pub(crate) number: u32,
@@ -37,7 +37,7 @@ impl<L: Ledger> Session<L> {
         self.number
     }
 
-    /// What it was told, in order.
+    /// The events that it asked for and the answers that it got, in order.
     pub fn list(&self) -> &[Told]
         ensures { result.now ≡ self.now.list }
     {

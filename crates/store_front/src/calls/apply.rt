@@ -1,4 +1,4 @@
-//! Requests.
+//! Requests to the locked store, each with its entry.
 ghost use Rattle.std.specs.Prelude.{◌≡◌, ◌+◌, ◌<◌, IfErr};
 ghost use Rattle.meta_types.specs.Steps.{requested};
 ghost use Rattle.meta_types.specs.Ops.{least_fault};
@@ -18,7 +18,7 @@ use std::sync::ledger::Ledger;
 
 impl<L: Ledger, S: SnapBackend, B: BlobBackend, I: IngestBackend, K: Keeps> Locked<L, S, B, I, K> {
     /// Answers a request, which an entry keeps as it is. There is one, in the log and in the
-    /// session's list, unless memory was wanting, the device failed, or the store keeps none.
+    /// session's list, unless memory ran out, the device failed, or the store keeps none.
     pub fn apply(
         &mut self,
         alloc: Global,

@@ -1,4 +1,4 @@
-//! Collections.
+//! Collections of the locked store, and removals with one, each with its entry.
 ghost use Rattle.std.specs.Prelude.{◌≡◌, ◌+◌, ◌<◌, IfErr};
 ghost use Rattle.meta_types.specs.Steps.{collect, collect_fault, remove_collect, remove_collect_fault};
 ghost use Rattle.collection.specs.Refused.{CollectFails};
@@ -88,8 +88,9 @@ pub(crate) fn run_removal<
 }
 
 impl<L: Ledger, S: SnapBackend, B: BlobBackend, I: IngestBackend, K: Keeps> Locked<L, S, B, I, K> {
-    /// Collects with so many workers, or with `dry` only reports what would go. It is an entry
-    /// unless memory or a thread was wanting; from the first removal on nothing is refused.
+    /// Collects with this number of workers, or with `dry` only reports the removals. It is an
+    /// entry unless memory ran out or a thread couldn't be started. From the first removal on
+    /// nothing is refused.
     pub fn collect<R: Threads + Wait + Sync, G: Gate, H: SweepGate>(
         &mut self,
         rt: &R,

@@ -5,7 +5,7 @@ ghost use Rattle.store_front.specs.Finish.{AreEach};
 use crate::session::Session;
 use std::sync::ledger::Ledger;
 
-// Whether the numbers are those below `opened`, each once. It takes no memory.
+// Whether the numbers are those below `opened`, each once.
 pub(crate) fn are_each<L: Ledger>(opened: u32, sessions: &[Session<L>]) -> bool
     ensures { MatchBool result (AreEach opened sessions.now) (¬ (AreEach opened sessions.now)) }
 {

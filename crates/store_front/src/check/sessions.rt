@@ -86,7 +86,7 @@ fn place_of<L: Ledger>(sessions: &[Session<L>], number: u32) -> usize
     0
 }
 
-// The length of the first list that has more than so many.
+// The `next` of the first list that goes on there.
 fn first_longer<L: Ledger>(sessions: &[Session<L>], next: &[usize]) -> Option<usize>
     requires { length next.now ≡ length sessions.now }
     ensures { MatchOption result (AreEnded sessions.now next.now) (IsShort sessions.now next.now) }

@@ -12,7 +12,7 @@ pub enum Event {
     RemoveCollect(Shared<Removal>, Instant, usize),
 }
 
-/// What a store answers. That a request is done takes no memory.
+/// What a store answers. `Done` stands apart, since it takes no memory.
 #[derive(Drop)]
 pub enum Answer {
     Done,

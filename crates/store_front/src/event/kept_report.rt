@@ -33,7 +33,7 @@ impl KeptReport {
         Ok(KeptReport { one })
     }
 
-    // This report, in the room of another. It takes no memory.
+    // This report, in the room of another.
     pub(crate) fn filled(self, report: Report) -> KeptReport
         ensures { result ≡ report }
     {

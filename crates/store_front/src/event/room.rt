@@ -74,8 +74,8 @@ fn put<L: Ledger>(
     book.add(share, 1);
 }
 
-// The entry of a reply, where one is kept; if memory is wanting for it there is none, and the
-// reply is lost.
+// The entry of a reply, where one is kept. If memory runs out for it there is none, and the reply
+// is lost.
 pub(crate) fn keep_reply<L: Ledger>(
     alloc: Global,
     log: &mut Vec<Entry>,
@@ -107,7 +107,7 @@ pub(crate) fn keep_reply<L: Ledger>(
     }
 }
 
-// The entry of a report, or of a refusal that is kept. It takes no memory.
+// The entry of a report, or of a refusal that is kept, in the room that is there.
 pub(crate) fn keep_report<L: Ledger>(
     log: &mut Vec<Entry>,
     list: &mut Vec<Told>,

@@ -17,9 +17,9 @@ use std::mem;
 use std::sync::ledger::Ledger;
 
 impl<L: Ledger, S: SnapBackend, B: BlobBackend, I: IngestBackend> Locked<L, S, B, I> {
-    /// The whole history so far, as `finish` gives it, and a new one begun: the store stays, it is
-    /// the new base, the log is empty, and each session goes on with its number and an empty list.
-    /// No table is copied but for the base.
+    /// The whole history so far, as `finish` gives it, and a new one begun. The store stays, and is
+    /// the new base; the log is empty, and each session goes on with its number and an empty list.
+    /// Only the base takes copies of tables.
     pub fn begin_anew(
         &mut self,
         alloc: Global,

@@ -1,4 +1,4 @@
-//! Copies of histories.
+//! Copies of histories, of their entries, and of stores at rest.
 ghost use Rattle.std.specs.Prelude.{◌≡◌, None, IfOk};
 ghost use Rattle.meta_types.specs.Faults.{Refuses};
 ghost use Rattle.store_front.specs.Entries.{event_of, answer_of};
