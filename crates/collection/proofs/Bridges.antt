@@ -1,4 +1,5 @@
--- What is said of the rows that were read holds of the records that they were read from: namespaces and the next number lead no path anywhere.
+-- What is said of the rows that were read holds of the records that they were read from: namespaces
+-- and the next number lead no path anywhere.
 use Rattle.std.proofs.Common.{inl, ◌≡◌, ◌≢◌, ◌+◌, ℕ, Bool, true, false, not, List, [], ◌∷◌, length, refl, sym, ap, ◌∙◌, subst, arith, ℤ}
 use Rattle.std.specs.Prelude.{All, AllPairs, Contains, IsTrue, Option, None, Result, Ok, Err, OnErr, ◌*◌, nat_lt}
 use Rattle.std.specs.List.{IsDistinct, AllByRecursion}

@@ -50,7 +50,7 @@ pub sound_without : (state : State) (removal : Removal) → IsSound state
 sound_without state (R.Image ns name) s = after_image_remove state ns name s
 sound_without state (R.Lease ns id) s = after_lease_remove state ns id s
 
--- rows that go with a removal aren't counted
+-- an image or a lease isn't counted, so a removal leaves the count
 pub as_large : (records : Records) (named : Named)
     → is_too_large (without records named) ≡ is_too_large records
 as_large records (N.Image ns name) = refl

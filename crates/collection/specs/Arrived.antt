@@ -15,7 +15,8 @@ in_order came = record { tables = in_key_order came.tables; leases = sorted leas
 abbrev pub came_in : ArrivedRecords → Records
 came_in came = record { tables = came.tables; leases = came.leases; next = came.next; profile = came.profile }
 
--- rows that are lent: the namespaces and the next backend number lead no path anywhere, and are left out
+-- rows that are lent: the namespaces and the next backend number lead no
+-- path anywhere, and are left out
 abbrev pub lent_in : ArrivedRows → List LeaseRow → ℕ → Records
 lent_in rows leases profile = record {
   tables = record {

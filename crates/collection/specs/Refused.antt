@@ -3,7 +3,8 @@ use Rattle.std.specs.Prelude.{◌≡◌, Option, Some, None, Result, Ok, Err, �
 use Rattle.meta_types.specs.declared.fault.Fault.{Fault}
 use Rattle.meta_types.specs.declared.fault.Fault.TheVariants.{InvalidArgument, NotFound, AlreadyExists, FailedPrecondition, BadLine, TooLong, OutOfMemory, NoWorker, BackendFailed, ReadFailed, WriteFailed, Mismatch}
 
--- a collection is refused with the least fault that applies; memory may be wanting at any time, a thread only where no fault applies
+-- a collection is refused with the least fault that applies; memory may run out at any time, and a
+-- thread fail to start only where no fault applies
 abbrev pub CollectFails : Fault → Option Fault → Type 0
 CollectFails InvalidArgument least = least ≡ Some InvalidArgument
 CollectFails NotFound least = least ≡ Some NotFound

@@ -1,4 +1,5 @@
--- The report of a plan and of what was swept, and what the three come to. Ours, unless a source stands beside.
+-- The report of a plan and of what was swept, and what the three come to. Ours,
+-- unless a source stands beside.
 use Rattle.std.specs.Prelude.{◌≡◌, Bool, false, ℤ, length}
 use Rattle.meta_types.specs.Rows.{Records, BackLists, State}
 use Rattle.meta_types.specs.Reports.{Report, Collects, Plans}
@@ -27,11 +28,13 @@ IsPlanOfStore state at plan = IsPlanOf state.records (length state.records.table
 abbrev pub SweepsBackends : Plan → BackLists → AllSwept → BackLists → Type 0
 SweepsBackends plan old swept new = SweepsNames plan.report.backend old new swept
 
--- records that came so are swept of what the masks don't keep: what is left is seen in the order of keys
+-- records that came so are swept of what the masks don't keep: what is left
+-- is seen in the order of keys
 abbrev pub SweepsRecords : Plan → Records → Records → Type 0
 SweepsRecords plan came new = (at : ℤ) (reached : Thing → Bool) → AreMasks came at reached plan.masks → new ≡ collected_records at reached (records_in_key_order came)
 
--- a plan of records as they came, both sweeps by it and the report are a collection of them in the order of keys, with the failures of the sweep
+-- a plan of records as they came, both sweeps by it and the report are a collection of them in the
+-- order of keys, with the failures of the sweep
 abbrev pub ASweptPlanIsACollection : Type 0
 ASweptPlanIsACollection = (came : Records) (backends : BackLists) (at : ℤ) (plan : Plan) (swept : AllSwept) (records : Records) (back : BackLists) → IsPlanOfRows came (length came.tables.namespaces) backends at plan → SweepsRecords plan came records → SweepsBackends plan backends swept back
     → Collects (record { records = records_in_key_order came; backends = backends }) at swept.failed (reported plan.report swept) (record { records = records; backends = back })

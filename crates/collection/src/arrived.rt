@@ -30,8 +30,8 @@ pub(crate) struct ArrivedRecords {
 }
 
 impl ArrivedRecords {
-    /// The plan of a collection of these records, by the marks of so many workers. Its masks are of
-    /// these rows.
+    /// The plan of a collection of these records, by the marks of this number of workers. Its masks
+    /// are of these rows.
     pub(crate) fn plan<R: Threads + Wait + Sync, G: Gate>(
         &self,
         rt: &R,
@@ -78,7 +78,7 @@ pub(crate) fn take_out(alloc: Global, records: &mut Records) -> ArrivedRecords
     }
 }
 
-// Puts the rows back. It takes no memory.
+// Puts the rows back.
 pub(crate) fn put_back(records: &mut Records, came: ArrivedRecords)
     ensures { records.new ≡ in_order came }
 {

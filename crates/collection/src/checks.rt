@@ -1,4 +1,4 @@
-//! What refuses a collection.
+//! The checks that refuse a collection before anything is done.
 ghost use Rattle.std.specs.Prelude.{◌≡◌};
 ghost use Rattle.meta_types.specs.Faults.{OnlyRefuses};
 ghost use Rattle.meta_types.specs.Limits.{is_too_large};
@@ -8,7 +8,7 @@ ghost use Rattle.collection.specs.Stores.{records_in};
 use meta_types::{Fault, MAX_NODES, is_worker_count};
 use request_core::Records;
 
-// Whether the rows are too many. It takes no memory.
+// Whether the rows are too many.
 pub(crate) fn is_too_large(records: &Records) -> bool
     ensures { result ≡ is_too_large (records_in records.now) }
 {
@@ -20,7 +20,7 @@ pub(crate) fn is_too_large(records: &Records) -> bool
     most < 2 * (counts.content + counts.snapshots) + counts.ingests
 }
 
-/// The least fault of a collection, before anything is done. It takes no memory.
+/// The least fault of a collection, before anything is done; never OutOfMemory.
 pub fn check(records: &Records, workers: usize) -> Result<(), Fault>
     ensures { OnlyRefuses result (collect_fault (records_in records.now) workers) }
 {

@@ -1,4 +1,4 @@
-//! A whole collection.
+//! A collection of a store, from its check to its report.
 ghost use Rattle.std.specs.Prelude.{◌≡◌, ◌+◌, length, None, IfOk, OnErr, true, false};
 ghost use Rattle.meta_types.specs.Limits.{is_worker_count, is_too_large};
 ghost use Rattle.meta_types.specs.Reports.{Collects};
@@ -100,7 +100,7 @@ fn collect_came<
     Ok(reports_of(alloc, plan, swept, log, list))
 }
 
-/// Collects, and reports what went. From the first removal on nothing is refused.
+/// Collects, and reports the removals. From the first of them on nothing is refused.
 pub fn collect<
     R: Threads + Wait + Sync,
     S: SnapBackend,

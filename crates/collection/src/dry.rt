@@ -1,4 +1,4 @@
-//! Dry runs.
+//! Dry runs: the report that a collection would give, without a sweep.
 ghost use Rattle.std.specs.Prelude.{◌≡◌, IfOk};
 ghost use Rattle.meta_types.specs.Reports.{Plans};
 ghost use Rattle.meta_types.specs.Sound.{AreTables};

@@ -1,4 +1,4 @@
-//! A whole collection: the check, the plan by workers' marks, the sweeps, the report.
+//! One collection, whole: check, plan, sweeps and report.
 #![tactic(auto)]
 
 mod arrived;

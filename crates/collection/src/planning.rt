@@ -1,4 +1,4 @@
-//! The plan of a collection: graph, marks and what goes.
+//! The plan of a collection: the graph, its marks, and the removals.
 ghost use Rattle.std.specs.Prelude.{◌≡◌, length, None, false, true, IfOk};
 ghost use Rattle.meta_types.specs.Limits.{is_worker_count, is_too_large};
 ghost use Rattle.meta_types.specs.Sound.{AreTables};
@@ -98,7 +98,7 @@ pub(crate) fn plan_came<R: Threads + Wait + Sync, G: Gate>(
     Ok(plan)
 }
 
-/// The plan of a collection of these records and lists, by the marks of so many workers.
+/// The plan of a collection of these records and lists, by the marks of this number of workers.
 pub fn plan_store<R: Threads + Wait + Sync, G: Gate>(
     rt: &R,
     alloc: Global,

@@ -1,4 +1,4 @@
-//! A removal with a collection, as one.
+//! A removal of an image or a lease and a collection, as one event.
 ghost use Rattle.std.specs.Prelude.{◌≡◌, ◌+◌, ◌∷◌, [], not, false, true, IfOk, OnErr};
 ghost use Rattle.meta_types.specs.Faults.{OnlyRefuses, least_of};
 ghost use Rattle.meta_types.specs.Limits.{is_worker_count, is_too_large};
@@ -58,7 +58,7 @@ fn read_removal(alloc: Global, removal: &Removal) -> Result<Named, Fault>
     }
 }
 
-// Whether what is to be removed isn't there. It takes no memory.
+// Whether the row to be removed isn't there.
 fn is_missing(records: &Records, named: &Named) -> bool
     ensures { result ≡ is_missing (records_in records.now) named.now }
 {
@@ -68,7 +68,7 @@ fn is_missing(records: &Records, named: &Named) -> bool
     }
 }
 
-// The least fault of a removal with a collection, its texts being allowed. It takes no memory.
+// The least fault of a removal with a collection, its texts being allowed; never OutOfMemory.
 fn check_removal(records: &Records, named: &Named, workers: usize) -> Result<(), Fault>
     ensures { OnlyRefuses result (least_of (not (is_worker_count workers))
         (is_missing (records_in records.now) named.now) false
@@ -86,7 +86,7 @@ fn check_removal(records: &Records, named: &Named, workers: usize) -> Result<(),
     Ok(())
 }
 
-// Takes the row away. It takes no memory.
+// Takes the row away.
 fn remove(records: &mut Records, named: &Named)
     ensures { records_in records.new ≡ without (records_in records.old) named.now }
 {

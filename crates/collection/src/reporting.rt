@@ -5,8 +5,8 @@ ghost use Rattle.collection.specs.Whole.{reported};
 use backend_sweep::Swept;
 use gc_report::Report;
 
-// The report of a collection: that of its dry run, but for what was removed and what failed. It
-// takes no memory.
+// The report of a collection: that of its dry run, with the objects that were removed and those
+// that failed.
 pub(crate) fn report(planned: Report, swept: Swept) -> Report
     ensures { result ≡ reported planned swept }
 {

@@ -25,7 +25,7 @@ sweep_shards-requires-after_bounds g c κs within =
       plan_is = in_some_order came (records_in (in_order c.args.came.now)) n held c.args.at.0 c.in_ok-plan.plan refl p;
     }
 
--- the workers being allowed, a sweep is refused for memory alone
+-- the workers being allowed, a sweep is refused with OutOfMemory only
 pub returns-in_err-swept-clause-fault : goal.returns-in_err-swept-clause-fault
 returns-in_err-swept-clause-fault g c =
     swept_fails AllSwept c.args.workers c.from_residual-in_err-swept.result _ c.requires.workers c.from_residual-in_err-swept.ensures.1 c.in_err-swept.ensures.fault

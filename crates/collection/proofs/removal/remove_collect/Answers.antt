@@ -23,7 +23,7 @@ collect-requires-after_bounds g c κs within =
     subst IsSound (sym (left_is state.records (records_in c.remove.new.records) state.backends c.args.removal.now c.in_ok-named.named c.in_ok-named.ensures.1 left))
     (sound_without state c.args.removal.now c.requires)
 
--- a collection of what is left has no fault but memory and threads
+-- a collection of what is left is refused with OutOfMemory or NoWorker only
 pub returns-in_err-reports-clause-fault : goal.returns-in_err-reports-clause-fault
 returns-in_err-reports-clause-fault g c =
     let state : State = store_in c.args.records.now c.args.backends.now.shards (g.B.BlobBackend.contents c.args.backends.now.blobs) (g.I.IngestBackend.contents c.args.backends.now.ingests) in
