@@ -1,4 +1,5 @@
--- Of one shard just those are gone that were removed: what isn't owned stays where its removal failed, or that of a descendant.
+-- Of one shard just those are gone that were removed: what isn't owned stays where its removal
+-- failed, or that of a descendant.
 use Rattle.std.proofs.Common.{◌≡◌, ℕ, zero, suc, ◌<◌, List, [], ◌∷◌, ◌++◌, Bool, true, false, not, refl, sym, ◌∙◌, ap, subst, inl, inr, arith}
 use Rattle.std.specs.Prelude.{length, AllPairs, Option, Some, None, IsSome, IsTrue, bytes_eq, find, option_map, option_and_then, cond, Contains, ◌==◌, ◌&&◌, ◌||◌}
 use Rattle.std.specs.List.{list_any}

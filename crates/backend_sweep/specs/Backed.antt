@@ -6,7 +6,8 @@ use Rattle.meta_types.specs.Changes.{stands_before}
 use Rattle.meta_types.specs.Backends.{BackNames, no_objects, removed_objects, owns_snapshot}
 use Rattle.backend_sweep.specs.Shards.{IsAbove}
 
--- These names may be swept: some tables leave just them without an owner, and own the parent of each snapshot that they own. A parent's number is smaller, and all stand in order.
+-- These names may be swept: some tables leave just them without an owner, and own the parent of
+-- each snapshot that they own. A parent's number is smaller, and all stand in order.
 pub record MaySweep (back : BackLists) (names : BackNames) : Type 0 where
   pub tables : Tables
   pub are : names ≡ removed_objects tables no_objects back

@@ -5,7 +5,8 @@ use Rattle.meta_types.specs.Sound.{IsSound}
 use Rattle.table_sweep.specs.declared.planning.Plan.{Plan}
 pub use Rattle.table_sweep.specs.Plans.{IsPlanOf}
 
--- these are the backends of a sound store, and the plan is that of a collection of it at some moment
+-- these are the backends of a sound store, and the plan is that of a
+-- collection of it at some moment
 pub record IsPlanned (back : BackLists) (plan : Plan) : Type 0 where
   pub state : State
   pub sound : IsSound state

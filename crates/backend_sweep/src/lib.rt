@@ -1,4 +1,4 @@
-//! Removal of backend objects, shard by shard.
+//! Removal of backend objects, shard by shard, by several threads.
 #![tactic(auto)]
 
 mod backends;

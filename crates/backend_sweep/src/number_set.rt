@@ -1,4 +1,4 @@
-//! Numbers that are found by a look-up.
+//! A set of numbers with room for more, each found by a look-up.
 ghost use Rattle.std.specs.Prelude.{◌≡◌, ◌<◌, ◌-◌, [], None, IfOk};
 ghost use Rattle.meta_types.specs.Faults.{Refuses};
 ghost use Rattle.backend_sweep.specs.Shards.{has};
@@ -40,7 +40,7 @@ impl NumberSet {
         })
     }
 
-    /// No number, without room. It takes no memory.
+    /// No number, and no room.
     pub(crate) fn none(alloc: Global) -> NumberSet
         ensures { result ≡ record { numbers = []; room = 0 } }
     {

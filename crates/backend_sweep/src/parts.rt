@@ -1,4 +1,4 @@
-//! The names of one snapshotter, which stand together.
+//! The names of one snapshotter, cut out of the names of a report: they stand together.
 ghost use Rattle.std.specs.Prelude.{◌≡◌, ◌≤◌, true, false, length, filter, bytes_eq};
 ghost use Rattle.std.specs.List.{slice_range};
 ghost use Rattle.std.specs.List.Sorted.{IsPartitionPoint};

@@ -13,14 +13,14 @@ use meta_types::{Fault, ShortName};
 use std::alloc::Global;
 use std::thread::{self, Threads};
 
-/// A shard with its lane, to be lent to one thread.
+/// A shard with its plan, to be lent to one thread.
 #[derive(Drop)]
 pub(crate) struct ShardJob<S: SnapBackend> {
     entry: (ShortName, S),
     lane: ShardPlan,
 }
 
-/// Room for a number of jobs, and for their shards and lanes when these are put back.
+/// Room for a number of jobs, and for their shards and plans when these are put back.
 #[derive(Drop)]
 pub(crate) struct JobRoom<S: SnapBackend> {
     jobs: Vec<ShardJob<S>>,
@@ -46,7 +46,7 @@ impl<S: SnapBackend> JobRoom<S> {
     }
 }
 
-/// A lane a shard, and room for as many jobs.
+/// A plan for each shard, and room for as many jobs.
 pub(crate) fn lanes_and_room<S: SnapBackend>(
     alloc: Global,
     shards: &[(ShortName, S)],
@@ -68,7 +68,7 @@ pub(crate) fn lanes_and_room<S: SnapBackend>(
     Ok((lanes, room))
 }
 
-// Puts each shard beside its lane, in the room for it.
+// Puts each shard beside its plan, in the room for it.
 fn join_jobs<S: SnapBackend>(
     shards: Vec<(ShortName, S)>,
     lanes: Vec<ShardPlan>,
@@ -88,7 +88,7 @@ fn join_jobs<S: SnapBackend>(
     }
 }
 
-// Takes shards and lanes apart again, into the room for them.
+// Takes shards and plans apart again, into the room for them.
 fn part_jobs<S: SnapBackend>(
     jobs: Vec<ShardJob<S>>,
     shards: &mut Vec<(ShortName, S)>,
@@ -114,7 +114,7 @@ fn sweep_job<S: SnapBackend, H: SweepGate>(alloc: Global, job: &mut ShardJob<S>,
     sweep_lane(alloc, &mut job.entry.1, &mut job.lane, gate);
 }
 
-// Sweeps each shard by its lane, on up to `workers` threads. These alone take memory.
+// Sweeps each shard by its plan, on up to `workers` threads. These alone take memory.
 fn sweep_jobs<R: Threads + Sync, S: SnapBackend, H: SweepGate>(
     rt: &R,
     alloc: Global,
@@ -140,7 +140,7 @@ fn sweep_jobs<R: Threads + Sync, S: SnapBackend, H: SweepGate>(
     );
 }
 
-/// Sweeps each shard by its lane, on up to `workers` threads. These alone take memory.
+/// Sweeps each shard by its plan, on up to `workers` threads. These alone take memory.
 pub(crate) fn sweep_beside<R: Threads + Sync, S: SnapBackend, H: SweepGate>(
     rt: &R,
     alloc: Global,
