@@ -1,4 +1,4 @@
-//! Backends with fuses.
+//! Calls of backends whose devices have a fuse.
 
 use back_model::{
     Backends, BlobBackend, FuseBackend, FuseBlobs, FuseIngests, IngestBackend, SnapBackend,
