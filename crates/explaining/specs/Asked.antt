@@ -8,7 +8,8 @@ use Rattle.request_core.specs.declared.state.Records.{Records as Kept}
 abbrev pub records_in : Kept → Records
 records_in r = record { tables = r.tables; leases = r.leases; next = r.next; profile = r.profile }
 
--- rows that are lent: the namespaces and the next backend number lead no path anywhere, and are left out
+-- rows that are lent: the namespaces and the next backend number lead no
+-- path anywhere, and are left out
 abbrev pub lent_in : ArrivedRows → List LeaseRow → ℕ → Records
 lent_in rows leases profile = record {
   tables = record {

@@ -1,4 +1,5 @@
--- The graph of a store with its two kinds of starts, and shortest paths. Ours, unless a source stands beside.
+-- The graph of a store with its two kinds of starts, and shortest paths. Ours,
+-- unless a source stands beside.
 use Rattle.std.specs.Prelude.{◌≡◌, ◌≢◌, ◌≤◌, ℕ, List, length, filter, AllPairs, ℤ, Contains, IsTrue}
 use Rattle.std.specs.List.{flat_map}
 use Rattle.meta_types.specs.Rows.{Records}
@@ -10,7 +11,8 @@ use Rattle.gc_graph.specs.declared.node.Node.{Node}
 use Rattle.gc_graph.specs.Targets.{nodes_of, node_things, root_things}
 use Rattle.gc_graph.specs.Built.{targets_in, root_places, IsGraphOf}
 
--- the graph of a store, made for whatever moment, since no edge depends on it; at this one its starts are what is a root of its own, and what an image, a container or a lease holds
+-- The graph of a store, made for any moment, since no edge depends on one. At this moment its
+-- starts are the roots of their own, and what an image, a container or a lease holds.
 pub record IsSplitGraphOf (records : Records) (at : ℤ) (book : List Node) (graph : Graph) (own held : List ℕ) : Type 0 where
   pub built : ℤ
   pub numbered : book ≡ nodes_of records

@@ -35,7 +35,8 @@ holder_of records at held = holder_among records.profile at held None (root_thin
 abbrev pub number_before : Records → ℕ → ℕ → Bool
 number_before records a b = goes_before (thing_at records a) (thing_at records b)
 
--- of the numbers below the bound that lead to this one from a step nearer, the one whose thing goes first
+-- of the numbers below the bound that lead to this one from a step nearer,
+-- the one whose thing goes first
 abbrev pub first_leading : Records → Graph → List (Option ℕ) → ℕ → ℕ → Option ℕ
 first_leading records g depths t zero = None
 first_leading records g depths t (suc n) = chosen (number_before records) (leads g depths n t) n (first_leading records g depths t n)
@@ -49,6 +50,7 @@ chain before (suc steps) n = option_map_or (λ b. b ∷ chain before steps b) (g
 abbrev pub AreWithin : ℕ → List (Option ℕ) → Type 0
 AreWithin count list = (n : ℕ) → n < length list → IfSome (get_or list n None) (λ b. b < count)
 
--- the root before a thing that is one step from it: what holds it, else the first number that leads there
+-- the root before a thing that is one step from it: what holds it, else the
+-- first number that leads there
 abbrev pub root_before : Records → ℤ → List (Option ℕ) → ℕ → Option Thing
 root_before records at before n = or_else (holder_of records at (thing_at records n)) (option_map (thing_at records) (get_or before n None))

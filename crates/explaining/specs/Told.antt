@@ -15,7 +15,8 @@ AreLinked (last ∷ before ∷ path) = IsTrue (has_edge before last) × AreLinke
 abbrev pub root_word : Bool → By
 root_word ended = if ended then Ended else Root
 
--- by what the first of the things stands on the path: as the root, or by what the one behind it says
+-- by what the first of the things stands on the path: as the root, or by
+-- what the one behind it says
 abbrev pub IsBy : By → List Thing → By → Type 0
 IsBy word [] by = ⊥
 IsBy word (root ∷ []) by = by ≡ word

@@ -18,7 +18,7 @@ use row_tables::ArrivedByNamespace;
 use std::alloc::Global;
 use std::thread::Threads;
 
-// Whether a resource is there. It takes no memory.
+// Whether a resource is there.
 fn has_resource(records: &Records, ns: &ShortName, resource: &Resource) -> bool
     ensures { result ≡ list_any (is_asked ns.now (Held resource.now)) (things (records_in records.now)) }
 {
@@ -31,7 +31,7 @@ fn has_resource(records: &Records, ns: &ShortName, resource: &Resource) -> bool
     }
 }
 
-// Whether a row is there. It takes no memory.
+// Whether a row is there.
 fn has_row(records: &Records, ns: &ShortName, object: &Object) -> bool
     ensures { result ≡ list_any (is_asked ns.now object.now) (things (records_in records.now)) }
 {
@@ -43,7 +43,7 @@ fn has_row(records: &Records, ns: &ShortName, object: &Object) -> bool
     }
 }
 
-// Whether the rows are too many. It takes no memory.
+// Whether the rows are too many.
 fn is_too_large(records: &Records) -> bool
     ensures { result ≡ is_too_large (records_in records.now) }
 {

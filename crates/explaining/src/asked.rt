@@ -1,4 +1,4 @@
-//! What a question asks for.
+//! Whether a thing is of the row that a question asks for.
 ghost use Rattle.std.specs.Prelude.{◌≡◌, ◌&&◌, length, Some, is_some, bytes_eq, get_or, None};
 ghost use Rattle.std.specs.List.{list_any};
 ghost use Rattle.meta_types.specs.Paths.{things};

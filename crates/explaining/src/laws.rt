@@ -1,4 +1,4 @@
-//! What walks say of paths.
+//! Laws of explanations, each as the contract of a function that does nothing.
 ghost use Rattle.std.specs.Prelude.{◌≡◌, Bool, ℕ, List, ℤ, Contains, Some, true, int_le, is_some};
 ghost use Rattle.meta_types.specs.Rows.{Records};
 ghost use Rattle.meta_types.specs.Paths.{Thing, things, has_edge, IsPath};
@@ -12,7 +12,7 @@ ghost use Rattle.meta_types.specs.Explanations.{Explains};
 ghost use Rattle.meta_types.specs.Reasons.{reason_of};
 
 /// A nearest walk to a thing's number is a path of references to the thing, and no path has fewer
-/// things; and where no walk leads to the number, no path ends in the thing.
+/// things. Where no walk leads to the number, no path ends in the thing.
 pub fn walks_are_paths()
     ensures shortest { (records : Records) (at : ℤ) (book : List Node) (graph : Graph) (own held : List ℕ)
         → IsSplitGraphOf records at book graph own held

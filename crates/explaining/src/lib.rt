@@ -1,4 +1,4 @@
-//! Why a thing of a store is kept: a shortest path of references that leads to it.
+//! What keeps a row: of all shortest paths of references the first.
 #![tactic(auto)]
 
 mod answer;
