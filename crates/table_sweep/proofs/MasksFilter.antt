@@ -30,7 +30,7 @@ module _ {Row : Type 0} (stays : Row → Bool) where
       go true e = e
       go false e = ap (λ rest. row ∷ rest) e
 
-  -- what stays and what goes are all
+  -- the kept and the removed rows together are all
   pub kept_and_gone : (rows : List Row) → length (filter stays rows) + length (filter (λ row. not (stays row)) rows) ≡ length rows
   kept_and_gone [] = refl
   kept_and_gone (row ∷ rows) = go (stays row) (kept_and_gone rows)

@@ -122,7 +122,7 @@ as_before Greater = refl
 pub before_is : (a b : Text) → is_lt (text_cmp a b) ≡ is_before (one_text a) (one_text b)
 before_is a b = as_before (text_cmp a b)
 
--- what goes in order is what goes of all in order
+-- the removed blobs, sorted, are the removed ones of the sorted blobs
 pub gone_sorted : (owns : Text → Bool) (blobs : List Text) (marks : List Bool) → IsDistinct (same_key one_text) blobs → marks ≡ map owns blobs
     → sorted one_text (gone marks blobs) ≡ filter (λ digest. not (owns digest)) (sorted one_text blobs)
 gone_sorted owns blobs marks d is =

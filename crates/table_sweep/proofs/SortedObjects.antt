@@ -162,7 +162,7 @@ module _ {X : Type 0} (R : X → X → Ordering) where
         let first : is_lt (R y x) ≡ false = s 0 x (omega arith) (omega arith) in
         ((first, behind_all x y xs first rest.0), rest)
 
-    -- what a sort asks of the order
+    -- the order as a sort requires it
     pub weak_order : IsStrictWeakOrder (λ (x y : X). is_lt (R x y))
     weak_order = record { one_way = asymmetric; chain = λ x y z h k. further z y x k h }
 

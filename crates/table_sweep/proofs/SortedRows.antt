@@ -1,4 +1,5 @@
--- Rows in the order of their keys: what a test keeps, names and owners don't see in which order rows came.
+-- Rows in the order of their keys: what a test keeps, names and owners don't
+-- see in which order rows came.
 use Rattle.std.proofs.Common.{◌⊎◌, inl, inr, ◌≡◌, Bool, true, false, List, [], ◌∷◌, map, filter, length, refl, sym, ap, ◌∙◌, if◌then◌else◌}
 use Rattle.std.specs.Prelude.{◌||◌, ⊤}
 use Rattle.std.specs.List.{AllByRecursion, list_any}
@@ -63,7 +64,7 @@ module _ {Row : Type 0} (key_of : Row → Key) where
   -- ---- what a test keeps
 
   module _ (stays : Row → Bool) where
-    -- a row that stands before all goes to the front of what is kept of them
+    -- a row that stands before all goes to the front of those that are kept
     added_first : (row next : Row) (rows : List Row) → is_before (key_of row) (key_of next) ≡ true → AllBehind next rows
         → add_row key_of row (filter stays rows) ≡ row ∷ filter stays rows
     added_first row next [] first all = refl
@@ -103,7 +104,7 @@ module _ {Row : Type 0} (key_of : Row → Key) where
             moved true = rw f refl
             moved false = refl
 
-    -- what is kept of rows in order is what is kept, in order
+    -- the kept ones of the sorted rows are the kept rows, sorted
     pub sorted_filter : (rows : List Row) → sorted key_of (filter stays rows) ≡ filter stays (sorted key_of rows)
     sorted_filter [] = refl
     sorted_filter (row ∷ rows) = go (stays row) (sorted_filter rows) ∙ sym (filter_added row (sorted key_of rows) (sorted_ascends rows))

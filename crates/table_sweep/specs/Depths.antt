@@ -1,4 +1,5 @@
--- The order of backend snapshots, by the numbers of their ancestors. Ours, unless a source stands beside.
+-- The order of backend snapshots, by the numbers of their ancestors. Ours,
+-- unless a source stands beside.
 use Rattle.std.specs.Prelude.{ℕ, suc, zero, Bool, ◌&&◌, ◌||◌, ◌==◌, nat_lt, bytes_eq, find, List, length, Option, option_and_then}
 use Rattle.std.specs.Option.{option_map_or}
 use Rattle.std.specs.Ordering.{is_lt, nat_cmp, ordering_then}
@@ -19,20 +20,21 @@ snap_of s = record { snapshotter = s.0; number = s.1; parent = s.2 }
 abbrev pub above_of : List Listed → Listed → Option Listed
 above_of snapshots snap = option_and_then (λ number. find (λ s. bytes_eq s.0 snap.0 && s.1 == number) snapshots) snap.2
 
--- how many ancestors it has, at most so many
+-- how many ancestors it has; past `most` of them it counts no further
 abbrev pub depth_in : ℕ → List Listed → Listed → ℕ
 depth_in zero snapshots snap = zero
 depth_in (suc most) snapshots snap = option_map_or (λ above. suc (depth_in most snapshots above)) (above_of snapshots snap) zero
 
--- a snapshot with its depth, which order it among those that go
+-- a snapshot with its depth, which order it among the removed ones
 abbrev pub key_at : Listed → ℕ → Key
 key_at snap depth = record { snapshotter = snap.0; depth = depth; number = snap.1 }
 
--- what orders a snapshot that goes
+-- what orders a removed snapshot
 abbrev pub key_of : List Listed → Listed → Key
 key_of snapshots snap = key_at snap (depth_in (length snapshots) snapshots snap)
 
--- by snapshotter, then the deepest first, then by number (children before parents: containerd snapshots service)
+-- by snapshotter, then the deepest first, then by number (children before parents: containerd
+-- snapshots service)
 abbrev pub is_first : Key → Key → Bool
 is_first a b = is_lt (text_cmp a.snapshotter b.snapshotter)
     || bytes_eq a.snapshotter b.snapshotter && (nat_lt b.depth a.depth || a.depth == b.depth && nat_lt a.number b.number)

@@ -1,4 +1,5 @@
--- A plan follows the paths. Each statement is the contract of a function of the module `laws`. Ours, unless a source stands beside.
+-- A plan follows the paths. Each statement is the contract of a function of the module `laws`.
+-- Ours, unless a source stands beside.
 use Rattle.std.specs.Prelude.{◌≡◌, ℕ, List, ◌↔◌, ℤ, Contains}
 use Rattle.meta_types.specs.Rows.{Records, BackLists}
 use Rattle.meta_types.specs.Paths.{ingest, content, snapshot, IsReached}
@@ -22,13 +23,14 @@ ReachedMarksPlanACollection = (came : Records) (namespaces : ℕ) (back : BackLi
     → IsBuilt came at book graph → AreReached graph marks → AreMasks came at (reached_by came.profile book marks at) plan.masks
     → plan.report ≡ dry_report_of (records_in_key_order came) namespaces back at (reached_by came.profile book marks at) → IsPlanOfRows came namespaces back at plan
 
--- a row is among those that go exactly where no path leads to it, in either mode (containerd garbage-collection.md)
+-- a row is among the removed ones exactly where no path leads to it, in either mode (containerd
+-- garbage-collection.md)
 pub record GoesWhatNoPathLeadsTo (records : Records) (at : ℤ) (plan : Plan) : Type 0 where
   pub content_rows : (row : ContentRow) → Contains records.tables.content row → Contains plan.report.removed.content (row.ns, row.digest) ↔ ((mode : Mode) → IsReached records at (content mode row) → ⊥)
   pub snapshot_rows : (row : SnapRow) → Contains records.tables.snapshots row
       → Contains plan.report.removed.snapshots (row.key.ns, row.key.snapshotter, row.key.name) ↔ ((mode : Mode) → IsReached records at (snapshot mode row) → ⊥)
   pub ingest_rows : (row : IngestRow) → Contains records.tables.ingests row → Contains plan.report.removed.ingests (row.ns, row.name) ↔ (IsReached records at (ingest row) → ⊥)
 
--- a plan names just what no path leads to
+-- a plan names exactly the rows that no path leads to
 abbrev pub APlanFollowsThePaths : Type 0
 APlanFollowsThePaths = (records : Records) (namespaces : ℕ) (back : BackLists) (at : ℤ) (plan : Plan) → AreApart records → IsPlanOf records namespaces back at plan → GoesWhatNoPathLeadsTo records at plan

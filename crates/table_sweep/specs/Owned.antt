@@ -1,4 +1,5 @@
--- Which rows own backend objects, and what goes. Ours, unless a source stands beside.
+-- Which rows own backend objects, and which objects are removed. Ours, unless a source stands
+-- beside.
 use Rattle.std.specs.Prelude.{ℕ, Bool, not, ◌&&◌, ◌==◌, bytes_eq, List}
 use Rattle.std.specs.List.{list_any}
 use Rattle.std.specs.Ordering.{nat_cmp, ordering_then}
@@ -24,7 +25,7 @@ name_of s = (s.0, s.1)
 abbrev pub object_cmp : Text × ℕ → Text × ℕ → Ordering
 object_cmp a b = ordering_then (nat_cmp a.1 b.1) (text_cmp a.0 b.0)
 
--- ---- what goes, since no row that stays owns it
+-- ---- the removed objects: no row that stays owns them
 
 -- an ingest's object
 abbrev pub begun_goes : List ℕ → ℕ → Bool

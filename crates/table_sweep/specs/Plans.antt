@@ -8,20 +8,23 @@ use Rattle.table_sweep.specs.declared.planning.Plan.{Plan}
 use Rattle.table_sweep.specs.Stays.{AreMasks}
 use Rattle.table_sweep.specs.InKeyOrder.{records_in_key_order}
 
--- what a dry run of these records and lists reports, by this test of what paths reach; of namespaces, all of which stay, there are so many
+-- What a dry run of these records and lists reports, by this test of what paths reach. The number
+-- of namespaces, all of which stay, is given.
 abbrev pub dry_report_of : Records → ℕ → BackLists → ℤ → (Thing → Bool) → Report
 dry_report_of records namespaces back at reached =
     let report = report_of (record { records = records; backends = back }) at reached no_objects true in
     record report { kept = record report.kept { namespaces = namespaces } }
 
--- the plan is that of a collection of these rows as they came: some test tells where paths end, and by it the masks are of the rows' places, the report of the rows in the order of their keys
+-- The plan is that of a collection of these rows as they came: some test tells where paths end. By
+-- it the masks are in arrival order, and the report is of the rows in key order.
 pub record IsPlanOfRows (came : Records) (namespaces : ℕ) (back : BackLists) (at : ℤ) (plan : Plan) : Type 0 where
   pub reached : Thing → Bool
   pub tells : TellsReached (records_in_key_order came) at reached
   pub masks : AreMasks came at reached plan.masks
   pub report_is : plan.report ≡ dry_report_of (records_in_key_order came) namespaces back at reached
 
--- the plan is that of a collection of these records: some test tells where paths end, and the plan is by it, its masks being of the rows in some order
+-- The plan is that of a collection of these records: some test tells where paths end, and the plan
+-- is by it. Its masks are of the rows in some arrival order.
 pub record IsPlanOf (records : Records) (namespaces : ℕ) (back : BackLists) (at : ℤ) (plan : Plan) : Type 0 where
   pub reached : Thing → Bool
   pub tells : TellsReached records at reached

@@ -1,4 +1,5 @@
--- Where backend snapshots and their parents stand in a list, and depths by places. Ours, unless a source stands beside.
+-- Where backend snapshots and their parents stand in a list, and depths by places. Ours, unless a
+-- source stands beside.
 use Rattle.std.specs.Prelude.{◌≡◌, ℕ, suc, zero, ◌+◌, ◌<◌, Bool, true, ◌&&◌, ◌==◌, bytes_eq, List, map, length, position, slice_get, slice_index_or, Option, option_and_then}
 use Rattle.std.specs.Option.{option_map_or}
 use Rattle.std.specs.Ordering.{is_lt, nat_cmp, ordering_then}
@@ -35,7 +36,7 @@ above_place snapshots snap = option_and_then (λ number. position (has_name (nam
 abbrev pub above_from : List (Option ℕ) → ℕ → Option ℕ
 above_from aboves place = option_and_then (λ above. above) (slice_get aboves place)
 
--- how many places are above a place, at most so many
+-- how many places are above a place; past `most` of them it counts no further
 abbrev pub deep : ℕ → List (Option ℕ) → ℕ → ℕ
 deep zero aboves place = zero
 deep (suc most) aboves place = option_map_or (λ above. suc (deep most aboves above)) (above_from aboves place) zero

@@ -11,7 +11,7 @@ use Rattle.lease_book.specs.Calls.{kept as kept_leases}
 use Rattle.table_sweep.specs.declared.masks.Masks.{Masks}
 use Rattle.table_sweep.specs.Masks.{gone}
 
--- the masks tell of each row, at its place, whether it stays
+-- the masks say of each row, at its place, whether it stays
 pub record AreMasks (records : Records) (at : ℤ) (reached : Thing → Bool) (masks : Masks) : Type 0 where
   pub images : masks.images.items ≡ map (image_stays records.profile at) records.tables.images
   pub leases : masks.leases.items ≡ map (lease_stays at) records.leases
@@ -33,7 +33,8 @@ pub record FitRows (tables : Tables) (held : List LeaseRow) (masks : Masks) : Ty
   pub content : length masks.content.items ≡ length tables.content
   pub snapshots : length masks.snapshots.items ≡ length tables.snapshots
 
--- a snapshot that stays keeps its parent, and no backend number is used twice among what stays of these rows, in the order of their keys
+-- a snapshot that stays keeps its parent, and no backend number is used twice among what stays of
+-- these rows, in the order of their keys
 pub record StayNumbered (tables : Tables) (masks : Masks) : Type 0 where
   pub numbered : AreNumbered (sorted snap_key (kept masks.snapshots.items tables.snapshots)) (sorted ingest_key (kept masks.ingests.items tables.ingests))
 

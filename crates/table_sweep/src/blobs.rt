@@ -67,7 +67,7 @@ fn push_blob(digest: &Digest, is_owned: bool, gone: &mut Vec<Digest>) -> Result<
     Ok(())
 }
 
-// The blobs whose places aren't marked, as they came.
+// The blobs whose mark is unset, as they came.
 fn unowned(alloc: Global, blobs: &[Digest], owned: &[bool]) -> Result<Vec<Digest>, Fault>
     requires { length owned.now ≡ length blobs.now }
     ensures fault { Refuses result None }

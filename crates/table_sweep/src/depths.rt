@@ -1,4 +1,4 @@
-//! The order in which backend snapshots go: children before their parents.
+//! The order in which backend snapshots are removed: children before their parents.
 ghost use Rattle.std.specs.Prelude.{◌≡◌, map, length, slice_get, None, IfOk};
 ghost use Rattle.meta_types.specs.Faults.{Refuses};
 ghost use Rattle.meta_types.specs.Keys.{in_order};

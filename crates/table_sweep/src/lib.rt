@@ -1,4 +1,4 @@
-//! What a collection leaves of the tables, and what goes.
+//! The plan of a collection, from its marks, and the sweep of the rows.
 #![tactic(auto)]
 
 mod blobs;

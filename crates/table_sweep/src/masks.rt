@@ -1,4 +1,4 @@
-//! Which rows stay.
+//! Masks of rows: by the marks on the numbers of a row, whether it stays.
 ghost use Rattle.std.specs.Prelude.{◌≡◌, ◌≢◌, ◌||◌, ◌+◌, ◌≤◌, map, None, IfOk, AllPairs};
 ghost use Rattle.meta_types.specs.Faults.{Refuses};
 ghost use Rattle.meta_types.specs.Paths.{image_stays, lease_stays};

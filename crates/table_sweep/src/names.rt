@@ -1,4 +1,4 @@
-//! The names of the rows that go.
+//! The names of the removed rows, in key order.
 ghost use Rattle.std.specs.Prelude.{◌≡◌, ◌++◌, ◌∷◌, [], map, length, if◌then◌else◌, OnOk, None, IfOk};
 ghost use Rattle.meta_types.specs.Faults.{Refuses};
 ghost use Rattle.gc_graph.specs.Stored.{records_of};
@@ -168,7 +168,7 @@ fn snapshot_names(
     Ok(names)
 }
 
-// The names of the rows that go, in the order of their keys.
+// The names of the removed rows, in key order.
 pub(crate) fn removed_of(
     alloc: Global,
     rows: &StoreRows<'_>,

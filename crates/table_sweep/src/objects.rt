@@ -1,4 +1,4 @@
-//! The backend objects that go, in the order of a report.
+//! The backend objects that a collection removes, in the order of a report.
 ghost use Rattle.std.specs.Prelude.{◌≡◌, ◌++◌, ◌∷◌, [], map, length, if◌then◌else◌, OnOk, None, IfOk};
 ghost use Rattle.std.specs.List.{flat_map};
 ghost use Rattle.meta_types.specs.Faults.{Refuses};

@@ -1,4 +1,4 @@
-//! The sweep of the tables.
+//! The sweep of the tables, by the masks of a plan.
 ghost use Rattle.std.specs.Prelude.{◌≡◌};
 ghost use Rattle.meta_types.specs.Collected.{collected_records};
 ghost use Rattle.meta_types.specs.Rows.{lease_key};
@@ -13,10 +13,9 @@ use meta_types::Name;
 use object_tables::ArrivedTables;
 use row_tables::ArrivedByNamespace;
 
-/// Leaves the rows that stay, in one pass a kind: the masks are of the rows' places. It takes no
-/// memory.
-/// The tables never hold a snapshot without its parent, so the masks have to keep each parent of
-/// what they keep, as those of a plan do whose marks are the reached numbers.
+/// Keeps the rows whose mask is set, in one pass a kind. The tables never hold a snapshot without
+/// its parent, so the masks have to keep the parent of every kept snapshot. Those of a plan do, if
+/// its marks are the reached numbers.
 pub fn sweep(
     tables: &mut ArrivedTables,
     leases: &mut ArrivedByNamespace<Name, Lease>,

@@ -1,4 +1,4 @@
-//! Names in the order of their keys: only what goes, or is ignored, is sorted.
+//! Names in key order: only those of removed and of ignored rows are sorted.
 ghost use Rattle.std.specs.Prelude.{◌≡◌, None, IfOk};
 ghost use Rattle.meta_types.specs.Faults.{Refuses};
 ghost use Rattle.row_tables.specs.Arrived.{sorted};
