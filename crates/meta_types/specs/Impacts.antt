@@ -99,10 +99,16 @@ impact_of here there = record {
   removed = rows_less there.removed here.removed;
 }
 
--- whatever dry runs of the two stores report, this is what the second names and the first doesn't
+-- Dry runs of the two stores report this: what the second names and the first doesn't. So do all
+-- of their dry runs.
 pub record IsImpact (now then : State) (at : ℤ) (impact : Impact) : Type 0 where
-  pub each : (here there : Report) → Plans now at here → Plans then at there
-      → impact ≡ impact_of here there
+  pub here : Report
+  pub there : Report
+  pub plans_now : Plans now at here
+  pub plans_then : Plans then at there
+  pub is : impact ≡ impact_of here there
+  pub each : (one other : Report) → Plans now at one → Plans then at other
+      → impact ≡ impact_of one other
 
 -- a removal makes no path, so what goes now, goes after it
 abbrev pub ARemovalMakesNoPath : Type 0
