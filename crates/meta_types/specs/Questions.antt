@@ -3,9 +3,10 @@
 use Rattle.std.specs.Prelude.{◌≡◌, ℤ, Bool, List, Option, Some, None}
 use Rattle.meta_types.specs.Text.{Text}
 use Rattle.meta_types.specs.Time.{instant_of}
-use Rattle.meta_types.specs.Rows.{Records}
+use Rattle.meta_types.specs.Rows.{Records, State}
 use Rattle.meta_types.specs.Steps.{Answer}
 use Rattle.meta_types.specs.Explanations.{object_of, is_asked, question_fault, IsExplanation}
+use Rattle.meta_types.specs.Impacts.{Impact, IsImpact, removed, impact_question_fault}
 use Rattle.meta_types.specs.declared.object.Object.{Object}
 use Rattle.meta_types.specs.declared.explanation.PathStep.{PathStep}
 
@@ -17,6 +18,7 @@ pub record Told : Type 0 where
 -- the answer to a question, each in the words of its own
 pub data Telling : Type 0 where
   explained : Told → Telling
+  foreseen : Impact → Telling
 
 -- the answer to a line: an event's, or a question's
 pub data LineAnswer : Type 0 where
@@ -32,3 +34,13 @@ pub record Tells (records : Records) (ns kind name at : Text) (told : Told) : Ty
   pub moment : ℤ
   pub is_moment : instant_of at ≡ Some moment
   pub explains : IsExplanation records moment (is_asked ns object) told.kept told.path
+
+-- The question has no fault, and this is what would go without the row that it asks for, at its
+-- moment. The texts are the namespace, the type, the name and the moment.
+pub record Foresees (state : State) (ns kind name at : Text) (impact : Impact) : Type 0 where
+  pub free : impact_question_fault state ns kind name at ≡ None
+  pub object : Object
+  pub is_object : object_of kind name ≡ Some object
+  pub moment : ℤ
+  pub is_moment : instant_of at ≡ Some moment
+  pub goes : IsImpact state (removed state ns object).after moment impact
