@@ -2,3 +2,5 @@ pub mod Bridges
 pub mod SweptPlans
 pub mod Wholes
 pub mod Removing
+pub mod NamedRows
+mod Lent

@@ -4,3 +4,4 @@ pub mod Whole
 pub mod Planned
 pub mod Refused
 pub mod Removing
+pub mod Impacts

@@ -1,4 +1,4 @@
-//! A store behind its lock: two sessions, a plan and a question beside the lock, and the history at
+//! A store behind its lock: two sessions, a plan and questions beside the lock, and the history at
 //! the end.
 ghost use Rattle.std.specs.Prelude.{◌≡◌};
 
@@ -64,7 +64,10 @@ fn is_asked<L: Ledger, R: Threads + Wait + Sync>(
     let told = store.explain(rt, alloc, session, &ns, &object, AT);
     let is_refused = matches!(&told, Err(Fault::NotFound));
     drop(told);
-    Ok(is_refused)
+    let found = store.impact(rt, alloc, session, ns, object, AT);
+    let is_missing = matches!(&found, Err(Fault::NotFound));
+    drop(found);
+    Ok(is_refused && is_missing)
 }
 
 fn ends<L: Ledger>(

@@ -1,11 +1,11 @@
--- The JSON of explanations, and their text. Members stand in the byte order of their names. Ours,
--- unless a source stands beside.
+-- The JSON of explanations, their text, and the text of what a line is answered. Members stand in
+-- the byte order of their names. Ours, unless a source stands beside.
 use Rattle.std.specs.Prelude.{true, Option, Some, None, codes, option_map}
 use Rattle.serde_json.specs.Data.{Data, boolean, string, object, no_members, member}
 use Rattle.serde_json.specs.Written.{compact_text}
 use Rattle.meta_types.specs.Text.{Text}
 use Rattle.meta_types.specs.Resources.{type_of, id_of}
-use Rattle.meta_types.specs.Questions.{Told, Telling, explained, LineAnswer, of_event, of_question}
+use Rattle.meta_types.specs.Questions.{Told, Telling, explained, foreseen, LineAnswer, of_event, of_question}
 use Rattle.meta_types.specs.declared.resource.Mode.{Mode}
 use Rattle.meta_types.specs.declared.resource.Mode.TheVariants.{Full, Flat}
 use Rattle.meta_types.specs.declared.object.Object.{Object}
@@ -16,6 +16,7 @@ use Rattle.meta_types.specs.declared.explanation.PathStep.{PathStep}
 use Rattle.meta_types.specs.declared.explanation.Explanation.{Explanation}
 use Rattle.gc_report.specs.Reports.{list_data, member_if}
 use Rattle.reply_line.specs.Replies.{answer_text}
+use Rattle.reply_line.specs.Foreseen.{impact_text}
 
 -- ---- steps
 
@@ -85,6 +86,7 @@ told_text told = compact_text (told_data told)
 -- the text of the answer to a question
 abbrev pub telling_text : Telling → Text
 telling_text (explained told) = told_text told
+telling_text (foreseen impact) = impact_text impact
 
 -- the text of what a line is answered
 abbrev pub line_answer_text : LineAnswer → Text

@@ -1,6 +1,6 @@
 pub mod Answers
 pub mod Replies
 pub mod Fixed
+pub mod Foreseen
 pub mod Explained
 pub mod StepWriting
-pub mod Foreseen

@@ -14,7 +14,7 @@ use Rattle.request_line.specs.Members.{text_at, text_if_any, labels_at, whole_at
 use Rattle.request_line.specs.declared.asked.Asked.{Asked}
 use Rattle.request_line.specs.declared.asked.Asked.TheVariants as A
 use Rattle.request_line.specs.declared.op.Op.{Op}
-use Rattle.request_line.specs.declared.op.Op.TheVariants.{NsAdd, NsRemove, NsList, ImageAdd, ImageTarget, ImageRemove, ImageGet, ImageList, ImageLabel, ContainerAdd, ContainerRemove, ContainerGet, ContainerList, ContainerLabel, ContentAdd, ContentRemove, ContentGet, ContentLabel, ContentList, IngestBegin, IngestCommit, IngestAbort, IngestGet, IngestList, SnapPrepare, SnapView, SnapCommit, SnapRemove, SnapGet, SnapLabel, SnapList, LeaseAdd, LeaseRemove, LeaseGet, LeaseLabel, LeaseList, LeaseHold, LeaseDrop, LeaseResources, Profile, GcRun, GcPlan, GcExplain}
+use Rattle.request_line.specs.declared.op.Op.TheVariants.{NsAdd, NsRemove, NsList, ImageAdd, ImageTarget, ImageRemove, ImageGet, ImageList, ImageLabel, ContainerAdd, ContainerRemove, ContainerGet, ContainerList, ContainerLabel, ContentAdd, ContentRemove, ContentGet, ContentLabel, ContentList, IngestBegin, IngestCommit, IngestAbort, IngestGet, IngestList, SnapPrepare, SnapView, SnapCommit, SnapRemove, SnapGet, SnapLabel, SnapList, LeaseAdd, LeaseRemove, LeaseGet, LeaseLabel, LeaseList, LeaseHold, LeaseDrop, LeaseResources, Profile, GcRun, GcPlan, GcExplain, GcImpact}
 use Rattle.request_line.specs.declared.op.OpForm.{OpForm}
 
 -- ---- what is read of a line
@@ -115,9 +115,10 @@ row_of Profile = request "profile" (asks R.Profile & whole "v")
 row_of GcRun = row "gc.run" (asks (λ at. A.Collect at false) & text "at")
 row_of GcPlan = row "gc.plan" (asks (λ at. A.Collect at true) & text "at")
 row_of GcExplain = row "gc.explain" (asks A.Explain & text "ns" & text "type" & text "resource" & text "at")
+row_of GcImpact = row "gc.impact" (asks A.Impact & text "ns" & text "type" & text "resource" & text "at")
 
 abbrev pub ops : List Op
-ops = NsAdd ∷ NsRemove ∷ NsList ∷ ImageAdd ∷ ImageTarget ∷ ImageRemove ∷ ImageGet ∷ ImageList ∷ ImageLabel ∷ ContainerAdd ∷ ContainerRemove ∷ ContainerGet ∷ ContainerList ∷ ContainerLabel ∷ ContentAdd ∷ ContentRemove ∷ ContentGet ∷ ContentLabel ∷ ContentList ∷ IngestBegin ∷ IngestCommit ∷ IngestAbort ∷ IngestGet ∷ IngestList ∷ SnapPrepare ∷ SnapView ∷ SnapCommit ∷ SnapRemove ∷ SnapGet ∷ SnapLabel ∷ SnapList ∷ LeaseAdd ∷ LeaseRemove ∷ LeaseGet ∷ LeaseLabel ∷ LeaseList ∷ LeaseHold ∷ LeaseDrop ∷ LeaseResources ∷ Profile ∷ GcRun ∷ GcPlan ∷ GcExplain ∷ []
+ops = NsAdd ∷ NsRemove ∷ NsList ∷ ImageAdd ∷ ImageTarget ∷ ImageRemove ∷ ImageGet ∷ ImageList ∷ ImageLabel ∷ ContainerAdd ∷ ContainerRemove ∷ ContainerGet ∷ ContainerList ∷ ContainerLabel ∷ ContentAdd ∷ ContentRemove ∷ ContentGet ∷ ContentLabel ∷ ContentList ∷ IngestBegin ∷ IngestCommit ∷ IngestAbort ∷ IngestGet ∷ IngestList ∷ SnapPrepare ∷ SnapView ∷ SnapCommit ∷ SnapRemove ∷ SnapGet ∷ SnapLabel ∷ SnapList ∷ LeaseAdd ∷ LeaseRemove ∷ LeaseGet ∷ LeaseLabel ∷ LeaseList ∷ LeaseHold ∷ LeaseDrop ∷ LeaseResources ∷ Profile ∷ GcRun ∷ GcPlan ∷ GcExplain ∷ GcImpact ∷ []
 
 abbrev pub op_named : Text → Option Op
 op_named name = find (λ op. bytes_eq (row_of op).op name) ops

@@ -22,4 +22,11 @@ pub enum Asked {
         resource: RawText,
         at: RawText,
     },
+    /// What would go at a moment without a row: a question too.
+    Impact {
+        ns: RawText,
+        kind: RawText,
+        resource: RawText,
+        at: RawText,
+    },
 }

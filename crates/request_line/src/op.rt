@@ -2,7 +2,7 @@
 ghost use Rattle.std.specs.Prelude.{◌≡◌, None, IfOk};
 ghost use Rattle.serde_json.specs.View.{members_view};
 ghost use Rattle.meta_types.specs.Faults.{Refuses};
-ghost use Rattle.request_line.specs.Table.{asked_of};
+ghost use Rattle.request_line.specs.Table.{asked_of, members_of, op_named, row_view};
 
 use crate::asked::Asked;
 use crate::collection_ops::{gc_plan, gc_run};
@@ -20,7 +20,7 @@ use crate::lease_ops::{
 };
 use crate::members::Members;
 use crate::namespace_ops::{ns_add, ns_remove, profile};
-use crate::question_ops::gc_explain;
+use crate::question_ops::{gc_explain, gc_impact};
 use crate::snapshot_ops::{
     snap_commit, snap_get, snap_label, snap_list, snap_prepare, snap_remove, snap_view,
 };
@@ -73,6 +73,7 @@ pub enum Op {
     GcRun,
     GcPlan,
     GcExplain,
+    GcImpact,
 }
 
 /// A row of the table: the name of an op, the members that stand beside it, and those that may.
@@ -101,10 +102,9 @@ fn make_row(
 impl Op {
     ghost use Rattle.std.specs.List.{find};
     ghost use Rattle.std.specs.Str.{bytes_eq};
-    ghost use Rattle.request_line.specs.Table.{members_of, op_named, row_view};
 
     /// All ops, in the order of the table.
-    pub const ALL: [Op; 43] = [
+    pub const ALL: [Op; 44] = [
         Op::NsAdd,
         Op::NsRemove,
         Op::NsList,
@@ -148,6 +148,7 @@ impl Op {
         Op::GcRun,
         Op::GcPlan,
         Op::GcExplain,
+        Op::GcImpact,
     ];
 
     /// The op's row.
@@ -226,6 +227,7 @@ impl Op {
             Op::GcRun => make_row("gc.run", &["at"], &[]),
             Op::GcPlan => make_row("gc.plan", &["at"], &[]),
             Op::GcExplain => make_row("gc.explain", &["ns", "type", "resource", "at"], &[]),
+            Op::GcImpact => make_row("gc.impact", &["ns", "type", "resource", "at"], &[]),
         }
     }
 
@@ -293,5 +295,6 @@ pub(crate) fn ask_for(alloc: Global, op: Op, members: Members) -> Result<Asked, 
         Op::GcRun => Ok(gc_run(alloc, members)),
         Op::GcPlan => Ok(gc_plan(alloc, members)),
         Op::GcExplain => Ok(gc_explain(alloc, members)),
+        Op::GcImpact => Ok(gc_impact(alloc, members)),
     }
 }

@@ -23,3 +23,15 @@ pub(crate) fn gc_explain(alloc: Global, mut members: Members) -> Asked
         at,
     }
 }
+
+#[tactic(auto, using(crate::proofs::Taking::others_stay))]
+pub(crate) fn gc_impact(alloc: Global, mut members: Members) -> Asked
+    ensures { result ≡ asked_of Op.GcImpact (members_view members.entries) }
+{
+    Asked::Impact {
+        ns: text(alloc, &mut members, "ns"),
+        kind: text(alloc, &mut members, "type"),
+        resource: text(alloc, &mut members, "resource"),
+        at: text(alloc, &mut members, "at"),
+    }
+}

@@ -6,7 +6,8 @@ use Rattle.meta_types.specs.Rows.{State, empty_store}
 use Rattle.meta_types.specs.Sound.{IsSound}
 use Rattle.meta_types.specs.Steps.{refused}
 use Rattle.meta_types.specs.Explanations.{question_fault}
-use Rattle.meta_types.specs.Questions.{Telling, explained, LineAnswer, of_event, of_question}
+use Rattle.meta_types.specs.Impacts.{impact_question_fault}
+use Rattle.meta_types.specs.Questions.{Telling, explained, foreseen, LineAnswer, of_event, of_question}
 use Rattle.meta_types.specs.declared.fault.Fault.{Fault}
 use Rattle.meta_types.specs.declared.fault.Fault.TheVariants.{BadLine, TooLong}
 use Rattle.request_line.specs.Lines.{asked_in}
@@ -17,7 +18,7 @@ use Rattle.reply_line.specs.Explained.{line_answer_text}
 use Rattle.scripts.specs.Lines.{lines_of}
 use Rattle.scripts.specs.Output.{Refusals, first_refusal, output_from, AreTrue}
 use Rattle.scripts.specs.OneOutput.{refused_with, EachScriptHasOneOutput}
-use Rattle.scripts.proofs.OneTelling.{each_telling_is_one}
+use Rattle.scripts.proofs.OneTelling.{each_telling_is_one, each_impact_is_one}
 use Rattle.scripts.proofs.WholeScripts.{full_step, step_sound, empty_is_sound}
 
 -- ---- a question has one answer
@@ -40,6 +41,21 @@ module _ (state : State) (s : IsSound state) (one other : Telling) where
       go (explained told) (explained again) None a b = let same =
           each_telling_is_one state s ns kind name at told again a b in
           (λ i. (of_question (explained (same i)), state))
+      go (explained told) (foreseen impact) None a b = absurd b
+      go (foreseen impact) other None a b = absurd a
+  asked_once (A.Impact ns kind name at) a b =
+      go one other (impact_question_fault state ns kind name at) a b
+    where
+      go : (one other : Telling) (least : Option Fault)
+          → IsTrueOf state (Some (A.Impact ns kind name at)) (question_step state one least).0
+          → IsTrueOf state (Some (A.Impact ns kind name at)) (question_step state other least).0
+          → question_step state one least ≡ question_step state other least
+      go one other (Some fault) a b = refl
+      go (foreseen impact) (foreseen again) None a b = let same =
+          each_impact_is_one state ns kind name at impact again a b in
+          (λ i. (of_question (foreseen (same i)), state))
+      go (foreseen impact) (explained told) None a b = absurd b
+      go (explained told) other None a b = absurd a
 
   line_once : (line : List ℕ) → IsTrueOf state (short_request line) (line_answer state one line).0
       → IsTrueOf state (short_request line) (line_answer state other line).0

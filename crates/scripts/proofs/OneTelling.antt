@@ -1,4 +1,4 @@
--- There is one right answer to what keeps a row.
+-- There is one right answer to what keeps a row, and one to what would go without it.
 use Rattle.std.proofs.Common.{◌≡◌, ◌∙◌, Bool, true, false, not, List, [], ◌∷◌, ◌++◌, Option, Some, refl, sym, ap, subst, inl, inr, ℤ, ℕ}
 use Rattle.std.specs.Prelude.{IsTrue}
 use Rattle.meta_types.specs.Text.{Text}
@@ -7,13 +7,14 @@ use Rattle.meta_types.specs.Sound.{IsSound}
 use Rattle.meta_types.specs.Paths.{Thing}
 use Rattle.meta_types.specs.Reasons.{reason_of}
 use Rattle.meta_types.specs.Explanations.{is_asked, step_of, AreTold, before_all_ends, IsKeptBy, WasKeptBy, IsExplanation}
-use Rattle.meta_types.specs.Questions.{Told, Tells}
+use Rattle.meta_types.specs.Impacts.{Impact, removed, IsImpact}
+use Rattle.meta_types.specs.Questions.{Told, Tells, Foresees}
 use Rattle.meta_types.specs.declared.object.Object.{Object}
 use Rattle.meta_types.specs.declared.explanation.By.{By}
 use Rattle.meta_types.specs.declared.explanation.By.TheVariants.{Root, Ended}
 use Rattle.meta_types.specs.declared.explanation.PathStep.{PathStep}
 use Rattle.explaining.specs.Explained.{OneThingPerKey}
-use Rattle.scripts.specs.OneOutput.{EachTellingIsOne}
+use Rattle.scripts.specs.OneOutput.{EachTellingIsOne, EachImpactIsOne}
 use Rattle.explaining.proofs.Uniqueness.{one_explanation}
 use Rattle.scripts.proofs.OneThing.{one_thing_per_key}
 
@@ -80,3 +81,18 @@ each_telling_is_one state s ns kind name at told other a b =
     moment
     (subst (λ (o : Object). IsExplanation state.records a.moment (is_asked ns o) told.kept
     told.path) object a.explains)) b.explains
+
+-- the other's dry runs give both
+impact_once : (now then : State) (at : ℤ) (impact other : Impact) → IsImpact now then at impact
+    → IsImpact now then at other → impact ≡ other
+impact_once now then at impact other a b =
+    a.each b.here b.there b.plans_now b.plans_then ∙ sym b.is
+
+pub each_impact_is_one : EachImpactIsOne
+each_impact_is_one state ns kind name at impact other a b =
+    let object : a.object ≡ b.object = some_is_one _ a.object b.object a.is_object b.is_object in
+    let moment : a.moment ≡ b.moment = some_is_one _ a.moment b.moment a.is_moment b.is_moment in
+    impact_once state (removed state ns b.object).after b.moment impact other
+    (subst (λ (m : ℤ). IsImpact state (removed state ns b.object).after m impact) moment
+    (subst (λ (o : Object). IsImpact state (removed state ns o).after a.moment impact) object
+    a.goes)) b.goes

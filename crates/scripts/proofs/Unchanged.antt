@@ -76,6 +76,7 @@ asked_quiet state telling (A.Collect at dry) = at_moment_quiet state (event_for 
 asked_quiet state telling (A.Remove removal at) =
     at_moment_quiet state (event_for (A.Remove removal at))
 asked_quiet state telling (A.Explain ns kind name at) = λ only. refl
+asked_quiet state telling (A.Impact ns kind name at) = λ only. refl
 
 line_quiet : (state : State) (telling : Telling) (line : List ℕ)
     → IsQuiet state (line_answer state telling line)

@@ -10,7 +10,8 @@ use Rattle.meta_types.specs.Requests.{outcome, removal_outcome}
 use Rattle.meta_types.specs.Sound.{IsSound}
 use Rattle.meta_types.specs.Steps.{Answer, answered, refused, Event, requested, collect, remove_collect, collect_fault, remove_collect_fault}
 use Rattle.meta_types.specs.Explanations.{question_fault}
-use Rattle.meta_types.specs.Questions.{Telling, explained, LineAnswer, of_event}
+use Rattle.meta_types.specs.Impacts.{impact_question_fault}
+use Rattle.meta_types.specs.Questions.{Telling, explained, foreseen, LineAnswer, of_event}
 use Rattle.meta_types.specs.declared.fault.Fault.{Fault}
 use Rattle.meta_types.specs.declared.fault.Fault.TheVariants.{InvalidArgument, BadLine, TooLong, NoWorker}
 use Rattle.meta_types.proofs.EachKind.{divides_all, tells_what_a_collection_would}
@@ -44,6 +45,7 @@ asked_sound state telling (A.Collect at dry) s =
 asked_sound state telling (A.Remove removal at) s =
     event_sound_at state (event_for (A.Remove removal at)) s
 asked_sound state telling (A.Explain ns kind name at) s = s
+asked_sound state telling (A.Impact ns kind name at) s = s
 
 line_sound : (state : State) (telling : Telling) (line : List ℕ) → IsSound state
     → IsSound (line_answer state telling line).1
@@ -116,6 +118,23 @@ module _ (state : State) (refusal : Option Refusal) (line : List ℕ) (s : IsSou
             (A.Explain ns kind name at) is ∙ free,
         (right, refl),
       )
+      go (foreseen impact) None free right = absurd right
+  asked_kept telling (A.Impact ns kind name at) is right =
+      go telling (impact_question_fault state ns kind name at) refl right
+    where
+      go : (telling : Telling) (least : Option Fault)
+          → impact_question_fault state ns kind name at ≡ least
+          → IsTrueOf state (Some (A.Impact ns kind name at)) (question_step state telling least).0
+          → IsAnswered state refusal line (question_step state telling least).0
+          (question_step state telling least).1
+      go telling (Some fault) least right = (refl, inl (own (A.Impact ns kind name at) is ∙ least))
+      go (foreseen impact) None free right = (
+        A.Impact ns kind name at,
+        asks (A.Impact ns kind name at) is,
+        own (A.Impact ns kind name at) is ∙ free,
+        (right, refl),
+      )
+      go (explained told) None free right = absurd right
   asked_kept telling (A.Request request) is right = go (least_fault (outcome state request)) refl
     where
       go : (least : Option Fault) → least_fault (outcome state request) ≡ least

@@ -8,7 +8,8 @@ use Rattle.meta_types.specs.Time.{instant_of}
 use Rattle.meta_types.specs.Rows.{State}
 use Rattle.meta_types.specs.Steps.{Answer, refused, Event, requested, collect, remove_collect}
 use Rattle.meta_types.specs.Explanations.{question_fault}
-use Rattle.meta_types.specs.Questions.{Telling, explained, LineAnswer, of_event, of_question, Tells}
+use Rattle.meta_types.specs.Impacts.{impact_question_fault}
+use Rattle.meta_types.specs.Questions.{Telling, explained, foreseen, LineAnswer, of_event, of_question, Tells, Foresees}
 use Rattle.meta_types.specs.declared.fault.Fault.{Fault}
 use Rattle.meta_types.specs.declared.fault.Fault.TheVariants.{InvalidArgument, BadLine, TooLong, OutOfMemory, NoWorker}
 use Rattle.request_line.specs.Lines.{asked_in}
@@ -35,6 +36,7 @@ abbrev pub event_for : Asked → Option Event
 event_for (A.Request request) = Some (requested request)
 event_for (A.Collect at dry) = option_map (λ moment. collect moment dry 1) (instant_of at)
 event_for (A.Explain ns kind name at) = None
+event_for (A.Impact ns kind name at) = None
 event_for (A.Remove removal at) = option_map (λ moment. remove_collect removal moment 1) (instant_of at)
 
 -- the answer of an event is one to a line
@@ -56,17 +58,21 @@ event_line_step state event =
 abbrev pub asked_step : State → Telling → Asked → LineAnswer × State
 asked_step state telling (A.Explain ns kind name at) =
     question_step state telling (question_fault state.records ns kind name at)
+asked_step state telling (A.Impact ns kind name at) =
+    question_step state telling (impact_question_fault state ns kind name at)
 asked_step state telling (A.Request request) = line_step_of (event_step state (requested request))
 asked_step state telling (A.Collect at dry) = event_line_step state (event_for (A.Collect at dry))
 asked_step state telling (A.Remove removal at) =
     event_line_step state (event_for (A.Remove removal at))
 
--- The answer to a question is right: it explains the row that is asked for. Answers of events have
--- no condition here.
+-- The answer to a question is right: it explains the row that is asked for, or is what would go
+-- without it. Answers of events have no condition here.
 abbrev pub IsTrueOf : State → Option Asked → LineAnswer → Type 0
 IsTrueOf state asked (of_event answer) = Unit {0}
 IsTrueOf state (Some (A.Explain ns kind name at)) (of_question (explained told)) =
     Tells state.records ns kind name at told
+IsTrueOf state (Some (A.Impact ns kind name at)) (of_question (foreseen impact)) =
+    Foresees state ns kind name at impact
 IsTrueOf state asked (of_question telling) = ⊥
 
 -- what a line of this length asks for, if anything
@@ -85,6 +91,7 @@ asks_collection (Some (A.Collect at dry)) = true
 asks_collection (Some (A.Remove removal at)) = true
 asks_collection (Some (A.Request request)) = false
 asks_collection (Some (A.Explain ns kind name at)) = false
+asks_collection (Some (A.Impact ns kind name at)) = false
 asks_collection None = false
 
 -- the same, where the line may be refused; NoWorker refuses only collections and dry runs

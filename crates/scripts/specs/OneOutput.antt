@@ -3,7 +3,8 @@ use Rattle.std.specs.Prelude.{◌≡◌, ℕ, List, map, Option, Some, None}
 use Rattle.meta_types.specs.Text.{Text}
 use Rattle.meta_types.specs.Rows.{State, empty_store}
 use Rattle.meta_types.specs.Sound.{IsSound}
-use Rattle.meta_types.specs.Questions.{Told, Tells}
+use Rattle.meta_types.specs.Impacts.{Impact}
+use Rattle.meta_types.specs.Questions.{Told, Tells, Foresees}
 use Rattle.scripts.specs.LineSteps.{Refusal, tells}
 use Rattle.scripts.specs.Lines.{lines_of}
 use Rattle.scripts.specs.Output.{Refusals, output_of, AreTrue}
@@ -13,6 +14,12 @@ abbrev pub EachTellingIsOne : Type 0
 EachTellingIsOne = (state : State) → IsSound state → (ns kind name at : Text) (told other : Told)
     → Tells state.records ns kind name at told → Tells state.records ns kind name at other
     → told ≡ other
+
+-- any store has one right answer to what would go without a row at a moment
+abbrev pub EachImpactIsOne : Type 0
+EachImpactIsOne = (state : State) (ns kind name at : Text) (impact other : Impact)
+    → Foresees state ns kind name at impact → Foresees state ns kind name at other
+    → impact ≡ other
 
 -- what a line is refused with, without an answer to its question
 abbrev pub refused_with : Option Refusal → Option Refusal

@@ -9,7 +9,8 @@ use Rattle.meta_types.specs.Ops.{least_fault}
 use Rattle.meta_types.specs.Requests.{outcome, removal_outcome}
 use Rattle.meta_types.specs.Steps.{answered, reported, refused, collect_fault, remove_collect_fault}
 use Rattle.meta_types.specs.Explanations.{question_fault}
-use Rattle.meta_types.specs.Questions.{explained, LineAnswer, of_event, of_question, Tells}
+use Rattle.meta_types.specs.Impacts.{impact_question_fault}
+use Rattle.meta_types.specs.Questions.{explained, foreseen, LineAnswer, of_event, of_question, Tells, Foresees}
 use Rattle.meta_types.specs.Sound.{IsSound}
 use Rattle.meta_types.specs.EachKind.{IsCollected}
 use Rattle.meta_types.specs.declared.fault.Fault.{Fault}
@@ -29,6 +30,7 @@ abbrev pub asked_fault : State → Asked → Option Fault
 asked_fault state (A.Request request) = least_fault (outcome state request)
 asked_fault state (A.Collect at dry) = if is_some (instant_of at) then collect_fault state.records 1 else Some InvalidArgument
 asked_fault state (A.Explain ns kind name at) = question_fault state.records ns kind name at
+asked_fault state (A.Impact ns kind name at) = impact_question_fault state ns kind name at
 asked_fault state (A.Remove removal at) = if is_some (instant_of at) then remove_collect_fault state removal 1 else Some InvalidArgument
 
 -- why a line is refused, if it is: it is too long, no request, or the store refuses its request
@@ -45,8 +47,8 @@ want None = None
 -- ---- what a line is answered
 
 -- The request is done. A collection's report, and the store that it leaves, are as `IsCollected` says. A dry run reports what a collection would, and leaves the store as it was.
--- A request is answered by its definition. The answer to a question explains its row, and changes
--- nothing.
+-- A request is answered by its definition. The answer to a question explains its row, or is what
+-- would go without it, and changes nothing.
 abbrev pub IsDone : State → Asked → LineAnswer → State → Type 0
 IsDone state (A.Collect at false) (of_event (reported report)) new =
     (moment : ℤ) × (instant_of at ≡ Some moment) × IsCollected state moment false report new
@@ -60,6 +62,8 @@ IsDone state (A.Request request) (of_event (answered reply)) new =
     (reply ≡ (outcome state request).reply) × (new ≡ (outcome state request).after)
 IsDone state (A.Explain ns kind name at) (of_question (explained told)) new =
     Tells state.records ns kind name at told × (new ≡ state)
+IsDone state (A.Impact ns kind name at) (of_question (foreseen impact)) new =
+    Foresees state ns kind name at impact × (new ≡ state)
 IsDone state asked answer new = ⊥
 
 -- A refused line changes nothing, and is refused for its own fault, or since memory ran out or a

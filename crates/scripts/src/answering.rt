@@ -8,14 +8,16 @@ ghost use Rattle.meta_types.specs.declared.fault.Fault.TheVariants.{TooLong as t
 ghost use Rattle.meta_types.specs.Questions.{of_event};
 ghost use Rattle.reply_line.specs.Replies.{answer_text};
 ghost use Rattle.reply_line.specs.Explained.{line_answer_text, told_of, told_text};
+ghost use Rattle.reply_line.specs.Foreseen.{impact_text};
 ghost use Rattle.scripts.specs.LineAnswers.{line_answer_of};
 ghost use Rattle.scripts.specs.LineSteps.{Refusal, line_step, reply_bytes, IsLineAnswer, IsTrueAt};
 ghost use Rattle.scripts.specs.Telling.{only_tells, IsSaid};
 
 use crate::line_answer::LineAnswer;
 use crate::serving::do_asked;
+use gc_report::Impact;
 use meta_types::{Explanation, Fault, Reply};
-use reply_line::{Answer, explanation_text, lent_text, refusal_text};
+use reply_line::{Answer, explanation_text, impact_text, lent_text, refusal_text};
 use request_line::read_line;
 use std::alloc::Global;
 use std::borrow::CowStr;
@@ -79,6 +81,7 @@ fn only_tells(answer: &LineAnswer) -> bool
         LineAnswer::Event(Answer::Reported(report)) => report.dry,
         LineAnswer::Event(Answer::Refused(_)) => false,
         LineAnswer::Explained(_) => true,
+        LineAnswer::Foreseen(_) => true,
     }
 }
 
@@ -90,6 +93,14 @@ fn told_text(alloc: Global, explanation: &Explanation) -> Result<CowStr<'static,
     Ok(CowStr::Owned(text))
 }
 
+fn foreseen_text(alloc: Global, impact: &Impact) -> Result<CowStr<'static, Global>, Fault>
+    ensures fault { Refuses result None }
+    ensures ok { IfOk result (λ text. cow_str_bytes text ≡ impact_text impact.now) }
+{
+    let text = impact_text(alloc, impact)?;
+    Ok(CowStr::Owned(text))
+}
+
 fn text_of(alloc: Global, answer: &LineAnswer) -> Result<CowStr<'static, Global>, Fault>
     ensures fault { Refuses result None }
     ensures ok { IfOk result (λ text. cow_str_bytes text
@@ -98,6 +109,7 @@ fn text_of(alloc: Global, answer: &LineAnswer) -> Result<CowStr<'static, Global>
     match answer {
         LineAnswer::Event(answer) => lent_text(alloc, answer),
         LineAnswer::Explained(explanation) => told_text(alloc, explanation),
+        LineAnswer::Foreseen(impact) => foreseen_text(alloc, impact),
     }
 }
 

@@ -1,7 +1,7 @@
 //! What holds of the definition of a script's output.
 ghost use Rattle.scripts.specs.EventLaws.{EachEventHasThisStep, NoEventHasAnotherStep};
 ghost use Rattle.scripts.specs.WholeScripts.{EachCollectionKeepsWhatIsReached, EachRunKeepsWhatIsReached};
-ghost use Rattle.scripts.specs.OneOutput.{EachTellingIsOne, EachScriptHasOneOutput};
+ghost use Rattle.scripts.specs.OneOutput.{EachTellingIsOne, EachImpactIsOne, EachScriptHasOneOutput};
 
 /// The events of an output are steps of the definitions, and each has this one alone.
 pub fn outputs_go_by_the_steps_of_the_definitions()
@@ -17,9 +17,10 @@ pub fn each_collection_keeps_what_is_reached()
     ensures runs { EachRunKeepsWhatIsReached }
 {}
 
-/// Each question has one right answer, since the store that it meets is sound; so a script has one
-/// output for the same refusals.
+/// Each question has one right answer: what explains a row, since the store that it meets is sound,
+/// and what would go without it. So a script has one output for the same refusals.
 pub fn each_script_has_one_output()
     ensures tellings { EachTellingIsOne }
+    ensures impacts { EachImpactIsOne }
     ensures output { EachScriptHasOneOutput }
 {}

@@ -2,7 +2,7 @@
 ghost use Rattle.std.specs.Prelude.{◌≡◌, ◌<◌, IfOk, IfErr, true};
 ghost use Rattle.meta_types.specs.Limits.{is_worker_count};
 ghost use Rattle.meta_types.specs.Steps.{answered, reported};
-ghost use Rattle.meta_types.specs.Questions.{explained, of_event, of_question};
+ghost use Rattle.meta_types.specs.Questions.{explained, foreseen, of_event, of_question};
 ghost use Rattle.reply_line.specs.Explained.{told_of};
 ghost use Rattle.request_line.specs.declared.asked.Asked.TheVariants as A;
 ghost use Rattle.scripts.specs.LineAnswers.{line_answer_of};
@@ -11,7 +11,7 @@ ghost use Rattle.scripts.specs.Served.{IsServed, IsRefused};
 use crate::line_answer::LineAnswer;
 use crate::text_gate::TextGate;
 use gc_labels::read_instant;
-use gc_report::Report;
+use gc_report::{Impact, Report};
 use meta_types::{Explanation, Fault, Object, RawText, Removal, Reply, Request, ShortName};
 use reply_line::Answer;
 use request_line::Asked;
@@ -122,6 +122,30 @@ fn explain<L: Ledger, K: Keeps, R: Threads + Wait + Sync>(
     locked.explain(rt, alloc, &ns, &object, at)
 }
 
+// Tells what would go at a moment without a row, where the texts are allowed.
+fn foresee<L: Ledger, K: Keeps, R: Threads + Wait + Sync>(
+    locked: &MemLocked<L, K>,
+    rt: &R,
+    alloc: Global,
+    ns: &RawText,
+    kind: &RawText,
+    resource: &RawText,
+    at: &RawText,
+) -> Result<Impact, Fault>
+    ensures ok { IfOk result (λ impact. IsServed locked.now.store.state
+        (A.Impact ns.now kind.now resource.now at.now)
+        (of_question (foreseen impact)) locked.now.store.state) }
+    ensures err { IfErr result (λ fault. IsRefused locked.now.store.state
+        (A.Impact ns.now kind.now resource.now at.now) fault locked.now.store.state) }
+{
+    let Some(at) = read_instant(at.text()) else {
+        return Err(Fault::InvalidArgument);
+    };
+    let ns = ShortName::read(alloc, ns.text())?;
+    let row = Object::read(alloc, kind.text(), resource.text())?;
+    locked.impact(rt, alloc, ns, row, at)
+}
+
 /// Does what a line asks for, with this number of workers where it is a collection.
 pub fn do_asked<L: Ledger, K: Keeps, R: Threads + Wait + Sync>(
     locked: &mut MemLocked<L, K>,
@@ -160,6 +184,15 @@ pub fn do_asked<L: Ledger, K: Keeps, R: Threads + Wait + Sync>(
         } => {
             let told = explain(locked, rt, alloc, &ns, &kind, &resource, &at)?;
             Ok(LineAnswer::Explained(told))
+        }
+        Asked::Impact {
+            ns,
+            kind,
+            resource,
+            at,
+        } => {
+            let found = foresee(locked, rt, alloc, &ns, &kind, &resource, &at)?;
+            Ok(LineAnswer::Foreseen(found))
         }
     }
 }

@@ -6,4 +6,4 @@ pub mod ToldAll
 pub mod Finishing
 pub mod Comparing
 pub mod PlanFaults
-pub mod ExplainFaults
+pub mod QuestionFaults

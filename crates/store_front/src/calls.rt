@@ -3,6 +3,7 @@
 pub(crate) mod apply;
 pub(crate) mod collect;
 pub(crate) mod explain;
+pub(crate) mod impact;
 pub(crate) mod in_memory;
 pub(crate) mod plan_copy;
 pub(crate) mod records;

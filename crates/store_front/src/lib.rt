@@ -11,6 +11,7 @@ mod session;
 mod store;
 
 pub use calls::explain::Explained;
+pub use calls::impact::Foreseen;
 pub use calls::plan_copy::Planned;
 pub use event::entry::{Entry, Told};
 pub use event::event::{Answer, Event};

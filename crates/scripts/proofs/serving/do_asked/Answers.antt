@@ -1,6 +1,6 @@
 use Rattle.std.proofs.Common.{sym, subst}
 use Rattle.meta_types.specs.Steps.{reported}
-use Rattle.meta_types.specs.Questions.{explained, of_event, of_question}
+use Rattle.meta_types.specs.Questions.{explained, foreseen, of_event, of_question}
 use Rattle.request_line.specs.declared.asked.Asked.{Asked}
 use Rattle.reply_line.specs.Explained.{told_of}
 use Rattle.scripts.specs.Served.{IsServed, IsRefused}
@@ -27,8 +27,7 @@ returns-in_ok-report-in-Remove-clause-ok g c =
 pub returns-in_err-told-in-Explain-clause-err : goal.returns-in_err-told-in-Explain-clause-err
 returns-in_err-told-in-Explain-clause-err g c =
     let state = c.args.locked.now.store.state in
-    passed_on c.from_residual-in_err-told-in-Explain.result _
-    (λ fault. IsRefused state c.args.asked.now fault state)
+    passed_on c.from_residual-in_err-told-in-Explain.result _ _
     c.from_residual-in_err-told-in-Explain.ensures.1
     (subst (λ (asked : Asked). IsRefused state asked c.in_err-told-in-Explain.field-0.0 state)
     (sym c.in-Explain.is) c.in_err-told-in-Explain.ensures.err)
@@ -40,3 +39,20 @@ returns-in_ok-told-in-Explain-clause-ok g c =
     subst (λ (asked : Asked). IsServed state asked
     (of_question (explained (told_of c.in_ok-told-in-Explain.told))) state)
     (sym c.in-Explain.is) c.in_ok-told-in-Explain.ensures.ok
+
+-- the question is refused
+pub returns-in_err-found-in-Impact-clause-err : goal.returns-in_err-found-in-Impact-clause-err
+returns-in_err-found-in-Impact-clause-err g c =
+    let state = c.args.locked.now.store.state in
+    passed_on c.from_residual-in_err-found-in-Impact.result _ _
+    c.from_residual-in_err-found-in-Impact.ensures.1
+    (subst (λ (asked : Asked). IsRefused state asked c.in_err-found-in-Impact.field-0.0 state)
+    (sym c.in-Impact.is) c.in_err-found-in-Impact.ensures.err)
+
+-- what would go without the row
+pub returns-in_ok-found-in-Impact-clause-ok : goal.returns-in_ok-found-in-Impact-clause-ok
+returns-in_ok-found-in-Impact-clause-ok g c =
+    let state = c.args.locked.now.store.state in
+    subst (λ (asked : Asked). IsServed state asked
+    (of_question (foreseen c.in_ok-found-in-Impact.found)) state)
+    (sym c.in-Impact.is) c.in_ok-found-in-Impact.ensures.ok

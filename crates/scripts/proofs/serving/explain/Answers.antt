@@ -3,35 +3,39 @@ use Rattle.meta_types.specs.Text.{is_short_name}
 use Rattle.meta_types.specs.Time.{instant_of}
 use Rattle.meta_types.specs.declared.fault.Fault.TheVariants.{InvalidArgument}
 use Rattle.scripts.proofs.LineAnswers.{passed_on}
-use Rattle.scripts.proofs.Asking.{allowed, no_moment, no_namespace, no_object, call_ok, call_err}
+use Rattle.scripts.proofs.Asking.{allowed, explain_asks, no_moment, no_namespace, no_object, explain_ok, explain_err}
 use Rattle.scripts.proofs.serving.explain.Goals as goal
 
 -- a moment that can't be read
 pub returns-in_default-clause-err : goal.returns-in_default-clause-err
 returns-in_default-clause-err g c =
-    no_moment c.args.locked.now.store.state c.args.ns.now c.args.kind.now c.args.resource.now
-    c.args.at.now (ap instant_of (sym c.text.ensures) ∙ sym c.in_default.ensures.moment)
+    let asks = explain_asks c.args.locked.now.store.state c.args.ns.now c.args.kind.now
+    c.args.resource.now c.args.at.now in
+    no_moment _ _ _ _ _ _ _ asks
+    (ap instant_of (sym c.text.ensures) ∙ sym c.in_default.ensures.moment)
 
 -- a namespace's text that isn't allowed
 pub returns-in_err-ns-clause-err : goal.returns-in_err-ns-clause-err
 returns-in_err-ns-clause-err g c =
+    let asks = explain_asks c.args.locked.now.store.state c.args.ns.now c.args.kind.now
+    c.args.resource.now c.args.at.now in
     passed_on c.from_residual.result _ _ c.from_residual.ensures.1
-    (no_namespace c.args.locked.now.store.state c.args.ns.now c.args.kind.now
-    c.args.resource.now c.args.at.now _ (rw c.text-2.ensures at c.in_err-ns.ensures.fault))
+    (no_namespace _ _ _ _ _ _ _ asks _ (rw c.text-2.ensures at c.in_err-ns.ensures.fault))
 
 -- a row's type or name that isn't
 pub returns-in_err-object-clause-err : goal.returns-in_err-object-clause-err
 returns-in_err-object-clause-err g c =
+    let asks = explain_asks c.args.locked.now.store.state c.args.ns.now c.args.kind.now
+    c.args.resource.now c.args.at.now in
     passed_on c.from_residual-in_err-object.result _ _ c.from_residual-in_err-object.ensures.1
-    (no_object c.args.locked.now.store.state c.args.ns.now c.args.kind.now
-    c.args.resource.now c.args.at.now _
+    (no_object _ _ _ _ _ _ _ asks _
     (rw (c.text-3.ensures, c.text-4.ensures) at c.in_err-object.ensures.fault))
 
 -- the store's answer explains the row
 pub returns-clause-ok : goal.returns-clause-ok
 returns-clause-ok g c =
     let same = c.in_ok-ns.ensures.ok ∙ c.text-2.ensures in
-    call_ok c.args.locked.now.store.state c.args.ns.now c.args.kind.now c.args.resource.now
+    explain_ok c.args.locked.now.store.state c.args.ns.now c.args.kind.now c.args.resource.now
     c.args.at.now _ c.in-Some.at.0
     (allowed (is_short_name c.args.ns.now) InvalidArgument
     (rw c.text-2.ensures at c.in_ok-ns.ensures.fault))
@@ -43,7 +47,7 @@ returns-clause-ok g c =
 pub returns-clause-err : goal.returns-clause-err
 returns-clause-err g c =
     let same = c.in_ok-ns.ensures.ok ∙ c.text-2.ensures in
-    call_err c.args.locked.now.store.state c.args.ns.now c.args.kind.now c.args.resource.now
+    explain_err c.args.locked.now.store.state c.args.ns.now c.args.kind.now c.args.resource.now
     c.args.at.now _ c.in-Some.at.0
     (allowed (is_short_name c.args.ns.now) InvalidArgument
     (rw c.text-2.ensures at c.in_ok-ns.ensures.fault))

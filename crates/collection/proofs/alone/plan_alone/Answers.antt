@@ -1,0 +1,35 @@
+use Rattle.std.proofs.Common.{◌∙◌, refl, length}
+use Rattle.meta_types.specs.Rows.{Records}
+use Rattle.table_sweep.specs.InKeyOrder.{records_in_key_order}
+use Rattle.collection.specs.Arrived.{lent_in}
+use Rattle.collection.specs.Stores.{records_in}
+use Rattle.collection.proofs.Bridges.{plan_of_lent, large_as}
+use Rattle.collection.proofs.alone.plan_alone.Goals as goal
+
+-- rows that are lent as they came are the records' in order
+pub returns-clause-ok : goal.returns-clause-ok
+returns-clause-ok g c =
+    let kept = c.args.records.now in
+    let lent : Records = lent_in c.came-came.result c.came-leases.result.now kept.profile in
+    plan_of_lent lent (records_in kept) c.count_ns-namespaces.result
+    (length kept.tables.namespaces) _ c.args.at.0 c.in_ok-plan.plan
+    (record {
+      images = c.came-came.ensures.images;
+      containers = c.came-came.ensures.containers;
+      content = c.came-came.ensures.content;
+      ingests = c.came-came.ensures.ingests;
+      snapshots = c.came-came.ensures.snapshots;
+      leases = c.came-leases.ensures;
+      profile = refl;
+    })
+    c.count_ns-namespaces.ensures
+    c.in_ok-plan.ensures.ok
+
+-- as many rows came as there are in order
+pub plan_came-requires-after_bounds : goal.plan_came-requires-after_bounds
+plan_came-requires-after_bounds g c κs within =
+    let kept = c.args.records.now in
+    let lent : Records = lent_in c.came-came.result c.came-leases.result.now kept.profile in
+    large_as (records_in_key_order lent) (records_in kept)
+    c.came-came.ensures.content c.came-came.ensures.ingests c.came-came.ensures.snapshots
+    ∙ c.requires

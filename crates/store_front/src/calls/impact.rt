@@ -1,0 +1,96 @@
+//! What would go without a row: questions, which are no entries.
+ghost use Rattle.std.specs.Prelude.{◌≡◌, IfOk, IfErr};
+ghost use Rattle.meta_types.specs.Faults.{Refuses};
+ghost use Rattle.meta_types.specs.Histories.{IsLegal};
+ghost use Rattle.meta_types.specs.Impacts.{impact_fault, removed, IsImpact};
+ghost use Rattle.meta_types.specs.Rows.{State as Kept};
+ghost use Rattle.store_front.specs.Parts.{IsPart};
+ghost use Rattle.store_front.specs.Questions.{ImpactFails};
+
+use crate::calls::plan_copy::Copied;
+use crate::history::base::History;
+use crate::keeps::Keeps;
+use crate::locked::Locked;
+use crate::session::Session;
+use crate::store::Store;
+use back_model::{BlobBackend, IngestBackend, SnapBackend};
+use gc_report::Impact;
+use meta_types::{Fault, Instant, Object, ShortName};
+use request_core::State;
+use std::alloc::Global;
+use std::sync::Wait;
+use std::sync::ledger::Ledger;
+use std::thread::Threads;
+
+/// What would go without a row, and the history of the store that it was asked of.
+#[derive(Drop)]
+pub struct Foreseen {
+    pub impact: Impact,
+    pub cut: History,
+}
+
+// What would go without a row of this state.
+fn impact_of<R: Threads + Sync, S: SnapBackend, B: BlobBackend, I: IngestBackend>(
+    rt: &R,
+    alloc: Global,
+    state: &State<S, B, I>,
+    ns: ShortName,
+    object: Object,
+    at: Instant,
+) -> Result<Impact, Fault>
+    ensures fault { Refuses result (impact_fault state.now.state ns object) }
+    ensures ok { IfOk result (λ impact. IsImpact state.now.state
+        (removed state.now.state ns object).after at.0 impact) }
+{
+    let State { records, backends } = state;
+    collection::impact(rt, alloc, records, backends, ns, object, at)
+}
+
+impl<L: Ledger, S: SnapBackend, B: BlobBackend, I: IngestBackend, K: Keeps> Locked<L, S, B, I, K> {
+    /// What would go at a moment without a row. The store stays as it is.
+    pub fn impact<R: Threads + Sync>(
+        &self,
+        rt: &R,
+        alloc: Global,
+        ns: ShortName,
+        object: Object,
+        at: Instant,
+    ) -> Result<Impact, Fault>
+        ensures fault { Refuses result (impact_fault self.now.store.state ns object) }
+        ensures ok { IfOk result (λ impact. IsImpact self.now.store.state
+            (removed self.now.store.state ns object).after at.0 impact) }
+    {
+        impact_of(rt, alloc, &self.state, ns, object, at)
+    }
+}
+
+impl<L: Ledger, S: SnapBackend, B: BlobBackend, I: IngestBackend> Store<L, S, B, I> {
+    /// What would go at a moment without a row. Records, lists and history are copied under one hold
+    /// of the lock; the question is answered after its release. It is no entry.
+    pub fn impact<R: Threads + Wait + Sync>(
+        &self,
+        rt: &R,
+        alloc: Global,
+        session: &Session<L>,
+        ns: ShortName,
+        object: Object,
+        at: Instant,
+    ) -> Result<Foreseen, Fault>
+        ensures own { IfOk result (λ f. IsPart f.cut.log session.now) }
+        ensures foreseen { IfOk result (λ f. (state : Kept) × IsLegal f.cut.base f.cut.log state
+            × IsImpact state (removed state ns object).after at.0 f.impact) }
+        ensures fault { IfErr result (λ f. ImpactFails f ns object session.now) }
+    {
+        let Copied { cut, now } = self.inner.lock(rt).copies(alloc, session)?;
+        let impact = collection::impact_of_lists(
+            rt,
+            alloc,
+            &now.records,
+            &now.lists,
+            ns,
+            object,
+            at,
+        )?;
+        Ok(Foreseen { impact, cut })
+    }
+}
