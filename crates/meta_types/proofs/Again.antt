@@ -120,7 +120,7 @@ module _ (records : Records) (at : ℤ) (reached : Thing → Bool) where
   path_was thing [] p = (was_there thing p.0, p.1)
   path_was thing (before ∷ path) p = (was_there thing p.0, p.1, path_was before path p.2)
 
-  -- so the test tells of the collected store too
+  -- so the test tells where the paths of the collected store end, too
   pub tells_left : TellsReached records at reached → TellsReached left at reached
   tells_left tells = record {
     each = λ thing c. (

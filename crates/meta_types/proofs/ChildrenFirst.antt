@@ -1,4 +1,5 @@
--- A report names the snapshots of each snapshotter so that no parent stands before its child, and with a parent all its children.
+-- A report names the snapshots of each snapshotter so that no parent stands before its child, and
+-- with a parent all its children.
 use Rattle.std.proofs.Common.{◌≡◌, ℕ, Bool, true, false, not, List, [], ◌∷◌, map, refl, sym, ap, ◌∙◌, subst, ℤ, inl, inr}
 use Rattle.std.specs.Prelude.{All, AllPairs, Contains, filter, find, Option, Some, None, IfSome, bytes_eq, nat_lt, ◌||◌, ◌&&◌, ◌==◌}
 use Rattle.std.specs.Ordering.{is_lt}

@@ -1,10 +1,14 @@
--- An `==` that a derive writes for an enum answers whether two values are equal, where that of each variant's fields does.
+-- An `==` that a derive writes for an enum answers whether two values are equal, where that of each
+-- variant's fields does.
 --     Test A                 a comparison that answers whether two values are equal
 --     text, number, maybe    of a text, a number, an option
---     none, one, ◌⊗◌         of a variant's fields: of no field, of the last one, and of one before others
---     ◌⊕◌                    the tests of one variant more, before those of the others; `tt` ends them
+--     none, one, ◌⊗◌         of a variant's fields: of no field, of the last one, and of one before
+--                            others
+--     ◌⊕◌                    the tests of one variant more, before those of the others; `tt` ends
+--                            them
 --     three                  of a tuple of three; `⊗` is of a tuple of two
---     fields, tags, variants      of a struct, of an enum with no field, of an enum by a list of the tests of its variants' fields
+--     fields, tags, variants of a struct, of an enum with no field, of an enum by a list of the
+--                            tests of its variants' fields
 --     told_by                what a test of two values says
 use Rattle.std.proofs.Common.{◌≡◌, ◌∙◌, sym, ap, refl, ℕ, ℤ, ◌==◌, Bool, true, false, ◌&&◌, List, [], ◌∷◌, Option, Some, None, bytes_eq}
 use Rattle.std.specs.Bool.{Decides}

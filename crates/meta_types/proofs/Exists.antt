@@ -48,7 +48,7 @@ module _ (records : Records) (at : ℤ) where
         (in_filter (is_found records.profile at (passes (suc n) records at)) (things records) one.0 both.0 (grows n one.0 both.1)) one.2))
   ]
 
-  -- some pass adds nothing, or so many passes have found so many things
+  -- some pass adds nothing, or `n` passes have found at least `n` things
   stops : (n : ℕ) → ((k : ℕ) × (passes (suc k) records at ≡ passes k records at)) ⊎ (n ≤ length (passes n records at))
   stops zero = inr (omega arith)
   stops (suc zero) = first (passes 1 records at) refl

@@ -1,4 +1,5 @@
--- Where numbers fall along parents, the ancestors of a snapshot are all there: the parent of an ancestor is one, and a child is deeper than its parent.
+-- Where numbers fall along parents, the ancestors of a snapshot are all there: the parent of an
+-- ancestor is one, and a child is deeper than its parent.
 use Rattle.std.proofs.Common.{◌≡◌, ℕ, zero, suc, ◌<◌, ◌≤◌, true, List, [], ◌∷◌, length, refl, sym, ap, ◌∙◌, arith, subst, inl, inr}
 use Rattle.std.specs.Prelude.{AllPairs, Contains, filter, find, nat_lt, Option, Some, None, IsTrue, option_and_then, bytes_eq, ◌&&◌}
 use Rattle.std.specs.Option.{option_map_or}

@@ -14,7 +14,7 @@ module _ (records : Records) (at : ℤ) where
   same_passes zero = refl
   same_passes (suc n) = ap (pass_over records at) (same_passes n)
 
-  -- a pass adds nothing, or so many passes have found more things than so many
+  -- pass `n + 1` adds nothing, or it has found more than `n` things
   stops_at : (n : ℕ) → (passes (suc n) records at ≡ passes n records at) ⊎ (n < length (passes (suc n) records at))
   stops_at zero = first (passes 1 records at) refl
     where

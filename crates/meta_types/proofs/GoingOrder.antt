@@ -1,4 +1,5 @@
--- Snapshots go in an order: by snapshotter, the deepest first, then by number. Of two that differ one goes before the other, and not the other way.
+-- Snapshots go in an order: by snapshotter, the deepest first, then by number. Of two that differ
+-- one goes before the other, and not the other way.
 use Rattle.std.proofs.Common.{◌≡◌, true, false, refl, sym, ap, ◌∙◌, List, inl, inr}
 use Rattle.std.specs.Prelude.{◌&&◌, ◌||◌}
 use Rattle.std.specs.declared.cmp.Ordering.{Ordering}

@@ -1,4 +1,5 @@
--- The backend that a collection leaves is sound: what a row that stays owns stays, and so does the parent of a snapshot that stays.
+-- The backend that a collection leaves is sound: what a row that stays owns stays, and so does the
+-- parent of a snapshot that stays.
 use Rattle.std.proofs.Common.{◌≡◌, ℕ, ◌<◌, Bool, true, List, length, refl, sym, ap, ◌∙◌, arith, subst, ℤ, inl, inr}
 use Rattle.std.specs.Prelude.{Contains, filter, find, Option, Some, None, IfSome, IsTrue, option_and_then, bytes_eq, ◌&&◌, ◌==◌}
 use Rattle.std.specs.List.{list_any}

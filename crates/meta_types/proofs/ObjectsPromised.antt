@@ -1,4 +1,5 @@
--- What rows own stays in the backend, and what none owns goes: the promises on snapshots and on the objects of ingests.
+-- What rows own stays in the backend, and what none owns goes: the promises on snapshots and on the
+-- objects of ingests.
 use Rattle.std.proofs.Common.{◌≡◌, ℕ, Bool, true, false, not, List, refl, sym, ap, ◌∙◌, subst, ℤ}
 use Rattle.std.specs.Prelude.{filter, bytes_eq, ◌&&◌, ◌==◌}
 use Rattle.std.specs.List.{list_any}

@@ -1,4 +1,5 @@
--- Two orders, of which the second tells where the first doesn't, are one order; and the order of numbers.
+-- Two orders, of which the second tells where the first doesn't, are one
+-- order; and the order of numbers.
 use Rattle.std.proofs.Common.{◌≡◌, ℕ, Bool, true, false, refl, sym, ap, ◌∙◌, cond}
 use Rattle.std.specs.Prelude.{◌==◌, nat_lt}
 use Rattle.std.specs.declared.cmp.Ordering.{Ordering}

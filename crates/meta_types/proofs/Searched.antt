@@ -87,7 +87,8 @@ module _ {Row : Type 0} (key_of : Row → Key) (key : Key) where
       ∙ not_key (key_of (get_or rows k d)) (key_of (get_or rows i d)) (before_later key_of rows o k i d lt within))
       (λ _. at_key (get_or rows i d) e)
 
-  -- between the keys that compare less and those that compare greater is the place where the key goes
+  -- between the keys that compare less and those that compare greater is
+  -- the place where the key goes
   pub place_absent : (rows : List Row) (i : ℕ) (d : Row) → i ≤ length rows
       → ((k : ℕ) → k < i → key_cmp key_of key (get_or rows k d) ≡ Less) → ((k : ℕ) → i ≤ k → k < length rows → key_cmp key_of key (get_or rows k d) ≡ Greater)
       → position_or_len (λ row. is_before key (key_of row)) rows ≡ i

@@ -1,4 +1,5 @@
--- A collection leaves a sound store: each list of it is a filter of a sound list, and keeps what the rows that stay want.
+-- A collection leaves a sound store: each list of it is a filter of a sound list, and keeps what
+-- the rows that stay want.
 use Rattle.std.proofs.Common.{◌≡◌, ℕ, ◌<◌, Bool, true, List, sym, subst, ℤ}
 use Rattle.std.specs.Prelude.{Contains, filter, Some, None, IfSome, IsTrue, bytes_eq, ◌==◌}
 use Rattle.std.specs.List.{list_any}

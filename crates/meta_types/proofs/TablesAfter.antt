@@ -57,7 +57,8 @@ above_is rows row name above e =
     }
 
 module _ (row : SnapRow) (name : Text) (e : row.parent ≡ Some name) (rows : List SnapRow) (above : SnapRow) (is : IsAbove rows row name above) where
-  -- the parent has the snapshotter and the name that the row gives, so it is the parent in either mode
+  -- the parent has the snapshotter and the name that the row gives, so it
+  -- is the parent in either mode
   match_up : (bytes_eq above.key.snapshotter row.key.snapshotter && bytes_eq above.key.name name) ≡ true
   match_up = and_from (bytes_eq above.key.snapshotter row.key.snapshotter) (bytes_eq above.key.name name)
       ((bytes_eq-Decides above.key.snapshotter row.key.snapshotter).1 (sym is.snapshotter)) ((bytes_eq-Decides above.key.name name).1 (sym is.named))

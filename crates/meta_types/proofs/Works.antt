@@ -1,4 +1,5 @@
--- How a worked script is shown: where one pass more finds nothing, the report and the store so computed are those of a collection.
+-- How a worked script is shown: where one pass more finds nothing, the report and the store so
+-- computed are those of a collection.
 use Rattle.std.proofs.Common.{◌≡◌, ℕ, suc, Bool, true, false, not, ℤ, refl}
 use Rattle.std.specs.Prelude.{◌||◌, ◌&&◌, ◌==◌, IsTrue, bytes_eq, filter}
 use Rattle.std.specs.List.{list_any, list_all}
@@ -12,7 +13,7 @@ use Rattle.meta_types.specs.Reports.{Report, report_of, Collects}
 use Rattle.meta_types.proofs.Closure.{is_found, passes, passes_are_reached, tells_if_closed, closed_from_pass}
 use Rattle.meta_types.proofs.NoFailure.{no_failure}
 
--- the test that so many passes give
+-- the test that `n` passes give
 abbrev pub found_in : State → ℤ → ℕ → Thing → Bool
 found_in state at n = is_found state.records.profile at (passes n state.records at)
 
@@ -62,7 +63,8 @@ fits tables back failed h = record {
       (AllPass-from_list_all (λ snap. not (is_failed failed snap) || not (is_ancestor_of_one back.snapshots failed.snapshots snap)) back.snapshots h.apart);
 }
 
--- where one pass more adds nothing, and these removals may have failed, report and store are those of a collection
+-- where one pass more adds nothing, and these removals may have failed, report and
+-- store are those of a collection
 pub collects_but : (state : State) (at : ℤ) (n : ℕ) (failed : BackNames) (report : Report) (new : State) → passes (suc n) state.records at ≡ passes n state.records at
     → Fits (collected_records at (found_in state at n) state.records).tables state.backends failed
     → report ≡ report_of state at (found_in state at n) failed false → new ≡ collected state at (found_in state at n) failed → Collects state at failed report new

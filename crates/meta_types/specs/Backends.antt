@@ -1,4 +1,5 @@
--- Which backend objects stay, and in which order the others go. Ours, unless a source stands beside.
+-- Which backend objects stay, and in which order the others go. Ours,
+-- unless a source stands beside.
 use Rattle.std.specs.Prelude.{◌≡◌, ℕ, suc, zero, Bool, false, not, ◌&&◌, ◌||◌, ◌==◌, nat_lt, List, [], ◌∷◌, map, length, filter, find, bytes_eq, IsTrue, option_and_then, All}
 use Rattle.std.specs.List.{list_any}
 use Rattle.std.specs.Option.{option_map_or}
@@ -66,7 +67,8 @@ blob_stays tables failed digest = owns_blob tables digest || list_any (bytes_eq 
 abbrev pub ingest_object_stays : Tables → BackNames → ℕ → Bool
 ingest_object_stays tables failed number = owns_ingest tables number || list_any (λ other. other == number) failed.ingests
 
--- a snapshot's object stays where these tables own it, its removal failed, or that of a descendant failed (containerd snapshots service: a parent isn't removed before its children)
+-- a snapshot's object stays where these tables own it, its removal failed, or that of a descendant
+-- failed (containerd snapshots service: a parent isn't removed before its children)
 abbrev pub snapshot_object_stays : Tables → List BackSnap → BackNames → BackSnap → Bool
 snapshot_object_stays tables snapshots failed snap = owns_snapshot tables snap
     || list_any (λ name. is_named name snap) failed.snapshots || is_ancestor_of_one snapshots failed.snapshots snap
@@ -78,7 +80,8 @@ collected_backends tables failed back = record {
   ingests = filter (ingest_object_stays tables failed) back.ingests;
 }
 
--- snapshots are removed by snapshotter, then the deepest first, then by number (children before parents: containerd snapshots service)
+-- snapshots are removed by snapshotter, then the deepest first, then by number (children before
+-- parents: containerd snapshots service)
 abbrev pub goes_before : List BackSnap → BackSnap → BackSnap → Bool
 goes_before snapshots a b = is_lt (text_cmp a.snapshotter b.snapshotter)
     || bytes_eq a.snapshotter b.snapshotter && (nat_lt (depth_of snapshots b) (depth_of snapshots a)
@@ -92,7 +95,8 @@ removed_objects tables failed back = record {
   snapshots = map object_name (in_order (goes_before back.snapshots) (filter (λ snap. not (snapshot_object_stays tables back.snapshots failed snap)) back.snapshots));
 }
 
--- These removals may have failed: objects that nothing owns, each once and in the order of a report.
+-- These removals may have failed: objects that nothing owns, each once
+-- and in the order of a report.
 -- No snapshot among them is an ancestor of another: where a removal fails, no ancestor is tried.
 pub record IsFailure (tables : Tables) (back : BackLists) (failed : BackNames) : Type 0 where
   pub blobs : failed.blobs ≡ filter (λ digest. list_any (bytes_eq digest) failed.blobs) (removed_objects tables no_objects back).blobs

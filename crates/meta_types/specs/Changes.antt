@@ -54,7 +54,8 @@ hold_in_lease key resource leases = change_row lease_key key (λ row. record row
 abbrev pub release_in_lease : Key → Resource → List LeaseRow → List LeaseRow
 release_in_lease key resource leases = change_row lease_key key (λ row. record row { resources = remove_row resource_key (resource_key resource) row.resources }) leases
 
--- the lease that a request names, if one, holds the resource (containerd leases service: what is made under a lease is held by it)
+-- the lease that a request names, if one, holds the resource (containerd leases service: what is
+-- made under a lease is held by it)
 abbrev pub hold_under : Text → Option Text → Resource → List LeaseRow → List LeaseRow
 hold_under ns lease resource leases = option_map_or (λ id. hold_in_lease (ns ∷ id ∷ []) resource leases) lease leases
 
@@ -90,7 +91,8 @@ with_ingest_object state = record {
 abbrev pub stands_before : BackSnap → BackSnap → Bool
 stands_before a b = is_lt (text_cmp a.snapshotter b.snapshotter) || bytes_eq a.snapshotter b.snapshotter && nat_lt a.number b.number
 
--- the backend holds a snapshot under the next number, which is used now, over the object of its parent
+-- the backend holds a snapshot under the next number, which is used now,
+-- over the object of its parent
 abbrev pub with_snapshot_object : Text → Option ℕ → State → State
 with_snapshot_object snapshotter parent state = record {
   records = record state.records { next = state.records.next + 1 };

@@ -33,13 +33,15 @@ is_marked_root labels = has_label labels root_key
 abbrev pub is_flat : LabelList → Bool
 is_flat labels = has_label labels flat_key
 
--- `containerd.io/gc.ref.content`, alone or followed by `.` (containerd garbage-collection.md) or `/`, and anything
+-- `containerd.io/gc.ref.content`, alone or followed by `.` (containerd garbage-collection.md) or
+-- `/`, and anything
 abbrev pub is_content_key : Text → Bool
 is_content_key key = bytes_eq key content_ref_key
     || begins_with (content_ref_key ++ codes ".") key
     || begins_with (content_ref_key ++ codes "/") key
 
--- the snapshotter that a key names: behind the prefix (containerd garbage-collection.md) up to the first `/` or the end
+-- the snapshotter that a key names: behind the prefix (containerd garbage-collection.md) up to the
+-- first `/` or the end
 abbrev pub snapshotter_in : Text → Option Text
 snapshotter_in key =
     if begins_with snapshot_prefix key

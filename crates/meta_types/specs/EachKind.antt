@@ -1,4 +1,6 @@
--- What a collection does to each kind of rows and objects, as an operator reads it: which stay, which are removed and named, and what the report counts. Each statement is the contract of a function of the module `laws`. Ours, unless a source stands beside.
+-- What a collection does to each kind of rows and objects, as an operator reads it: which stay,
+-- which are removed and named, and what the report counts. Each statement is the contract of a
+-- function of the module `laws`. Ours, unless a source stands beside.
 use Rattle.std.specs.Prelude.{◌≡◌, ◌↔◌, ℕ, Bool, true, false, List, ℤ, Contains, IsTrue}
 use Rattle.meta_types.specs.Text.{Text}
 use Rattle.meta_types.specs.Rows.{LeaseRow, State, BackSnap}
@@ -19,8 +21,11 @@ pub record Divides {Row Name : Type 0} (name_of : Row → Name) (Stays : Row →
   pub named : (name : Name) → Contains gone name ↔ ((row : Row) × Contains old row × (Stays row → ⊥) × (name_of row ≡ name))
   pub apart : (row : Row) → Contains left row → Contains gone (name_of row) → ⊥
 
--- Content, snapshots and ingests stay exactly where a path of references leads to them (containerd garbage-collection.md).
--- Images and leases stay up to their expiry (images in profile 2), containers and namespaces always. The report names the removed rows, and counts those that stay and those that paths lead to.
+-- Content, snapshots and ingests stay exactly where a path of references leads to them (containerd
+-- garbage-collection.md).
+-- Images and leases stay up to their expiry (images in profile 2), containers and
+-- namespaces always. The report names the removed rows, and counts those that stay
+-- and those that paths lead to.
 pub record CollectsRows (state : State) (at : ℤ) (report : Report) (left : State) : Type 0 where
   pub content : Divides (λ (row : ContentRow). (row.ns, row.digest)) (λ (row : ContentRow). (mode : Mode) × IsReached state.records at (content mode row)) state.records.tables.content left.records.tables.content report.removed.content
   pub snapshots : Divides (λ (row : SnapRow). (row.key.ns, row.key.snapshotter, row.key.name)) (λ (row : SnapRow). (mode : Mode) × IsReached state.records at (snapshot mode row)) state.records.tables.snapshots left.records.tables.snapshots report.removed.snapshots
@@ -35,7 +40,8 @@ pub record CollectsRows (state : State) (at : ℤ) (report : Report) (left : Sta
   pub scanned : (reached : Thing → Bool) → TellsReached state.records at reached → report.scanned ≡ scanned_of reached state.records
   pub ignored : (report.ignored ≡ ignored_of state.records) × (report.ignored_images ≡ ignored_images_of state.records)
 
--- where nothing failed, an object of the backend stays exactly while a row that is left owns it, and the report names the others (containerd content-flow.md, snapshots service)
+-- where nothing failed, an object of the backend stays exactly while a row that is left owns it,
+-- and the report names the others (containerd content-flow.md, snapshots service)
 pub record CollectsObjects (state : State) (report : Report) (left : State) : Type 0 where
   pub blobs : Divides (λ (digest : Text). digest) (λ (digest : Text). IsTrue (owns_blob left.records.tables digest)) state.backends.blobs left.backends.blobs report.backend.blobs
   pub snapshots : Divides object_name (λ (snap : BackSnap). IsTrue (owns_snapshot left.records.tables snap)) state.backends.snapshots left.backends.snapshots report.backend.snapshots

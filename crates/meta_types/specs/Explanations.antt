@@ -1,4 +1,5 @@
--- What an explanation says: the one shortest path of references that keeps a row. Ours, unless a source stands beside.
+-- What an explanation says: the one shortest path of references that keeps a row. Ours, unless a
+-- source stands beside.
 use Rattle.std.specs.Prelude.{◌≡◌, ◌≤◌, ◌⊎◌, ℕ, ℤ, pos, neg_ℤ, Bool, false, not, ◌&&◌, ◌||◌, List, [], ◌∷◌, ◌++◌, length, Option, Some, None, is_some, option_map, bytes_eq, codes, if◌then◌else◌, IsTrue}
 use Rattle.std.specs.List.{list_any}
 use Rattle.std.specs.Option.{option_map_or}
@@ -98,18 +99,20 @@ goes_before a b = is_before (thing_key a) (thing_key b)
 abbrev pub IsFirst : (Thing → Type 0) → Thing → Type 0
 IsFirst these thing = (other : Thing) → these other → IsTrue (goes_before other thing) → ⊥
 
--- a path with so many things before its last ends in the thing
+-- a path with this number of things before its last one ends in the thing
 abbrev pub EndsPath : Records → ℤ → ℕ → Thing → Type 0
 EndsPath records at long thing = (path : List Thing) × IsPath records at thing path × (length path ≡ long)
 
--- back from the last thing, each is the first of those that reference the one behind it, at the end of a path as long
+-- back from the last thing, each is the first of those that reference the one behind it, at the end
+-- of a path as long
 abbrev pub IsFirstBack : Records → ℤ → Thing → List Thing → Type 0
 IsFirstBack records at last [] = Unit {0}
 IsFirstBack records at last (before ∷ path) =
     IsFirst (λ other. IsTrue (has_edge other last) × EndsPath records at (length path) other) before
     × IsFirstBack records at before path
 
--- no path to a thing that is asked for has fewer things; of the things at the end of such a path this is the first, and so is each before it
+-- No path to a thing that is asked for has fewer things. Of the things at the end of a path as
+-- short, the last is the first in the order above, and so is each before it.
 pub record IsFirstPath (records : Records) (at : ℤ) (asked : Thing → Bool) (last : Thing) (path : List Thing) : Type 0 where
   pub this : IsTrue (asked last)
   pub leads : IsPath records at last path
@@ -117,7 +120,8 @@ pub record IsFirstPath (records : Records) (at : ℤ) (asked : Thing → Bool) (
   pub first : IsFirst (λ other. IsTrue (asked other) × EndsPath records at (length path) other) last
   pub first_back : IsFirstBack records at last path
 
--- the things from the last one back to the root; none exactly where no path ends in a thing that is asked for
+-- the things from the last one back to the root; none exactly where no path ends
+-- in a thing that is asked for
 abbrev pub Explains : Records → ℤ → (Thing → Bool) → List Thing → Type 0
 Explains records at asked [] = (thing : Thing) (path : List Thing) → IsTrue (asked thing) → IsPath records at thing path → ⊥
 Explains records at asked (last ∷ path) = IsFirstPath records at asked last path
@@ -137,7 +141,8 @@ mode_of (content mode row) = Some mode
 mode_of (snapshot mode row) = Some mode
 mode_of _ = None
 
--- the expiry label of a lease, in profile 2 of an image too, as it is stored (containerd garbage-collection.md, `containerd.io/gc.expire`)
+-- the expiry label of a lease, in profile 2 of an image too, as it is stored (containerd
+-- garbage-collection.md, `containerd.io/gc.expire`)
 abbrev pub expire_of : ℕ → Thing → Option Text
 expire_of profile (image row) = if images_expire profile then value_of row.labels (codes "containerd.io/gc.expire") else None
 expire_of profile (lease row) = value_of row.labels (codes "containerd.io/gc.expire")
@@ -146,7 +151,8 @@ expire_of profile _ = None
 abbrev pub step_of : ℕ → By → Thing → PathStep
 step_of profile by thing = record { by = by; object = object_in thing; mode = mode_of thing; expire = expire_of profile thing }
 
--- the steps tell the things, from the root on: each with the reason by which the one before references it, the root with this word
+-- the steps tell the things, from the root on: each with the reason by which the one before
+-- references it, the root with this word
 abbrev pub AreTold : ℕ → By → List Thing → List PathStep → Type 0
 AreTold profile word [] steps = steps ≡ []
 AreTold profile word (root ∷ []) steps = steps ≡ step_of profile word root ∷ []
@@ -159,7 +165,7 @@ AreTold profile word (last ∷ before ∷ path) steps = (by : By) × (told : Lis
 abbrev pub before_all_ends : ℤ
 before_all_ends = neg_ℤ (pos 62167305540000000000)
 
--- a path keeps what is asked for: its steps stand from the root on
+-- a path keeps the row that is asked for: its steps stand from the root on
 pub record IsKeptBy (records : Records) (at : ℤ) (asked : Thing → Bool) (steps : List PathStep) : Type 0 where
   pub last : Thing
   pub path : List Thing

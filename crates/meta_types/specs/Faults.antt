@@ -1,4 +1,5 @@
--- The faults: their numbers and names, and what a call that may be refused answers. Ours, unless a source stands beside.
+-- The faults: their numbers and names, and what a call that may be refused answers. Ours, unless a
+-- source stands beside.
 use Rattle.std.specs.Prelude.{◌≡◌, ℕ, List, codes, Bool, true, false, Option, Some, None, Result, Ok, Err, if◌then◌else◌}
 use Rattle.meta_types.specs.declared.fault.Fault.{Fault}
 use Rattle.meta_types.specs.declared.fault.Fault.TheVariants.{InvalidArgument, NotFound, AlreadyExists, FailedPrecondition, BadLine, TooLong, OutOfMemory, NoWorker, BackendFailed, ReadFailed, WriteFailed, Mismatch}

@@ -1,4 +1,5 @@
--- Which steps an event may take, and which histories are legal. Ours, unless a source stands beside.
+-- Which steps an event may take, and which histories are legal. Ours,
+-- unless a source stands beside.
 use Rattle.std.specs.Prelude.{◌≡◌, ℕ, true, false, List, [], ◌∷◌, Some, None}
 use Rattle.meta_types.specs.Rows.{State}
 use Rattle.meta_types.specs.Backends.{BackNames, no_objects}

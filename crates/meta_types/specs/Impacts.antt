@@ -50,7 +50,7 @@ impact_question_fault state ns kind name at =
     (option_map_or (λ object. (removed state ns object).forbidden) (object_of kind name) false
     || is_too_large state.records)
 
--- ---- what goes then, and doesn't now
+-- ---- the removals of then that aren't removals of now
 
 -- the names of the rows that would go
 pub record ImpactRows : Type 0 where
@@ -110,7 +110,7 @@ pub record IsImpact (now then : State) (at : ℤ) (impact : Impact) : Type 0 whe
   pub each : (one other : Report) → Plans now at one → Plans then at other
       → impact ≡ impact_of one other
 
--- a removal makes no path, so what goes now, goes after it
+-- a removal makes no path, so a row that a collection would remove now, it would remove after it
 abbrev pub ARemovalMakesNoPath : Type 0
 ARemovalMakesNoPath = (state : State) (ns : Text) (object : Object) (at : ℤ)
     → (last : Thing) (path : List Thing)

@@ -19,15 +19,18 @@ has_label labels key = has_row label_key (key ∷ []) labels
 
 -- ---- which labels an object may have
 
--- Key and value together have at most 4,096 bytes (containerd labels.Validate), and the key isn't empty. An empty value is always allowed, since it takes the label away.
+-- Key and value together have at most 4,096 bytes (containerd labels.Validate), and the key isn't
+-- empty. An empty value is always allowed, since it takes the label away.
 abbrev pub is_label : Text → Text → Bool
 is_label key value = bytes_eq value [] || (not (bytes_eq key []) && nat_le (length key + length value) 4096)
 
--- one label more, or its new value; an empty value takes the label away (containerd, updates of labels)
+-- one label more, or its new value; an empty value takes the label away
+-- (containerd, updates of labels)
 abbrev pub put_label : Text → Text → LabelList → LabelList
 put_label key value labels = if bytes_eq value [] then remove_row label_key (key ∷ []) labels else put_row label_key (key, value) labels
 
--- an object has at most 256 labels: it can take a label that it has or that is empty, and one more below that number
+-- an object has at most 256 labels: it can take a label that it has or that is empty, and one more
+-- below that number
 abbrev pub has_room : Text → Text → LabelList → Bool
 has_room key value labels = bytes_eq value [] || has_label labels key || nat_lt (length labels) 256
 

@@ -1,6 +1,7 @@
 -- The definitions, in the order of a reader.
 
--- I. What stays: what a store holds, which rows and objects a collection keeps, what it reports and what it promises.
+-- I. What stays: what a store holds, which rows and objects a collection keeps, what it reports and
+-- what it promises.
 pub mod Rows
 pub mod CollectorLabels
 pub mod Paths
@@ -8,7 +9,8 @@ pub mod Collected
 pub mod Backends
 pub mod Reports
 pub mod Promises
--- II. What requests do: what each of them comes to, what each event answers and leaves, which stores are sound, how it is explained that a row is kept, what would go without it, and what a question is told.
+-- II. What requests do: what each of them comes to, what each event answers and leaves, and which
+-- stores are sound. What questions answer: what keeps a row, and what would go without it.
 pub mod Ops
 pub mod Changes
 pub mod Requests

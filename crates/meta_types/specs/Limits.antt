@@ -7,7 +7,8 @@ use Rattle.meta_types.specs.declared.limits.TheConstants.{MAX_WORKERS, MAX_NODES
 abbrev pub is_worker_count : ℕ → Bool
 is_worker_count workers = nat_le 1 workers && nat_le workers MAX_WORKERS
 
--- a collection marks at most 16,777,216 nodes: two for each content and snapshot row, one for each ingest
+-- a collection marks at most 16,777,216 nodes: two for each content and
+-- snapshot row, one for each ingest
 abbrev pub is_too_large : Records → Bool
 is_too_large records = nat_lt MAX_NODES (2 * (length records.tables.content + length records.tables.snapshots) + length records.tables.ingests)
 

@@ -1,4 +1,5 @@
--- What a request may come to: which faults apply, and what comes where none does. The files of Ops say it of each request, whose state is that before it. Ours, unless a source stands beside.
+-- What a request may come to: which faults apply, and what comes where none does. The files of Ops
+-- say it of each request, whose state is that before it. Ours, unless a source stands beside.
 pub mod Namespaces
 pub mod Images
 pub mod Containers
@@ -18,7 +19,8 @@ use Rattle.meta_types.specs.declared.reply.ReplyRow.{ReplyRow}
 use Rattle.meta_types.specs.declared.reply.Reply.{Reply}
 use Rattle.meta_types.specs.declared.reply.Reply.TheVariants as R
 
--- something named isn't allowed, isn't there, is there already, or is forbidden; else the reply, and the store after (containerd's error classes)
+-- something named isn't allowed, isn't there, is there already, or is forbidden; else the reply,
+-- and the store after (containerd's error classes)
 pub record Outcome : Type 0 where
   pub invalid : Bool
   pub missing : Bool
@@ -31,7 +33,8 @@ pub record Outcome : Type 0 where
 abbrev pub least_fault : Outcome → Option Fault
 least_fault o = least_of o.invalid o.missing o.there o.forbidden
 
--- a request that no fault refuses, that answers that it is done and changes nothing; each op says what is otherwise
+-- a request that no fault refuses, that answers that it is done and changes nothing; each op says
+-- what is otherwise
 abbrev pub done : State → Outcome
 done state = record { invalid = false; missing = false; there = false; forbidden = false; reply = R.Done; after = state }
 
@@ -53,7 +56,8 @@ labelled labels_in key value found = is_label key value ∷ option_map_or (λ a.
 
 -- ---- what several calls find
 
--- what a call finds whose texts are allowed: something named isn't there, is there already, or is forbidden (containerd's error classes)
+-- what a call finds whose texts are allowed: something named isn't there, is there already, or is
+-- forbidden (containerd's error classes)
 pub record Findings : Type 0 where
   pub missing : Bool
   pub there : Bool
@@ -63,6 +67,7 @@ pub record Findings : Type 0 where
 abbrev pub found_fault : Findings → Option Fault
 found_fault found = least_of false found.missing found.there found.forbidden
 
--- the namespace or the lease that the request names may be missing too (containerd namespaces.md, leases service)
+-- the namespace or the lease that the request names may be missing too (containerd
+-- namespaces.md, leases service)
 abbrev pub in_store : State → Text → Option Text → Findings → Findings
 in_store state ns lease found = record found { missing = lacks state ns lease || found.missing }

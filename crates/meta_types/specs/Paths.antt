@@ -16,7 +16,8 @@ use Rattle.meta_types.specs.declared.resource.Mode.TheVariants.{Full, Flat}
 use Rattle.meta_types.specs.declared.resource.Resource.{Resource}
 use Rattle.meta_types.specs.declared.resource.Resource.TheVariants.{Content, Snapshot, Ingest}
 
--- the things of a path: content and snapshots come in two modes, with their labels followed or without (compare flat leases, containerd garbage-collection.md)
+-- the things of a path: content and snapshots come in two modes, with their labels followed or
+-- without (compare flat leases, containerd garbage-collection.md)
 pub data Thing : Type 0 where
   image : ImageRow → Thing
   container : ContainerRow → Thing
@@ -71,7 +72,8 @@ is_resource (Content digest) mode thing = is_content digest mode thing
 is_resource (Snapshot snapshotter name) mode thing = is_snapshot snapshotter name mode thing
 is_resource (Ingest name) mode thing = is_ingest name thing
 
--- some label references the thing, whose own labels are then followed too (containerd garbage-collection.md, reference labels)
+-- some label references the thing, whose own labels are then followed too (containerd
+-- garbage-collection.md, reference labels)
 abbrev pub is_label_ref : LabelList → Thing → Bool
 is_label_ref labels (content Full row) = references_content labels row.digest
 is_label_ref labels (snapshot Full row) = references_snapshot labels row.key.snapshotter row.key.name
@@ -81,12 +83,16 @@ is_label_ref labels _ = false
 abbrev pub is_parent : SnapRow → Mode → Thing → Bool
 is_parent row mode thing = option_map_or (λ name. is_snapshot row.key.snapshotter name mode thing) row.parent false
 
--- a lease with `containerd.io/gc.flat` holds its resources without their labels (containerd garbage-collection.md, flat leases)
+-- a lease with `containerd.io/gc.flat` holds its resources without their labels (containerd
+-- garbage-collection.md, flat leases)
 abbrev pub lease_mode : LeaseRow → Mode
 lease_mode row = if is_flat row.labels then Flat else Full
 
--- A row references an image's target, a container's snapshot, a lease's resources, the content that an ingest expects, a snapshot's parent (containerd garbage-collection.md; parents of flat snapshots: ours).
--- It references what its labels name too, but for flat rows (containerd garbage-collection.md; labels of images and containers: ours).
+-- A row references an image's target, a container's snapshot, a lease's resources, the content that
+-- an ingest expects, a snapshot's parent (containerd garbage-collection.md; parents of flat
+-- snapshots: ours).
+-- It references what its labels name too, but for flat rows (containerd garbage-collection.md;
+-- labels of images and containers: ours).
 abbrev pub references : Thing → Thing → Bool
 references (image row) thing = is_content row.target Full thing || is_label_ref row.labels thing
 references (container row) thing = option_map_or (λ key. is_snapshot key.0 key.1 Full thing) row.snapshot false || is_label_ref row.labels thing
@@ -106,7 +112,8 @@ has_edge a b = bytes_eq (namespace_of a) (namespace_of b) && references a b
 abbrev pub images_expire : ℕ → Bool
 images_expire profile = profile == 2
 
--- an image stays; in profile 2, until its expiry (containerd garbage-collection.md: images are roots)
+-- an image stays; in profile 2, until its expiry (containerd
+-- garbage-collection.md: images are roots)
 abbrev pub image_stays : ℕ → ℤ → ImageRow → Bool
 image_stays profile at row = not (images_expire profile && is_expired row.labels at)
 
@@ -118,7 +125,8 @@ lease_stays at row = not (is_expired row.labels at)
 abbrev pub ingest_holds_itself : ℤ → IngestRow → Bool
 ingest_holds_itself at row = option_map_or (λ expiry. int_le at expiry.0) row.expires false
 
--- where paths begin: images, containers, leases and ingests that haven't ended, and rows with a root label (containerd garbage-collection.md, roots)
+-- where paths begin: images, containers, leases and ingests that haven't ended, and rows with a
+-- root label (containerd garbage-collection.md, roots)
 abbrev pub is_root : ℕ → ℤ → Thing → Bool
 is_root profile at (image row) = image_stays profile at row
 is_root profile at (container row) = true
@@ -131,7 +139,8 @@ is_root profile at (snapshot Flat row) = false
 
 -- ---- paths
 
--- a path of references, from its last thing back to its root (containerd garbage-collection.md: what is referenced, directly or not)
+-- a path of references, from its last thing back to its root (containerd garbage-collection.md:
+-- what is referenced, directly or not)
 abbrev pub IsPath : Records → ℤ → Thing → List Thing → Type 0
 IsPath records at last [] = Contains (things records) last × IsTrue (is_root records.profile at last)
 IsPath records at last (before ∷ path) = Contains (things records) last × IsTrue (has_edge before last) × IsPath records at before path

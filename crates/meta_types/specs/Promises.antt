@@ -1,4 +1,5 @@
--- What a collection promises, whatever its algorithm. Each statement is the contract of a function of the module `laws`. Ours, unless a source stands beside.
+-- What a collection promises, whatever its algorithm. Each statement is the contract of a function
+-- of the module `laws`. Ours, unless a source stands beside.
 use Rattle.std.specs.Prelude.{◌≡◌, Bool, true, false, ℤ, Contains, bytes_eq, ℕ, List, ◌==◌, map, filter, []}
 use Rattle.std.specs.List.{list_any}
 use Rattle.meta_types.specs.Text.{Text}
@@ -31,9 +32,11 @@ ACollectionHasOneOutcome = (state : State) (at : ℤ) (failed : BackNames) (r s 
 abbrev pub ADryRunHasOneReport : Type 0
 ADryRunHasOneReport = (state : State) (at : ℤ) (r s : Report) → Plans state at r → Plans state at s → r ≡ s
 
--- ---- safety: nothing that an image, a container, an unexpired lease or ingest or a root label leads to is removed
+-- ---- safety: nothing that an image, a container, an unexpired lease or ingest or a root label
+-- leads to is removed
 
--- A row that a path leads to remains, and isn't reported as removed. A blob stays while a remaining content row, of any namespace, has its digest.
+-- A row that a path leads to remains, and isn't reported as removed. A blob stays while a remaining
+-- content row, of any namespace, has its digest.
 pub record KeepsWhatIsReached (state : State) (at : ℤ) (report : Report) (new : State) : Type 0 where
   pub content_rows : (mode : Mode) (row : ContentRow) → Contains state.records.tables.content row → IsReached state.records at (content mode row)
       → Contains new.records.tables.content row × (Contains report.removed.content (row.ns, row.digest) → ⊥)
@@ -50,7 +53,8 @@ NothingReachedIsRemoved = (state : State) (at : ℤ) (failed : BackNames) (repor
 
 -- ---- liveness: what no path leads to is removed
 
--- A row that no path leads to is removed, and reported so. A blob is removed when no remaining content row, of any namespace, has its digest, unless its removal failed.
+-- A row that no path leads to is removed, and reported so. A blob is removed when no remaining
+-- content row, of any namespace, has its digest, unless its removal failed.
 pub record RemovesWhatIsNotReached (state : State) (at : ℤ) (report : Report) (new : State) : Type 0 where
   pub content_rows : (row : ContentRow) → Contains state.records.tables.content row → ((mode : Mode) → IsReached state.records at (content mode row) → ⊥)
       → (Contains new.records.tables.content row → ⊥) × Contains report.removed.content (row.ns, row.digest)
@@ -67,7 +71,8 @@ WhatIsNotReachedIsRemoved = (state : State) (at : ℤ) (failed : BackNames) (rep
 
 -- ---- safety: what a row that remains owns isn't removed
 
--- a backend snapshot, and an ingest's object, stay while a row that remains owns them, and aren't reported as removed
+-- a backend snapshot, and an ingest's object, stay while a row that remains owns them, and aren't
+-- reported as removed
 pub record KeepsOwnedObjects (state : State) (report : Report) (new : State) : Type 0 where
   pub snapshots : (snap : BackSnap) → Contains state.backends.snapshots snap → owns_snapshot new.records.tables snap ≡ true
       → Contains new.backends.snapshots snap × (Contains report.backend.snapshots (object_name snap) → ⊥)
@@ -80,7 +85,8 @@ OwnedObjectsStay = (state : State) (at : ℤ) (failed : BackNames) (report : Rep
 
 -- ---- liveness: what no row that remains owns is removed
 
--- A backend snapshot and an ingest's object that no remaining row owns are removed, and reported so,
+-- A backend snapshot and an ingest's object that no remaining row owns
+-- are removed, and reported so,
 -- unless their removal failed or, of a snapshot, that of a descendant.
 pub record RemovesUnownedObjects (state : State) (report : Report) (new : State) : Type 0 where
   pub snapshots : (snap : BackSnap) → Contains state.backends.snapshots snap → owns_snapshot new.records.tables snap ≡ false
@@ -103,7 +109,8 @@ numbers_of snapshotter names = map (λ name. name.1) (filter (λ name. bytes_eq 
 abbrev pub shard_of : Text → List BackSnap → List BackSnap
 shard_of snapshotter snapshots = filter (λ snap. bytes_eq snap.snapshotter snapshotter) snapshots
 
--- In the report of a collection of a sound store no parent stands before its child, of each snapshotter (containerd snapshots service: children are removed before their parent).
+-- In the report of a collection of a sound store no parent stands before its child, of each
+-- snapshotter (containerd snapshots service: children are removed before their parent).
 -- No child of a snapshot that it names is left out.
 abbrev pub RemovedSnapshotsAreChildfirst : Type 0
 RemovedSnapshotsAreChildfirst = (state : State) (at : ℤ) (failed : BackNames) (report : Report) (new : State) (snapshotter : Text) → IsSound state → Collects state at failed report new
@@ -120,14 +127,16 @@ PlannedSnapshotsAreChildfirst = (state : State) (at : ℤ) (report : Report) (sn
 abbrev pub no_rows : Removed
 no_rows = record { content = []; images = []; ingests = []; leases = []; snapshots = [] }
 
--- A second collection with this report, after a first with that one, leaves the store as it was. It removes no row and no object of the backend, and keeps as many rows as the first.
+-- A second collection with this report, after a first with that one, leaves the store as it was. It
+-- removes no row and no object of the backend, and keeps as many rows as the first.
 pub record ChangesNothing (first second : Report) (mid new : State) : Type 0 where
   pub same_store : new ≡ mid
   pub no_row_goes : second.removed ≡ no_rows
   pub no_object_goes : second.backend ≡ no_objects
   pub same_kept : second.kept ≡ first.kept
 
--- where no removal of a first collection failed, a second one at the same moment changes nothing; it removes nothing, so none of its removals can fail
+-- where no removal of a first collection failed, a second one at the same moment changes nothing;
+-- it removes nothing, so none of its removals can fail
 abbrev pub ASecondCollectionChangesNothing : Type 0
 ASecondCollectionChangesNothing = (state : State) (at : ℤ) (failed : BackNames) (first second : Report) (mid new : State) → Collects state at no_objects first mid → Collects mid at failed second new → ChangesNothing first second mid new
 

@@ -10,7 +10,8 @@ use Rattle.meta_types.specs.declared.resource.Mode.TheVariants.{Full, Flat}
 use Rattle.meta_types.specs.declared.explanation.By.{By}
 use Rattle.meta_types.specs.declared.explanation.By.TheVariants as B
 
--- the label references the thing, whose own labels are then followed too (containerd garbage-collection.md, reference labels)
+-- the label references the thing, whose own labels are then followed too (containerd
+-- garbage-collection.md, reference labels)
 abbrev pub is_ref : Text × Text → Thing → Bool
 is_ref pair (content Full row) = is_content_key pair.0 && bytes_eq pair.1 row.digest
 is_ref pair (snapshot Full row) = option_map_or (λ s. bytes_eq s row.key.snapshotter) (snapshotter_in pair.0) false && bytes_eq pair.1 row.key.name
@@ -35,6 +36,7 @@ reason_in (content Flat row) thing = None
 reason_in (snapshot Full row) thing = by_or (is_parent row Full thing) B.Parent (label_reason row.labels thing)
 reason_in (snapshot Flat row) thing = by_or (is_parent row Flat thing) B.Parent None
 
--- by what the first thing references the second; none where it doesn't, as in another namespace (containerd namespaces.md)
+-- by what the first thing references the second; none where it doesn't, as in another namespace
+-- (containerd namespaces.md)
 abbrev pub reason_of : Thing → Thing → Option By
 reason_of a b = if bytes_eq (namespace_of a) (namespace_of b) then reason_in a b else None

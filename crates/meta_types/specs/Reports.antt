@@ -1,4 +1,5 @@
--- What a collection reports, and when a store and a report are those of a collection. Ours, unless a source stands beside.
+-- What a collection reports, and when a store and a report are those of a collection. Ours, unless
+-- a source stands beside.
 use Rattle.std.specs.Prelude.{◌≡◌, ℕ, Bool, true, false, not, ◌&&◌, List, map, length, filter, ℤ}
 use Rattle.meta_types.specs.Text.{Text}
 use Rattle.meta_types.specs.CollectorLabels.{is_unreadable}

@@ -5,7 +5,8 @@ use Rattle.meta_types.specs.Keys.{Key, has_row, add_row}
 use Rattle.meta_types.specs.declared.resource.Resource.{Resource}
 use Rattle.meta_types.specs.declared.resource.Resource.TheVariants.{Content, Snapshot, Ingest}
 
--- the type: `content`, `ingests`, or `snapshots/` and the snapshotter (containerd leases service, Resource)
+-- the type: `content`, `ingests`, or `snapshots/` and the snapshotter
+-- (containerd leases service, Resource)
 abbrev pub type_of : Resource → Text
 type_of (Content digest) = codes "content"
 type_of (Snapshot snapshotter name) = codes "snapshots/" ++ snapshotter
@@ -30,13 +31,15 @@ ingest_of id = if is_name id then Some (Ingest id) else None
 abbrev pub snapshot_of : Text → Text → Option Resource
 snapshot_of snapshotter id = if is_short_name snapshotter && is_name id then Some (Snapshot snapshotter id) else None
 
--- the resource of a type and an id, where these are allowed; behind `snapshots/` the whole rest is the snapshotter
+-- the resource of a type and an id, where these are allowed; behind `snapshots/` the
+-- whole rest is the snapshotter
 abbrev pub resource_of : Text → Text → Option Resource
 resource_of kind id =
     if bytes_eq kind (codes "content") then content_of id
     else (if bytes_eq kind (codes "ingests") then ingest_of id
     else (if begins_with (codes "snapshots/") kind then snapshot_of (drop 10 kind) id else None))
 
--- one resource more; where it is held already nothing changes (containerd leases service, AddResource)
+-- one resource more; where it is held already nothing changes (containerd
+-- leases service, AddResource)
 abbrev pub held : Resource → List Resource → List Resource
 held resource resources = if has_row resource_key (resource_key resource) resources then resources else add_row resource_key resource resources

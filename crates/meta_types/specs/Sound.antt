@@ -1,4 +1,5 @@
--- Which stores are sound: what every request and every collection keeps. Ours, unless a source stands beside.
+-- Which stores are sound: what every request and every collection keeps. Ours,
+-- unless a source stands beside.
 use Rattle.std.specs.Prelude.{◌≡◌, ℕ, ◌<◌, not, ◌==◌, List, Option, Some, None, bytes_eq, IsTrue, IfSome, All, Contains, AllPairs, find}
 use Rattle.std.specs.List.{list_any}
 use Rattle.std.specs.Option.{option_map_or}
@@ -16,7 +17,8 @@ use Rattle.meta_types.specs.declared.rows.IngestRow.{IngestRow}
 
 -- ---- rows
 
--- rows stand in the order of their keys, so no key stands twice; each is in a namespace that is there (containerd namespaces.md)
+-- rows stand in the order of their keys, so no key stands twice; each is in a namespace that is
+-- there (containerd namespaces.md)
 pub record AreRows {Row : Type 0} (key_of : Row → Key) (ns_of : Row → Text) (namespaces : List Text) (rows : List Row) : Type 0 where
   pub in_order : IsTrue (are_in_order key_of rows)
   pub named : All (λ row. IsTrue (list_any (bytes_eq (ns_of row)) namespaces)) rows
@@ -25,7 +27,8 @@ pub record AreRows {Row : Type 0} (key_of : Row → Key) (ns_of : Row → Text) 
 abbrev pub parent_of : List SnapRow → SnapRow → Option SnapRow
 parent_of rows row = parent_row rows row.key.ns row.key.snapshotter row.parent
 
--- a parent is a committed row of the same namespace and snapshotter (containerd snapshots service), with a smaller number, so parent links end
+-- a parent is a committed row of the same namespace and snapshotter (containerd snapshots service),
+-- with a smaller number, so parent links end
 abbrev pub HasParent : List SnapRow → SnapRow → Type 0
 HasParent rows row = IfSome row.parent (λ name. (above : SnapRow) × (parent_of rows row ≡ Some above) × IsTrue (is_committed above.kind) × (above.number < row.number))
 
@@ -57,7 +60,8 @@ pub record HaveBlobs (content : List ContentRow) (blobs : List Text) : Type 0 wh
   pub held : All (λ (row : ContentRow). IsTrue (list_any (bytes_eq row.digest) blobs)) content
   pub in_order : IsTrue (are_in_order namespace_key blobs)
 
--- each snapshot's and ingest's object is in the backend, a snapshot's over its parent's; each number is below the next
+-- each snapshot's and ingest's object is in the backend, a snapshot's over its parent's; each
+-- number is below the next
 pub record HaveObjects (snapshots : List SnapRow) (ingests : List IngestRow) (next : ℕ) (snapshot_objects : List BackSnap) (begun : List ℕ) : Type 0 where
   pub snapshots_below : All (λ (row : SnapRow). row.number < next) snapshots
   pub ingests_below : All (λ (row : IngestRow). row.number < next) ingests
@@ -79,7 +83,8 @@ pub record IsSound (state : State) : Type 0 where
 
 -- ---- removals
 
--- each snapshot of the list stands after all its children in the list, and nothing outside the list has a parent in it (containerd snapshots service: children are removed before their parent)
+-- Each snapshot of the list stands after all its children in the list, and no snapshot outside the
+-- list has a parent in it. Containerd snapshots service: children are removed before their parent.
 pub record IsChildfirst (list : List ℕ) (shard : List BackSnap) : Type 0 where
   pub after_children : AllPairs (λ earlier late. All (λ snap. snap.number ≡ late → snap.parent ≡ Some earlier → ⊥) shard) list
   pub closed : All (λ snap. IfSome snap.parent (λ number. Contains list number → Contains list snap.number)) shard

@@ -26,13 +26,15 @@ answer_to state request = let o = outcome state request in option_map_or refused
 abbrev pub after : State → Request → State
 after state request = let o = outcome state request in if is_some (least_fault o) then state else o.after
 
--- What happens to a store: a request, a collection or dry run, a removal with a collection. With a collection come its moment, whether it is dry, and its workers.
+-- What happens to a store: a request, a collection or dry run, a removal with a collection. With a
+-- collection come its moment, whether it is dry, and its workers.
 pub data Event : Type 0 where
   requested : Request → Event
   collect : ℤ → Bool → ℕ → Event
   remove_collect : Removal → ℤ → ℕ → Event
 
--- what refuses a collection: the number of workers, which is used for nothing else, or too many rows
+-- what refuses a collection: the number of workers, which is used for
+-- nothing else, or too many rows
 abbrev pub collect_fault : Records → ℕ → Option Fault
 collect_fault records workers = least_of (not (is_worker_count workers)) false false (is_too_large records)
 

@@ -38,7 +38,8 @@ is_letter_or_digit byte = is_digit byte || is_between 97 122 byte || is_between 
 abbrev pub is_short_name_byte : ℕ → Bool
 is_short_name_byte byte = is_letter_or_digit byte || byte == 46 || byte == 95 || byte == 45
 
--- a namespace or a snapshotter has 1 to 76 such bytes, and begins with a letter or a digit (the length: containerd's identifiers)
+-- a namespace or a snapshotter has 1 to 76 such bytes, and begins with a letter or a digit (the
+-- length: containerd's identifiers)
 abbrev pub is_short_name : Text → Bool
 is_short_name [] = false
 is_short_name (first ∷ rest) = is_letter_or_digit first && list_all is_short_name_byte rest && nat_le (length rest) 75
@@ -47,17 +48,20 @@ is_short_name (first ∷ rest) = is_letter_or_digit first && list_all is_short_n
 abbrev pub is_printed : ℕ → Bool
 is_printed byte = nat_le 32 byte && not (byte == 127)
 
--- every other name is UTF-8 text of 1 to 1,024 printed bytes; that a text is UTF-8 is known of every text
+-- every other name is UTF-8 text of 1 to 1,024 printed bytes; that a text is
+-- UTF-8 is known of every text
 abbrev pub is_name : Text → Bool
 is_name text = nat_le 1 (length text) && nat_le (length text) 1024 && list_all is_printed text
 
 -- ---- digests
 
--- "the encoded portion MUST match /[a-f0-9]{64}/" (OCI image specification, descriptor.md, SHA-256; SHA-512 likewise)
+-- "the encoded portion MUST match /[a-f0-9]{64}/" (OCI image specification, descriptor.md, SHA-256;
+-- SHA-512 likewise)
 abbrev pub is_hexadecimal : ℕ → Bool
 is_hexadecimal byte = is_digit byte || is_between 97 102 byte
 
--- the algorithm, then the given number of lower-case hexadecimal digits (OCI image specification, descriptor.md, digests)
+-- the algorithm, then the given number of lower-case hexadecimal digits (OCI image specification,
+-- descriptor.md, digests)
 abbrev pub is_hash : Text → ℕ → Text → Bool
 is_hash prefix digits text = bytes_eq (take (length prefix) text) prefix
     && length (drop (length prefix) text) == digits

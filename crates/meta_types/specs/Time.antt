@@ -1,4 +1,6 @@
--- Moments as texts: `YYYY-MM-DDThh:mm:ss`, perhaps a fraction, and a zone. They are of RFC 3339, 5.6; upper case letters, no leap seconds and years to 9998 are limits of ours. Ours, unless a source stands beside.
+-- Moments as texts: `YYYY-MM-DDThh:mm:ss`, perhaps a fraction, and a zone. They are of RFC 3339,
+-- 5.6; upper case letters, no leap seconds and years to 9998 are limits of ours. Ours, unless a
+-- source stands beside.
 use Rattle.std.specs.Prelude.{ℕ, zero, suc, ◌+◌, ◌-◌, ◌*◌, ◌/◌, ◌%◌, ◌^◌, Bool, true, false, not, ◌&&◌, ◌||◌, nat_le, ◌==◌, [], ◌∷◌, length, take, drop, Option, Some, None, bytes_eq, slice_index, codes, if◌then◌else◌, ℤ, pos, ◌+ℤ◌, ◌-ℤ◌, ◌*ℤ◌, neg_ℤ, option_map}
 use Rattle.std.specs.List.{take_while}
 use Rattle.meta_types.specs.Text.{Text, is_digit}
@@ -8,11 +10,13 @@ abbrev pub number_from : ℕ → Text → ℕ
 number_from before [] = before
 number_from before (digit ∷ digits) = number_from (before * 10 + (digit - 48)) digits
 
--- the number in `count` digits from place `at` on (RFC 3339, 5.6: date-fullyear, date-month and so on)
+-- the number in `count` digits from place `at` on (RFC 3339, 5.6:
+-- date-fullyear, date-month and so on)
 abbrev pub number_at : Text → ℕ → ℕ → ℕ
 number_at text at count = number_from 0 (take count (drop at text))
 
--- a text has a form where it is as long, and has a digit for each `0` of it and otherwise its bytes (RFC 3339, 5.6)
+-- a text has a form where it is as long, and has a digit for each `0` of it and
+-- otherwise its bytes (RFC 3339, 5.6)
 abbrev pub has_form : Text → Text → Bool
 has_form [] [] = true
 has_form [] (byte ∷ text) = false
@@ -42,7 +46,8 @@ days_to_year year = 365 * year + (year + 3) / 4 - (year + 99) / 100 + (year + 39
 abbrev pub day_of : ℕ → ℕ → ℕ → ℤ
 day_of year month day = pos (days_to_year year + days_before year month + (day - 1)) -ℤ pos 719528
 
--- nanoseconds of a fraction: its digits, filled with zeros to nine (RFC 3339, 5.6: time-secfrac; nine digits: Go)
+-- nanoseconds of a fraction: its digits, filled with zeros to nine (RFC 3339, 5.6:
+-- time-secfrac; nine digits: Go)
 abbrev pub fraction_of : Text → ℕ
 fraction_of digits = number_from 0 digits * 10 ^ (9 - length digits)
 
@@ -50,7 +55,8 @@ fraction_of digits = number_from 0 digits * 10 ^ (9 - length digits)
 abbrev pub signed : ℕ → ℕ → ℤ
 signed sign size = if sign == 43 then pos size else neg_ℤ (pos size)
 
--- the offset that a zone names, in nanoseconds: `Z`, or up to 23:59 before or behind (RFC 3339, 5.6: time-offset)
+-- the offset that a zone names, in nanoseconds: `Z`, or up to 23:59 before or behind (RFC 3339,
+-- 5.6: time-offset)
 abbrev pub offset_of : Text → Option ℤ
 offset_of zone =
     if bytes_eq zone (codes "Z") then Some (pos 0)
@@ -66,7 +72,8 @@ fraction_in rest = if slice_index rest 0 == 46 then take_while is_digit (drop 1 
 abbrev pub zone_in : Text → Text
 zone_in rest = if slice_index rest 0 == 46 then drop (1 + length (fraction_in rest)) rest else rest
 
--- a date and a time of day that there are (RFC 3339, 5.7), of a year up to 9998 and without a second 60
+-- a date and a time of day that there are (RFC 3339, 5.7), of a year up to
+-- 9998 and without a second 60
 abbrev pub is_real : Text → Bool
 is_real text =
     let year = number_at text 0 4 in
@@ -80,7 +87,8 @@ is_real text =
 abbrev pub has_fraction : Text → Bool
 has_fraction rest = not (slice_index rest 0 == 46) || (nat_le 1 (length (fraction_in rest)) && nat_le (length (fraction_in rest)) 9)
 
--- the moment of a date and a time of day, before the offset, in nanoseconds since 1970-01-01T00:00:00Z
+-- the moment of a date and a time of day, before the offset, in nanoseconds since
+-- 1970-01-01T00:00:00Z
 abbrev pub moment_of : Text → ℤ
 moment_of text =
     let seconds = number_at text 11 2 * 3600 + number_at text 14 2 * 60 + number_at text 17 2 in

@@ -1,4 +1,5 @@
--- Whole scripts, worked out: names, requests and reports that they share. Ours, unless a source stands beside.
+-- Whole scripts, worked out: names, requests and reports that they share. Ours,
+-- unless a source stands beside.
 pub mod Times
 pub mod Images
 pub mod Objects

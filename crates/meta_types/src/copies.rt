@@ -18,7 +18,7 @@ impl ReplyRow {
 }
 
 impl Reply {
-    /// A copy, which shares names. One of `Done` takes no memory, so it is never refused.
+    /// A copy, which shares names. That of `Done` takes no memory, so it is never refused.
     pub fn copy(&self, _alloc: Global) -> Result<Reply, Fault>
         ensures fault { Refuses result None }
         ensures ok { IfOk result (λ reply. reply ≡ self.now) }

@@ -26,7 +26,7 @@ pub enum Fault {
     /// The line is longer than a request may be.
     #[error("the line has more than 65,536 bytes")]
     TooLong,
-    /// A growth was refused.
+    /// Memory ran out: a growth was refused.
     #[error("a growth was refused")]
     OutOfMemory,
     /// A thread couldn't be started in this call.

@@ -107,7 +107,7 @@ impl Labels {
         self.entries.iter()
     }
 
-    /// The same labels once more.
+    /// A copy, whose keys and values have bytes of their own.
     pub fn copy(&self, _alloc: Global) -> Result<Labels, Fault>
         ensures fault { Refuses result None }
         ensures ok { IfOk result (λ l. l ≡ self.now) }
@@ -122,7 +122,7 @@ impl Labels {
         is_label(key, value) && has_room(self.len(), search(&self.entries, key).is_ok(), value)
     }
 
-    /// Gives a key its value; an empty value takes the label away, without memory.
+    /// Gives a key its value. An empty value takes the label away, which takes no memory.
     pub fn put(&mut self, alloc: Global, key: &str, value: &str) -> Result<(), Fault>
         ensures fault { Refuses result
             (unless (takes_label key.now value.now self.old) InvalidArgument) }

@@ -56,14 +56,15 @@ pub fn a_collected_store_is_sound()
 {}
 
 /// Of each kind of rows and objects a collection keeps exactly what the definitions say, names the
-/// rest in its report, and counts both; a dry run tells what a collection would.
+/// rest in its report, and counts both. A dry run reports what a collection would.
 pub fn collections_divide_each_kind()
     ensures rows { ACollectionDividesTheRows }
     ensures all { ACollectionDividesAll }
     ensures dry_runs { ADryRunTellsWhatACollectionWould }
 {}
 
-/// A path of the store without a row is a path with it: a removal keeps nothing that went.
+/// A path of the store without a row is a path of the store with it, so a removal can't keep
+/// anything that a collection would have removed.
 pub fn a_removal_makes_no_path()
     ensures { ARemovalMakesNoPath }
 {}

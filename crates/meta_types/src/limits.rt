@@ -1,4 +1,4 @@
-//! The limits that several layers share. All of them are ours.
+//! The limits that several layers share. All of them are this project's own.
 ghost use Rattle.std.specs.Prelude.{◌≡◌};
 ghost use Rattle.meta_types.specs.Limits.{is_worker_count};
 

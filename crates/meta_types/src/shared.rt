@@ -33,8 +33,8 @@ impl<T: Drop> Shared<T> {
         Ok(Shared { one })
     }
 
-    /// A further holder of the value. It takes no memory, but is refused where there are as many
-    /// as can be counted (2 to the power of 63).
+    /// A further holder of the value. It takes no memory: it is refused only where there are as
+    /// many holders as can be counted (2 to the power of 63).
     pub fn share(&self) -> Result<Shared<T>, Fault>
         ensures fault { Refuses result None }
         ensures ok { IfOk result (λ shared. shared ≡ self.now) }

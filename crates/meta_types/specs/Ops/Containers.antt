@@ -1,4 +1,5 @@
--- What requests on containers do. A call in brackets is of containerd's container store. Ours, unless a source stands beside.
+-- What requests on containers do. A call in brackets is of containerd's container store. Ours,
+-- unless a source stands beside.
 use Rattle.std.specs.Prelude.{not, ◌||◌, List, [], ◌∷◌, Option, None, if◌then◌else◌, is_some, is_none, option_map, option_and_then}
 use Rattle.meta_types.specs.Text.{Text, is_short_name, is_name}
 use Rattle.meta_types.specs.Keys.{row_at, has_row, add_row, remove_row, change_row}
@@ -9,7 +10,8 @@ use Rattle.meta_types.specs.Ops.{Outcome, done, labelled, row_reply, names_in, l
 use Rattle.meta_types.specs.declared.reply.ReplyRow.TheVariants as W
 use Rattle.meta_types.specs.declared.reply.Reply.TheVariants as R
 
--- adds a container; snapshotter and key stand together or not at all, and the snapshot needn't be stored (Create)
+-- adds a container; snapshotter and key stand together or not at all, and the
+-- snapshot needn't be stored (Create)
 abbrev pub adds_container : State → Text → Text → Option Text → Option Text → List (Text × Text) → Outcome
 adds_container state ns name snapshotter key labels =
     let rows = state.records.tables.containers in

@@ -1,4 +1,5 @@
--- What requests on content do. A call in brackets is of containerd's content store. Ours, unless a source stands beside.
+-- What requests on content do. A call in brackets is of containerd's content store. Ours, unless a
+-- source stands beside.
 use Rattle.std.specs.Prelude.{not, ◌||◌, List, [], ◌∷◌, Option, None, is_none}
 use Rattle.meta_types.specs.Text.{Text, is_short_name, is_name, is_digest}
 use Rattle.meta_types.specs.Keys.{row_at, has_row, add_row, remove_row, change_row}
@@ -10,7 +11,8 @@ use Rattle.meta_types.specs.declared.resource.Resource.TheVariants.{Content}
 use Rattle.meta_types.specs.declared.reply.ReplyRow.TheVariants as W
 use Rattle.meta_types.specs.declared.reply.Reply.TheVariants as R
 
--- adds content to a namespace, makes its blob where the backend doesn't hold it, and gives it to the lease (containerd content-flow.md)
+-- adds content to a namespace, makes its blob where the backend doesn't hold it, and gives it to
+-- the lease (containerd content-flow.md)
 abbrev pub adds_content : State → Text → Text → List (Text × Text) → Option Text → Outcome
 adds_content state ns digest labels lease =
     let rows = state.records.tables.content in

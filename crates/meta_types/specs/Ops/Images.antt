@@ -1,4 +1,5 @@
--- What requests on images do. A call in brackets is of containerd's image store. Ours, unless a source stands beside.
+-- What requests on images do. A call in brackets is of containerd's image store. Ours, unless a
+-- source stands beside.
 use Rattle.std.specs.Prelude.{not, ◌||◌, List, [], ◌∷◌, None, is_none}
 use Rattle.meta_types.specs.Text.{Text, is_short_name, is_name, is_digest}
 use Rattle.meta_types.specs.Keys.{row_at, has_row, add_row, remove_row, change_row}

@@ -14,7 +14,8 @@ use Rattle.meta_types.specs.declared.resource.Resource.TheVariants.{Content, Ing
 use Rattle.meta_types.specs.declared.reply.ReplyRow.TheVariants as W
 use Rattle.meta_types.specs.declared.reply.Reply.TheVariants as R
 
--- an ingest that was begun at this time ends 24 hours later (containerd content-flow.md: ingests are cleaned up after a day)
+-- an ingest that was begun at this time ends 24 hours later (containerd content-flow.md: ingests
+-- are cleaned up after a day)
 abbrev pub end_of : Text → Option Instant
 end_of at = option_map (λ moment. record { 0 = moment +ℤ pos 86400000000000 }) (instant_of at)
 
@@ -34,7 +35,8 @@ begins_ingest state ns name at expected lease =
       after = holding ns lease (Ingest name) (with_ingest_object (with_ingests state (add_row ingest_key (record { ns = ns; name = name; expected = expected; expires = own_end lease at; number = state.records.next }) rows)));
     }
 
--- what a commit of an ingest finds: the ingest, content of the digest in its namespace, and which digest it was begun for (containerd content-flow.md)
+-- what a commit of an ingest finds: the ingest, content of the digest in its namespace, and which
+-- digest it was begun for (containerd content-flow.md)
 abbrev pub ingest_commit_findings : State → Text → Text → Text → Option Text → Findings
 ingest_commit_findings state ns name digest lease =
     let found = row_at ingest_key (ns ∷ name ∷ []) state.records.tables.ingests in
@@ -44,7 +46,8 @@ ingest_commit_findings state ns name digest lease =
       forbidden = option_map_or (λ row. option_map_or (λ other. not (bytes_eq other digest)) row.expected false) found false;
     })
 
--- commits an ingest as content, which isn't there yet and is the one expected; its backend object goes at a later collection (containerd content-flow.md)
+-- commits an ingest as content, which isn't there yet and is the one expected; its backend object
+-- goes at a later collection (containerd content-flow.md)
 abbrev pub commits_ingest : State → Text → Text → Text → List (Text × Text) → Option Text → Outcome
 commits_ingest state ns name digest labels lease =
     let rows = state.records.tables.ingests in

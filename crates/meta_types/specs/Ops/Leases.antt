@@ -1,4 +1,5 @@
--- What requests on leases do. A call in brackets is of containerd's leases service. Ours, unless a source stands beside.
+-- What requests on leases do. A call in brackets is of containerd's leases service. Ours, unless a
+-- source stands beside.
 use Rattle.std.specs.Prelude.{false, not, ◌||◌, List, [], ◌∷◌, None, is_some, is_none}
 use Rattle.std.specs.Option.{option_map_or}
 use Rattle.meta_types.specs.Text.{Text, is_short_name, is_name}

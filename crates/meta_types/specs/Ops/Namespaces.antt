@@ -1,4 +1,5 @@
--- What requests on namespaces, and on the profile, do. A call in brackets is of containerd's namespaces service. Ours, unless a source stands beside.
+-- What requests on namespaces, and on the profile, do. A call in brackets is of containerd's
+-- namespaces service. Ours, unless a source stands beside.
 use Rattle.std.specs.Prelude.{ℕ, Bool, true, false, not, ◌||◌, ◌&&◌, ◌==◌, List, [], ◌∷◌, None}
 use Rattle.meta_types.specs.Text.{Text, is_short_name}
 use Rattle.meta_types.specs.Keys.{add_row, remove_row}

@@ -1,4 +1,5 @@
--- What requests on snapshots do. A call or a kind in brackets is of containerd's snapshots service. Ours, unless a source stands beside.
+-- What requests on snapshots do. A call or a kind in brackets is of containerd's snapshots service.
+-- Ours, unless a source stands beside.
 use Rattle.std.specs.Prelude.{Bool, true, false, not, ◌&&◌, ◌||◌, List, [], ◌∷◌, map, Option, None, filter, bytes_eq, is_some, is_none, option_map, option_and_then}
 use Rattle.std.specs.List.{list_any}
 use Rattle.std.specs.Option.{option_map_or}
@@ -32,7 +33,8 @@ is_active View = false
 abbrev pub parent_row : List SnapRow → Text → Text → Option Text → Option SnapRow
 parent_row rows ns snapshotter parent = option_and_then (λ name. row_at snap_key (ns ∷ snapshotter ∷ name ∷ []) rows) parent
 
--- what a new snapshot finds among the rows: its parent, another of its key, and whether one may stand over the parent (Prepare and View)
+-- what a new snapshot finds among the rows: its parent, another of its key, and whether one may
+-- stand over the parent (Prepare and View)
 abbrev pub new_snap_findings : Text → Text → Text → Option Text → List SnapRow → Findings
 new_snap_findings ns snapshotter key parent rows =
     let above = parent_row rows ns snapshotter parent in
@@ -48,7 +50,8 @@ prepare_findings state ns snapshotter key parent lease =
     let found = in_store state ns lease (new_snap_findings ns snapshotter key parent state.records.tables.snapshots) in
     record found { forbidden = found.forbidden || is_out_of_numbers state }
 
--- makes a snapshot over a committed parent or none, under the next backend number (Prepare and View)
+-- makes a snapshot over a committed parent or none, under the next
+-- backend number (Prepare and View)
 abbrev pub prepares : State → SnapKind → Text → Text → Text → Option Text → List (Text × Text) → Option Text → Outcome
 prepares state kind ns snapshotter key parent labels lease =
     let rows = state.records.tables.snapshots in
@@ -63,13 +66,15 @@ prepares state kind ns snapshotter key parent labels lease =
       after = holding ns lease (Snapshot snapshotter key) (with_snapshot_object snapshotter (option_map (λ row. row.number) above) (with_snapshots state (add_row snap_key new rows)));
     }
 
--- the rows with a key's row committed under a name, with its parent and number and with these labels (Commit, but for the labels)
+-- the rows with a key's row committed under a name, with its parent and number and with these
+-- labels (Commit, but for the labels)
 abbrev pub committed : Text → Text → Text → Text → LabelList → List SnapRow → List SnapRow
 committed ns snapshotter key name labels rows =
     option_map_or (λ row. add_row snap_key (record row { key = record { ns = ns; snapshotter = snapshotter; name = name }; kind = Committed; labels = labels })
     (remove_row snap_key (ns ∷ snapshotter ∷ key ∷ []) rows)) (row_at snap_key (ns ∷ snapshotter ∷ key ∷ []) rows) rows
 
--- what a commit finds among the rows: the key's row, another of the name, and whether the row is active (Commit)
+-- what a commit finds among the rows: the key's row, another of the name, and
+-- whether the row is active (Commit)
 abbrev pub commit_findings : Text → Text → Text → Text → List SnapRow → Findings
 commit_findings ns snapshotter key name rows =
     let found = row_at snap_key (ns ∷ snapshotter ∷ key ∷ []) rows in
@@ -92,7 +97,8 @@ commits_snapshot state ns snapshotter key name labels lease =
       after = holding ns lease (Snapshot snapshotter name) (with_snapshots state (committed ns snapshotter key name (labels_of labels) rows));
     }
 
--- the snapshot's parent has this name, in this namespace and snapshotter (containerd snapshots service)
+-- the snapshot's parent has this name, in this namespace and snapshotter
+-- (containerd snapshots service)
 abbrev pub is_child_of : Text → Text → Text → SnapRow → Bool
 is_child_of ns snapshotter key row = bytes_eq ns row.key.ns && bytes_eq snapshotter row.key.snapshotter && option_map_or (bytes_eq key) row.parent false
 

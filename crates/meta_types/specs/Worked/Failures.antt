@@ -1,4 +1,5 @@
--- A whole script with a device that fails: a chain of four snapshots that nothing holds, whose device passes some calls and then fails one. Ours, unless a source stands beside.
+-- A whole script with a device that fails: a chain of four snapshots that nothing holds, whose
+-- device passes some calls and then fails one. Ours, unless a source stands beside.
 use Rattle.std.specs.Prelude.{ℕ, List, [], ◌∷◌, Some, None}
 use Rattle.meta_types.specs.Text.{Text}
 use Rattle.meta_types.specs.Rows.{State, BackSnap, empty_store}
@@ -20,7 +21,8 @@ snapshots_named names = record no_objects { snapshots = names }
 abbrev pub with_objects : List BackSnap → State
 with_objects objects = record (used_up_to 5) { backends = record { blobs = []; snapshots = objects; ingests = [] } }
 
--- a collection of the chain removes these objects, the removal of this one fails, and these are left
+-- a collection of the chain removes these objects, the removal of this
+-- one fails, and these are left
 abbrev pub FailsAt : List (Text × ℕ) → Text × ℕ → List BackSnap → Type 0
 FailsAt removed failed left = Collects free_chain first_of_march (snapshots_named (failed ∷ []))
     (record (plain_report (snapshots_named removed) one_namespace (record nothing_removed { snapshots = chain_names overlayfs }) 0) { failed = snapshots_named (failed ∷ []) })

@@ -1,4 +1,5 @@
--- Whole scripts with images, content and leases: the report of a collection, and the store that it leaves. Ours, unless a source stands beside.
+-- Whole scripts with images, content and leases: the report of a collection, and the store that it
+-- leaves. Ours, unless a source stands beside.
 use Rattle.std.specs.Prelude.{List, [], ◌∷◌, ◌++◌, codes, Some}
 use Rattle.meta_types.specs.Text.{Text}
 use Rattle.meta_types.specs.Rows.{State, empty_store}

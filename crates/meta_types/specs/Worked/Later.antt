@@ -1,4 +1,5 @@
--- Whole scripts: images that expire, and a removal with a collection. Ours, unless a source stands beside.
+-- Whole scripts: images that expire, and a removal with a collection. Ours,
+-- unless a source stands beside.
 use Rattle.std.specs.Prelude.{◌≡◌, [], ◌∷◌, codes, Some}
 use Rattle.meta_types.specs.Rows.{State, empty_store}
 use Rattle.meta_types.specs.Backends.{no_objects}
@@ -50,7 +51,8 @@ without_lease_row = (removal_outcome under_lease (Removing.Lease x l)).after
 abbrev pub without_lease : State
 without_lease = after_all empty_store (NsAdd x ∷ [])
 
--- the lease's removal with a collection is one event: the content goes with it, the lease isn't reported, and a second one finds none
+-- the lease's removal with a collection is one event: the content goes with it, the lease isn't
+-- reported, and a second one finds none
 abbrev pub ALeaseGoesWithACollection : Type 0
 ALeaseGoesWithACollection =
     Step under_lease (remove_collect (Removing.Lease x l) first_of_march 1) no_objects

@@ -1,4 +1,5 @@
--- Whole scripts with snapshots, ingests and labels: the report of a collection, and the store that it leaves. Ours, unless a source stands beside.
+-- Whole scripts with snapshots, ingests and labels: the report of a collection, and the store that
+-- it leaves. Ours, unless a source stands beside.
 use Rattle.std.specs.Prelude.{ℕ, List, [], ◌∷◌, ◌++◌, codes, Option, Some, None, pos}
 use Rattle.meta_types.specs.Text.{Text}
 use Rattle.meta_types.specs.Rows.{State, BackSnap, empty_store}

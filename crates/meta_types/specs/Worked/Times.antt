@@ -14,7 +14,8 @@ times = (codes "1970-01-01T00:00:00Z", pos 0)
     ∷ (codes "0000-01-01T00:00:00+23:59", neg_ℤ (pos 62167305540000000000))
     ∷ []
 
--- texts that are no time, or none of a year up to 9998 (RFC 3339, 5.6; the years, upper case and no leap seconds: ours)
+-- texts that are no time, or none of a year up to 9998 (RFC 3339, 5.6; the years, upper case and no
+-- leap seconds: ours)
 abbrev pub no_times : List Text
 no_times = codes ""
     ∷ codes "tomorrow"

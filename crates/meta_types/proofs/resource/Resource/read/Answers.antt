@@ -9,7 +9,7 @@ use Rattle.meta_types.specs.declared.resource.Resource.TheVariants.{Content, Sna
 use Rattle.meta_types.proofs.ResourceReads.{is_some_if, refuses_as}
 use Rattle.meta_types.proofs.resource.Resource.read.Goals as goal
 
--- the type is `content`: what is asked is a digest
+-- the type is `content`: the id is a digest
 pub returns-then-eq-clause-fault : goal.returns-then-eq-clause-fault
 returns-then-eq-clause-fault c =
     let kind = c.args.kind.now in
@@ -18,7 +18,7 @@ returns-then-eq-clause-fault c =
     let same : is_some (resource_of kind id) ≡ is_digest id = rw is (is_some_if (is_digest id) (Content id)) in
     refuses_as c.read_content.result (is_digest id) (is_some (resource_of kind id)) same c.read_content.ensures.fault
 
--- the type is `ingests`: what is asked is a name
+-- the type is `ingests`: the id is a name
 pub returns-then-eq-2-clause-fault : goal.returns-then-eq-2-clause-fault
 returns-then-eq-2-clause-fault c =
     let kind = c.args.kind.now in
@@ -28,7 +28,7 @@ returns-then-eq-2-clause-fault c =
     let same : is_some (resource_of kind id) ≡ is_name id = rw (not_content, is) (is_some_if (is_name id) (Ingest id)) in
     refuses_as c.read_ingest.result (is_name id) (is_some (resource_of kind id)) same c.read_ingest.ensures.fault
 
--- the type is `snapshots/` and a rest: what is asked is a snapshotter and a name
+-- the type is `snapshots/` and a rest: this is a snapshotter, and the id a name
 pub returns-in-Some-clause-fault : goal.returns-in-Some-clause-fault
 returns-in-Some-clause-fault c =
     let kind = c.args.kind.now in
