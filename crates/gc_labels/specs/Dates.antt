@@ -1,4 +1,4 @@
--- Dates and times of day that there are. Ours, unless a source stands beside.
+-- Which dates and times of day exist. Ours, unless a source stands beside.
 use Rattle.std.specs.Prelude.{ℕ, Bool, ◌&&◌, ◌+◌, ◌*◌, drop, nat_le, if◌then◌else◌, Option, Some, None, ℤ}
 use Rattle.meta_types.specs.Text.{Text}
 use Rattle.meta_types.specs.Time.{days_in, day_of, number_at, is_real, has_fraction, fraction_of, fraction_in}

@@ -8,7 +8,8 @@ use crate::dates::day_number;
 use crate::digits::{digits_in_front, has_form, number, number_at};
 use meta_types::Instant;
 
-/// The moment that a text names (RFC 3339, 5.6, in the years 0000 to 9998). A day more fits too.
+/// The moment that a text names (RFC 3339, 5.6, in the years 0000 to 9998). A day can be added to
+/// it.
 pub fn read_instant(text: &str) -> Option<Instant>
     ensures moment { option_map (λ instant. instant.0) result ≡ instant_of text.now }
     ensures wide { IfSome result (λ instant.

@@ -46,14 +46,14 @@ pub fn snapshot_ref(key: &str) -> Option<&str>
     }
 }
 
-/// Whether the labels mark a root. Asked of content and snapshots alone.
+/// Whether the labels make content or a snapshot a root.
 pub fn is_root(labels: &Labels) -> bool
     ensures { result ≡ is_marked_root labels.now }
 {
     labels.get(ROOT).is_some()
 }
 
-/// Whether the labels make a lease flat. Asked of leases alone.
+/// Whether the labels make a lease flat.
 pub fn is_flat(labels: &Labels) -> bool
     ensures { result ≡ is_flat labels.now }
 {
@@ -74,7 +74,7 @@ pub fn expiry(labels: &Labels) -> Expiry
     }
 }
 
-/// Whether the end that labels say is past: at the end itself the object hasn't ended.
+/// Whether the end that the labels name is past: at that moment itself the object hasn't ended.
 pub fn is_expired(labels: &Labels, at: Instant) -> bool
     ensures { result ≡ is_expired labels.now at.0 }
 {
