@@ -1,4 +1,5 @@
--- What may be done to a lease in its place. Ours, unless a source stands beside.
+-- Changes of one lease in its place: a label, or a resource more or less. Ours, unless a source
+-- stands beside.
 use Rattle.std.specs.Prelude.{◌≡◌, Bool, Option, Result, Ok, Err, OnOk, OnErr}
 use Rattle.std.proofs.Common.{ap, ◌∙◌}
 use Rattle.meta_types.specs.Text.{Text}

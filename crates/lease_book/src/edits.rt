@@ -1,4 +1,4 @@
-//! What may be done to a lease in its place.
+//! Changes of one lease in its place: a label, or a resource more or less.
 ghost use Rattle.std.specs.Prelude.{None, refl};
 ghost use Rattle.std.proofs.Common.{ap};
 ghost use Rattle.lease_book.specs.Edits.{Edits, edits_keep, Releases, with_label, refuses_label, with_resource};

@@ -103,7 +103,7 @@ impl Leases {
         }
     }
 
-    /// A lease that holds nothing yet.
+    /// Adds a lease that holds nothing yet.
     pub fn create(
         &mut self,
         alloc: Global,

@@ -20,7 +20,7 @@ returns-clause-ok c =
       | in-None w ↦ rw w.result-is tt
     ]
 
--- or there was no memory, or no lease, and all is as it was
+-- or memory ran out, or there was no lease, and all is as it was
 pub returns-clause-err : goal.returns-clause-err
 returns-clause-err c =
     let key = c.args.ns.now ∷ c.args.id.now ∷ [] in
