@@ -1,4 +1,4 @@
--- Whether a snapshot is held, asked of the list of all.
+-- Whether a snapshot is held, by the list of all snapshots.
 use Rattle.std.proofs.Common.{◌≡◌, ℕ, List, [], ◌∷◌, map, Bool, true, false, refl, sym, ◌∙◌, ap, subst}
 use Rattle.std.specs.Prelude.{Option, Some, None, Result, bytes_eq, ◌==◌, ◌||◌}
 use Rattle.std.specs.List.{list_any, AllByRecursion}
@@ -75,7 +75,7 @@ pub parent_held_is : (name : Text) (parent : Option ℕ) (shards : List Shard) �
 parent_held_is name None shards apart = refl
 parent_held_is name (Some n) shards apart = held_is name n shards apart
 
--- what a making answers, asked of the list of all
+-- what a making answers, by the list of all snapshots
 pub makes_named : (result : Result (Unit {0}) MakeFault) (name : Text) (n : ℕ) (parent : Option ℕ) (shards : List Shard) → AreApart shards
     → Makes result (is_held (snaps_at name shards) n) (is_parent_held (snaps_at name shards) parent)
     → Makes result (list_any (is_named (name, n)) (all_snaps shards)) (option_map_or (λ above. list_any (is_named (name, above)) (all_snaps shards)) parent true)

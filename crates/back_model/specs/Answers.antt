@@ -14,9 +14,9 @@ Makes (Err M.Missing) held parent = (held ≡ false) × (parent ≡ false)
 Makes (Err M.Device) held parent = (held ≡ false) × (parent ≡ true)
 Makes (Err M.Memory) held parent = (held ≡ false) × (parent ≡ true)
 
--- an object is Missing where it isn't held, else it HasChildren where it is a parent; else it is
--- removed, or the device failed (containerd snapshots service: a parent isn't removed before its
--- children)
+-- An object is Missing where it isn't held, else it HasChildren where it is a parent. Else it is
+-- removed, or the device failed. Containerd snapshots service: a parent isn't removed before its
+-- children.
 abbrev pub Removes : Result (Unit {0}) RemoveFault → Bool → Bool → Type 0
 Removes (Ok _) held child = (held ≡ true) × (child ≡ false)
 Removes (Err R.Missing) held child = held ≡ false

@@ -30,11 +30,11 @@ is_number number parent = option_map_or (λ above. above == number) parent false
 abbrev pub has_child : Snaps → ℕ → Bool
 has_child snaps number = list_any (λ entry. is_number number entry.1) (finmap.entries snaps)
 
--- the contents don't refuse that the snapshot is made
+-- the contents allow the snapshot to be made
 abbrev pub accepts : Snaps → ℕ → Option ℕ → Bool
 accepts snaps number parent = not (is_held snaps number) && is_parent_held snaps parent
 
--- the contents don't refuse that the snapshot is removed (containerd snapshots service: a parent
--- isn't removed before its children)
+-- the contents allow the snapshot to be removed (containerd snapshots service: a parent isn't
+-- removed before its children)
 abbrev pub gives_up : Snaps → ℕ → Bool
 gives_up snaps number = is_held snaps number && not (has_child snaps number)

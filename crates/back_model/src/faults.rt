@@ -9,7 +9,7 @@ pub enum MakeFault {
     Missing,
     /// The device failed in this call.
     Device,
-    /// A growth was refused.
+    /// Memory ran out.
     Memory,
 }
 

@@ -1,4 +1,4 @@
-//! Snapshots in memory, with a device that can be made to fail.
+//! Snapshots in memory, on a device that can be armed to fail once.
 ghost use Rattle.std.specs.Prelude.{◌≡◌, ◌+◌, ◌↔◌, Err, OnOk, OnErr, not, IsTrue};
 ghost use Rattle.std.specs.FinMap as finmap;
 ghost use Rattle.back_model.specs.Snaps.{is_held, is_parent_held, has_child, accepts, gives_up};

@@ -1,4 +1,4 @@
-//! Blobs in memory, with a device that can be made to fail.
+//! Blobs in memory, on a device that can be armed to fail once.
 ghost use Rattle.std.specs.Prelude.{◌≡◌, ◌+◌, ◌↔◌, Err, OnOk, OnErr, not, IsTrue};
 ghost use Rattle.std.specs.Prelude.{true, false};
 ghost use Rattle.meta_types.specs.Changes.{put_blob};

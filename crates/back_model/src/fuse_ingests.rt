@@ -1,4 +1,4 @@
-//! Objects of ingests in memory, with a device that can be made to fail.
+//! Objects of ingests in memory, on a device that can be armed to fail once.
 ghost use Rattle.std.specs.Prelude.{◌≡◌, ◌+◌, ◌↔◌, Err, OnOk, OnErr, not, IsTrue};
 ghost use Rattle.std.specs.Prelude.{true, false};
 ghost use Rattle.back_model.specs.Objects.{has_number, put_number, without_number};

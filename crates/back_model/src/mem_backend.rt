@@ -63,14 +63,14 @@ impl MemBackend {
         }
     }
 
-    // Whether the contents don't refuse that the snapshot is made.
+    // Whether the contents allow the snapshot to be made.
     pub(crate) fn accepts(&self, number: u64, parent: Option<u64>) -> bool
         ensures { result ≡ accepts self.now number parent }
     {
         !self.holds(number) && self.holds_parent(parent)
     }
 
-    // Whether the contents don't refuse that the snapshot is removed.
+    // Whether the contents allow the snapshot to be removed.
     pub(crate) fn gives_up(&self, number: u64) -> bool
         ensures { result ≡ gives_up self.now number }
     {

@@ -1,4 +1,4 @@
-//! Models in memory never fail.
+//! A lemma to call: models in memory never fail.
 ghost use Rattle.std.specs.Prelude.{◌≡◌};
 ghost use Rattle.back_model.specs.Shown.{all_failures};
 
