@@ -74,7 +74,7 @@ module _ {X : Type 0} where
       ∙ ap (λ cs. joined lists ++ kept rest (joined cs)) (drop_all i lists end)
       ∙ ap (λ rows. joined lists ++ rows) (none_kept rest) ∙ append-nil (joined lists)) ∙ so.rows
 
--- ---- rows whose places aren't marked, told of one by one
+-- ---- rows whose mark is unset, visited one by one
 
 module _ {P X : Type 0} (after_visit : P → X → P) where
   visited_append : (xs ys : List X) (visited : P) → all_visited after_visit (xs ++ ys) visited ≡ all_visited after_visit ys (all_visited after_visit xs visited)

@@ -49,7 +49,7 @@ module _ {X : Type 0} where
       next (z ∷ zs) (suc k) = next zs k
 
   module _ (xs : List X) (marks : List Bool) (n i : ℕ) (same : length marks ≡ length xs) where
-    -- a row whose place is marked goes to the front
+    -- a row whose mark is set goes to the front
     pub front_more : (ys zs : List X) (b : Bool) → n ≤ i → i < length marks → length ys ≡ length xs → take n ys ≡ kept (take i marks) (take i xs) → drop i ys ≡ drop i xs
         → get_or marks i b ≡ true → zs ≡ swap ys n i → take (n + 1) zs ≡ kept (take (i + 1) marks) (take (i + 1) xs)
     front_more [] zs b le lt len front behind mark is = absurd (omega (arith, lt, len, same))

@@ -1,4 +1,4 @@
-//! Rows of all namespaces, by snapshotter.
+//! Rows of all namespaces by snapshotter, which contracts see in key order.
 ghost use Rattle.std.specs.Prelude.{◌≡◌, ◌∷◌, [], map, false, None, IfOk, IfSome, IfNone, OnOk, OnErr, IsTrue, length, filter, bytes_eq, ◌&&◌, option_copied};
 ghost use Rattle.std.specs.Bool.{OnFalse};
 ghost use Rattle.std.specs.List.{list_any, list_all};

@@ -1,4 +1,4 @@
-//! How many places have their mark set.
+//! Marks of rows, one for each place: a row stays where its mark is set.
 ghost use Rattle.std.specs.Prelude.{◌≡◌, count_by};
 
 /// How many marks are set.

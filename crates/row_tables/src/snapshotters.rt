@@ -1,6 +1,5 @@
 //! Namespaces with their rows by snapshotter, as they came: the namespaces stand in the order of
-//! their bytes, and
-//! are found by halving.
+//! their bytes, and are found by halving.
 pub(crate) mod change;
 pub(crate) mod find;
 pub(crate) mod keep;

@@ -1,4 +1,4 @@
-//! Namespaces, their rows, and the places of these.
+//! Look-ups: a namespace, a row in it, and the place of a row among all.
 ghost use Rattle.std.specs.Prelude.{◌≡◌, ◌<◌, ◌≤◌, ◌^◌, ◌∷◌, [], false, IfOk, IfErr, IsTrue, IfSome, IfNone, length, take, drop, filter, bytes_eq, option_copied};
 ghost use Rattle.std.specs.List.{position, position_or_len, list_any, list_all};
 ghost use Rattle.std.specs.Cmp.Lexicographic.{slice_cmp};

@@ -1,4 +1,4 @@
-//! Rows of all namespaces that stay, and those that don't, by the marks of their places.
+//! A sweep of all namespaces: keeps the marked rows, and shows a visitor the others.
 ghost use Rattle.std.specs.Prelude.{◌≡◌, length};
 ghost use Rattle.row_tables.specs.Arrived.{kept};
 ghost use Rattle.row_tables.specs.Visiting.{gone, all_visited};
