@@ -84,7 +84,8 @@ impl Snapshots {
         }
     }
 
-    /// Where memory is refused, its name is taken out again.
+    /// Adds a snapshot, and before it its name under its parent. Where memory is refused to the
+    /// row, the name is taken out again.
     pub(crate) fn add(&mut self, alloc: Global, row: SnapRow) -> Result<(), Fault>
         requires { has_row snap_key (snap_key row) self.old ≡ false }
         ensures fault { Refuses result None }

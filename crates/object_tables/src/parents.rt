@@ -6,7 +6,7 @@ use crate::tables::Tables;
 use meta_types::SnapKey;
 
 impl Tables {
-    /// Whether the snapshot is the parent of another. It takes no memory.
+    /// Whether the snapshot is the parent of another.
     pub fn is_parent(&self, key: &SnapKey) -> bool
         ensures { result ≡ has_children key.now.ns key.now.snapshotter key.now.name
             self.now.snapshots }
