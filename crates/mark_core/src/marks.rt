@@ -28,7 +28,7 @@ impl Marks {
         })
     }
 
-    /// A number past the room isn't marked.
+    /// Whether n is marked; a number past the room isn't.
     pub fn has(&self, n: u32) -> bool
         ensures { IsTrue result ↔ (bit_of self.now n ≡ 1) }
     {

@@ -13,7 +13,7 @@ pub enum ReplayFault {
     /// The number of workers is outside a marking's limits.
     #[error("the number of workers isn't allowed")]
     Workers,
-    /// A growth was refused.
+    /// Memory ran out.
     #[error("a growth was refused")]
     Memory,
 }

@@ -129,7 +129,7 @@ impl MachineState {
         Ok(true)
     }
 
-    // Does an event, or answers false where it isn't allowed. What is left then isn't said.
+    // Does an event, or answers false where it isn't allowed. No clause says what is left then.
     pub fn step(&mut self, graph: &Graph, event: MarkEvent) -> Result<bool, AllocError>
         requires range { IsInRange graph.now }
         requires room { HasRoom (node_count graph.now) self.old.found.marks }
