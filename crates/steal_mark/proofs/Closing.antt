@@ -23,14 +23,16 @@ saw_of g seen (l ∷ lists) n all h =
     (λ (e : times n l ≡ 0). saw_of g seen lists n (All-tail (Saw g seen) l lists all) (let a = sum_by-cons (times n) l lists in omega arith))
     (λ (ne : times n l ≢ 0). All-contains (λ m. All (λ t. 0 < times t seen) (targets g m)) l n (All-head (Saw g seen) l lists all) (contained n l (omega arith)))
 
--- One seat knows all claims, each root was seen, each target of what is listed was seen, and what is listed is what was claimed
+-- One seat knows all claims, each root was seen, each target of what is listed was seen, and what
+-- is listed is what was claimed
 module _ (g : Graph) (v : Claims) (lists : List (List ℕ)) (k : Knows g v) (roots : All (λ r. 0 < times r v.seen) g.roots.items) (saw : All (Saw g v.seen) lists)
     (same : (n : ℕ) → listed n lists ≡ times n v.claimed) where
   -- what was seen was claimed, and so is listed
   seen_claimed : (n : ℕ) → 0 < times n v.seen → 0 < listed n lists
   seen_claimed n h = let a : 0 < times n v.claimed = All-contains (λ m. 0 < times m v.claimed) v.seen n k.seen (contained n v.seen h) in let b = same n in omega arith
 
-  -- the listed nodes have the roots and the targets of listed nodes, so they have all that is reached
+  -- the listed nodes have the roots and the targets of listed nodes, so
+  -- they have all that is reached
   pub all_listed : (n : ℕ) → Reached g n → 0 < listed n lists
   all_listed n r = reached_in g (λ m. 0 < listed m lists)
       (λ a b here c. seen_claimed b (All-contains (λ t. 0 < times t v.seen) (targets g a) b (saw_of g v.seen lists a saw here) c))

@@ -56,7 +56,8 @@ module _ (words : List ℕ) (n mask : ℕ) (is : mask ≡ 2 ^ (n % 64)) (inside 
   fits_stays : (g : Graph) (v : Claims) → Fits g words v → Fits g (with_bit words n mask) v
   fits_stays g v f = record { reached = f.reached; seen = All-weaker (λ k. bit_of words k ≡ 1) (λ k. bit_of (with_bit words n mask) k ≡ 1) bit_stays v.seen f.seen; idle = f.idle }
 
--- a seat that looked at a reached node has claimed reached nodes alone, and the bit of each node that it saw is set
+-- a seat that looked at a reached node has claimed reached nodes alone, and the bit of each node
+-- that it saw is set
 fits_looked : (g : Graph) (n mask : ℕ) (words : List ℕ) (v : Claims) → mask ≡ 2 ^ (n % 64) → n / 64 < length words → Reached g n → 0 < v.parts → Fits g words v → Fits g (with_bit words n mask) (looked n (bit_of words n) v)
 fits_looked g n mask words v is inside here some_part old = record {
   reached = reached_after g n (bit_of words n) v.claimed here old.reached;

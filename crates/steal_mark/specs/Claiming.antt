@@ -1,4 +1,5 @@
--- The claim words, and what each seat has claimed and seen claimed. Ours, unless a source stands beside.
+-- The claim words, and what each seat has claimed and seen claimed. Ours,
+-- unless a source stands beside.
 use Rattle.std.specs.Prelude.{◌≡◌, ℕ, zero, suc, ◌+◌, ◌/◌, ◌%◌, ◌^◌, ◌<◌, ◌≤◌, List, [], ◌∷◌, ◌++◌, length, All, sum_by, Option, Some, None}
 use Rattle.std.specs.Int.{bit_at}
 use mathlib.Core.Option.{some}
@@ -15,7 +16,8 @@ use Rattle.steal_mark.specs.declared.shared.claims.Claims.{Claims}
 abbrev pub claims : ℕ → List ℕ → List ℕ → Claims
 claims parts claimed seen = record { parts = parts; claimed = claimed; seen = seen }
 
--- each claimed node is reached, and each seen node has its bit. A seat with no part has claimed nothing
+-- each claimed node is reached, and each seen node has its bit. A seat with
+-- no part has claimed nothing
 pub record Fits (g : Graph) (words : List ℕ) (v : Claims) : Type 0 where
   pub reached : All (Reached g) v.claimed
   pub seen : All (λ n. bit_of words n ≡ 1) v.seen
@@ -41,7 +43,8 @@ looked n bit v = claims v.parts (claimed_after n bit v.claimed) (v.seen ++ n ∷
 abbrev pub Looks : Step (Unit {0}) → Me (Unit {0}) Claims → ℕ → Me (Unit {0}) Claims → Type 0
 Looks s me found me' = (n : ℕ) × (n / 64 ≡ s.word) × (2 ^ (n % 64) ≡ s.first) × (me' ≡ (looked n (bit_at found (n % 64)) me.0, me.1))
 
--- who has every part knows all claims: no node is claimed twice, what was seen was claimed, and what was claimed is reached
+-- who has every part knows all claims: no node is claimed twice, what was seen was claimed, and
+-- what was claimed is reached
 pub record Knows (g : Graph) (v : Claims) : Type 0 where
   pub once : (n : ℕ) → times n v.claimed ≤ 1
   pub seen : All (λ n. 0 < times n v.claimed) v.seen

@@ -1,4 +1,5 @@
--- The passes on the deques that are still open, worker by worker. Ours, unless a source stands beside.
+-- The passes on the deques that are still open, worker by worker. Ours,
+-- unless a source stands beside.
 use Rattle.std.specs.Prelude.{◌≡◌, slice_index_or, ℕ, ◌+◌, ◌<◌, ◌≤◌, List, All, length, map, sum_by, Some}
 use Rattle.crossbeam_deque.specs.Handles.{worker_deque, worker_flavor, worker_view, stealer_deque}
 use Rattle.atomic_blocks.specs.Lent.{RowsId}
@@ -33,7 +34,8 @@ AreRows g ids rows = (k : ℕ) (d : PassRow) → k < length rows → IsRow g ids
 abbrev pub taken_in : ℕ → List PassRow → ℕ
 taken_in n rows = sum_by (λ row. sum_by (λ h. times n h.taken) (pass_views row.items)) rows
 
--- a deque that is still open, while `many` workers have a pass on it, of which its owner's has no part
+-- a deque that is still open, while `many` workers have a pass on it, of
+-- which its owner's has no part
 pub record IsOpen (g : Graph) (many : ℕ) (d : Deque) : Type 0 where
   pub fifo : worker_flavor d ≡ 0
   pub graph : (worker_view d).graph ≡ Some g
@@ -52,7 +54,8 @@ own_in n deques = sum_by (λ (d : Deque). times n (worker_view d).taken) deques
 abbrev pub listing : List NodeList → List (List ℕ)
 listing lists = map (λ l. l.items) lists
 
--- what the lists have, with what was pushed to the open deques, is what was claimed, with what was taken of these
+-- what the lists have, with what was pushed to the open deques, is what was claimed,
+-- with what was taken of these
 pub record Balanced (g : Graph) (deques : List Deque) (rows : List PassRow) (lists : List NodeList) (v : Claims) : Type 0 where
   pub parts : v.parts ≡ 1024
   pub deques_open : All (IsOpen g (length rows)) deques

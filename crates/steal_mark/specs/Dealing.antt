@@ -1,4 +1,5 @@
--- One deque: what it holds, and what each pass has pushed and taken. Ours, unless a source stands beside.
+-- One deque: what it holds, and what each pass has pushed and taken. Ours,
+-- unless a source stands beside.
 use Rattle.std.specs.Prelude.{◌≡◌, ℕ, ◌+◌, ◌-◌, ◌<◌, ◌≤◌, List, [], ◌++◌, All, sum_by, Option, Some, None}
 use mathlib.Core.Option.{some}
 use lib.ListN.{get_elem?}

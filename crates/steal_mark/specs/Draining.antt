@@ -8,7 +8,8 @@ use Rattle.steal_mark.specs.Claiming.{claims}
 use Rattle.steal_mark.specs.Dealing.{pass_view}
 use Rattle.steal_mark.specs.Working.{Saw}
 
--- `count` nodes were drained and listed, each target of them was seen, and what was claimed was pushed
+-- `count` nodes were drained and listed, each target of them was seen, and
+-- what was claimed was pushed
 pub record Drains (g : Graph) (count : ℕ) (v w : Claims) (a b : PassView) (old new : List ℕ) : Type 0 where
   pub more : List ℕ
   pub looks : List ℕ

@@ -3,7 +3,8 @@ use Rattle.std.specs.Prelude.{◌≡◌, ◌⊎◌, Option, Some, None, Result, 
 use Rattle.meta_types.specs.declared.fault.Fault.{Fault}
 use Rattle.meta_types.specs.declared.fault.Fault.TheVariants.{OutOfMemory, NoWorker}
 
--- a call is refused with the fault, where there is one; else it succeeds, or memory ran out, or a thread couldn't be started
+-- a call is refused with the fault, where there is one; else it succeeds, or memory ran out, or a
+-- thread couldn't be started
 abbrev pub RefusesThreads : {X : Type 0} → Result X Fault → Option Fault → Type 0
 RefusesThreads (Ok x) least = least ≡ None
 RefusesThreads (Err answer) (Some fault) = answer ≡ fault

@@ -15,7 +15,8 @@ use Rattle.steal_mark.specs.Listing.{HoldsEachOnce}
 use Rattle.steal_mark.specs.Working.{IsSound, SameMarker, claims_of, graph_of}
 use Rattle.steal_mark.specs.Parts.{ClaimTable, Deque, NodeList, PassRow}
 
--- the kept seat has claimed nothing, has seen each root claimed, and has the parts that the workers' seats have not
+-- the kept seat has claimed nothing, has seen each root claimed, and has the parts that the
+-- workers' seats have not
 pub record IsRest (g : Graph) (r : Rest) : Type 0 where
   pub graph : (arc_value r.claim_table).shared.key ≡ g
   pub seat : IsSeatOf g (arc_value r.claim_table).shared.table_id r.seat
@@ -47,7 +48,8 @@ pub record IsTeam (r : Rest) (ms : List Marker) : Type 0 where
 abbrev pub IsWilling : Marker → Type 0
 IsWilling m = m.refused ≡ false
 
--- the marks are the reached nodes, each worker has a list, and the lists together hold each of these once
+-- the marks are the reached nodes, each worker has a list, and the lists
+-- together hold each of these once
 pub record IsMarked (g : Graph) (workers : ℕ) (words : List ℕ) (lists : List NodeList) : Type 0 where
   pub marks : (n : ℕ) → (bit_of words n ≡ 1) ↔ Reached g n
   pub once : HoldsEachOnce g (listing lists)

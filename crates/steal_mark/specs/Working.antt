@@ -1,4 +1,5 @@
--- One worker: what holds of it between its turns, and what a turn does. Ours, unless a source stands beside.
+-- One worker: what holds of it between its turns, and what a turn does. Ours,
+-- unless a source stands beside.
 use Rattle.std.specs.Prelude.{◌≡◌, ◌⊎◌, ℕ, ◌+◌, ◌/◌, ◌<◌, List, [], ◌∷◌, ◌++◌, All, map, length, sum_by, Some, false}
 use Rattle.std.specs.Arc.{arc_value}
 use Rattle.crossbeam_deque.specs.Handles.{worker_deque, worker_flavor, worker_view}
@@ -56,7 +57,8 @@ pub record IsSeated (m : Marker) : Type 0 where
 abbrev pub Saw : Graph → List ℕ → List ℕ → Type 0
 Saw g seen nodes = All (λ n. All (λ t. 0 < times t seen) (targets g n)) nodes
 
--- it scanned just what its passes took, saw each target of these claimed, and pushed just what it claimed
+-- it scanned just what its passes took, saw each target of these claimed, and
+-- pushed just what it claimed
 pub record Keeps (m : Marker) : Type 0 where
   pub scanned : (n : ℕ) → times n (scans_of m) ≡ taken_by n m
   pub saw : Saw (graph_of m) (claims_of m).seen (scans_of m)
@@ -83,14 +85,16 @@ TookFrom n own passes own' passes' = ((own' ≡ took n own) × (passes' ≡ pass
 abbrev pub Takes : ℕ → Marker → Marker → Type 0
 Takes n old new = TookFrom n (own_pass_view old) (passes_of old) (own_pass_view new) (passes_of new)
 
--- a turn that scanned n took it, then looked at each target and put what it claimed, and then noted it
+-- a turn that scanned n took it, then looked at each target and put what
+-- it claimed, and then noted it
 pub record Scans (n : ℕ) (old new : Marker) : Type 0 where
   pub mid : PassView
   pub taken : TookFrom n (own_pass_view old) (passes_of old) mid (passes_of new)
   pub grows : Grows (targets (graph_of old) n) (claims_of old) (claims_of new) mid (own_pass_view new)
   pub noted : scans_of new ≡ scans_of old ++ n ∷ []
 
--- a turn that took nothing. A worker that has every part found its own deque empty: all that it pushed was taken
+-- a turn that took nothing. A worker that has every part found its own deque empty:
+-- all that it pushed was taken
 pub record Idles (old new : Marker) : Type 0 where
   pub claims : claims_of new ≡ claims_of old
   pub own : own_pass_view new ≡ own_pass_view old

@@ -1,4 +1,4 @@
-//! Marking of a graph by workers that steal.
+//! Marking of a graph by workers that steal from each other.
 #![tactic(auto)]
 
 mod finish;

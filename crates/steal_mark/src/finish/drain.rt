@@ -16,7 +16,7 @@ use mark_core::Graph;
 use std::alloc::{AllocError, Global};
 use std::marker::Brand;
 
-// Tells who has every part of all claims.
+// Shows the seat that has every part what all have claimed.
 pub fn learn<J: Naming>(claim_table: &ClaimTable, seat: &mut ClaimSeat)
     requires graph { J.graph ≡ Some claim_table.now.shared.key }
     requires seat { IsSeatOf claim_table.now.shared.key claim_table.now.shared.table_id seat.old }
@@ -27,7 +27,7 @@ pub fn learn<J: Naming>(claim_table: &ClaimTable, seat: &mut ClaimSeat)
     claim_table.shared.load::<Learn<J>>(seat, 0);
 }
 
-// Tells who has every part that no more was taken than was pushed.
+// Shows the pass that has every part that no more was taken than was pushed.
 pub fn count(deque: &mut Deque)
     requires whole { (worker_view deque.old).parts ≡ 1024 }
     ensures same { worker_view deque.new ≡ worker_view deque.old }

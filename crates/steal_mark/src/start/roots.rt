@@ -33,7 +33,7 @@ fn new_deque<J: Naming>(alloc: Global, _graph: &Graph) -> Result<Deque, AllocErr
     Ok(deque)
 }
 
-// So many deques for this graph.
+// A deque for each worker, for this graph.
 pub fn new_deques(alloc: Global, graph: &Graph, workers: usize) -> Result<Vec<Deque>, AllocError>
     ensures many { IfOk result (λ ds. length ds.items ≡ workers) }
     ensures fresh { IfOk result (λ ds. All (IsFresh graph.now) ds.items) }

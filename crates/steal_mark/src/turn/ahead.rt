@@ -36,7 +36,7 @@ impl Ahead {
         let _ = self.nodes.push(node);
     }
 
-    // Goes behind the node, where it is among the next so many.
+    // Goes behind the node, where it is among the next `most` nodes.
     fn pass(&mut self, node: u32, most: usize) -> bool {
         let end = self.nodes.len().min(self.taken.saturating_add(most));
         let next = &self.nodes[self.taken..end];

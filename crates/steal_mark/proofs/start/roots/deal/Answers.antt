@@ -5,7 +5,8 @@ use Rattle.std.proofs.lemmas.List.{take_more, length-set}
 use Rattle.steal_mark.proofs.start.roots.deal.Goals.{then-look+in_ok-put, else-look}
 use Rattle.steal_mark.proofs.start.roots.deal.Goals as goal
 
--- a root that was claimed before is seen alone; a new one is claimed and pushed to the deque whose turn it is
+-- a root that was claimed before is seen alone; a new one is claimed and pushed
+-- to the deque whose turn it is
 pub loop-root-preserved : goal.loop-root-preserved
 loop-root-preserved c =
     let i = c.loop-root.invariant in
