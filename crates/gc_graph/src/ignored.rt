@@ -11,8 +11,8 @@ use lease_book::Lease;
 use meta_types::{Fault, ImageRow, Name, ShortName};
 use std::alloc::Global;
 
-/// Leases, and in profile 2 images, whose expiry can't be read: they don't end, and a report names
-/// them by namespace and id or name, in the order of their rows.
+/// Leases, and in profile 2 images, whose expiry can't be read: they don't end. A report names them
+/// by namespace and id or name, in the order of their rows.
 #[derive(Drop)]
 pub struct Ignored {
     pub ignored: Vec<(ShortName, Name)>,
