@@ -3,7 +3,7 @@ use Rattle.std.specs.Prelude.{ℕ, [], Bool}
 use Rattle.meta_types.specs.Reports.{Report, Kept, Removed}
 use Rattle.meta_types.specs.Backends.{no_objects}
 
--- no row went
+-- no row was removed
 abbrev pub no_rows : Removed
 no_rows = record { content = []; images = []; ingests = []; leases = []; snapshots = [] }
 
@@ -11,7 +11,7 @@ no_rows = record { content = []; images = []; ingests = []; leases = []; snapsho
 abbrev pub none_kept : Kept
 none_kept = record { containers = 0; content = 0; images = 0; ingests = 0; leases = 0; namespaces = 0; snapshots = 0 }
 
--- nothing went, and nothing remains
+-- nothing was removed, and nothing remains
 abbrev pub empty_report : Bool → ℕ → Report
 empty_report dry profile = record {
   backend = no_objects;

@@ -50,7 +50,7 @@ abbrev pub member_if : Text → Option Data → Members → Members
 member_if key None behind = behind
 member_if key (Some d) behind = member key d behind
 
--- lists of rows that went; that of images may be left out
+-- lists of removed rows; that of images may be left out
 abbrev pub removed_with : Data → Option Data → Data → Data → Data → Data
 removed_with content images ingests leases snapshots = object
     (member (codes "content") content
@@ -63,7 +63,7 @@ removed_with content images ingests leases snapshots = object
 abbrev pub images_if : Bool → List (Text × Text) → Option Data
 images_if with_images images = if with_images then Some (list_data pair_data images) else None
 
--- the rows that went; images are named where they may expire
+-- the removed rows; images are named where they may expire
 abbrev pub removed_data : Bool → Removed → Data
 removed_data with_images removed =
     removed_with (list_data pair_data removed.content) (images_if with_images removed.images) (list_data pair_data removed.ingests) (list_data pair_data removed.leases) (list_data triple_data removed.snapshots)

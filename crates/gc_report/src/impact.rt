@@ -97,7 +97,7 @@ fn rows_less(rows: Removed, other: Removed) -> ImpactRows
 }
 
 impl Impact {
-    /// What the second report names, and the first doesn't. It takes no memory.
+    /// What the second report names, and the first doesn't.
     pub fn of(now: Report, then: Report) -> Impact
         ensures { result ≡ impact_of now then }
     {

@@ -12,7 +12,7 @@ fn is_among<T: Ord>(sorted: &[T], item: &T) -> bool
 }
 
 /// What the list has and the other one doesn't, in its order. The other is sorted first, so each
-/// item is looked up by halving. It takes no memory.
+/// item is looked up by halving.
 pub(crate) fn less<T: Ord + Drop>(list: Vec<T>, other: Vec<T>) -> Vec<T>
     ensures { result.items ≡ less T.eq list.items other.items }
 {

@@ -45,7 +45,7 @@ impl Model for Report {
 }
 
 impl Report {
-    /// The report of a store that holds nothing: one to begin with.
+    /// The report of a store that holds nothing.
     pub fn new(alloc: Global, dry: bool, profile: u64) -> Report
         ensures { result ≡ empty_report dry profile }
     {
