@@ -1,4 +1,5 @@
--- The JSON of replies, and their text. Members stand in the byte order of their names. Ours, unless a source stands beside.
+-- The JSON of replies, and their text. Members stand in the byte order of their names. Ours, unless
+-- a source stands beside.
 use Rattle.std.specs.Prelude.{[], ◌∷◌, true, Option, codes, is_some}
 use Rattle.std.specs.Option.{option_map_or}
 use Rattle.serde_json.specs.Data.{Data, null, boolean, string, object, Members, no_members, member, put}

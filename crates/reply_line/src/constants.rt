@@ -13,7 +13,7 @@ pub(crate) fn done_text() -> &'static str
     r#"{"ok":true}"#
 }
 
-/// The answer that a fault refuses with: its number and its name. It takes no memory.
+/// The answer that a fault refuses with: its number and its name.
 pub fn refusal_text(fault: Fault) -> &'static str
     ensures { result.now ≡ answer_text (refused fault) }
 {

@@ -1,4 +1,4 @@
-//! Writes answers: the exact bytes of a reply.
+//! Writes the exact bytes of a reply.
 #![tactic(auto)]
 
 mod answer;

@@ -1,4 +1,4 @@
-//! Answers as text.
+//! The exact text of each answer: compact JSON, with no line feed.
 ghost use Rattle.std.specs.Prelude.{◌≡◌, [], true, IfOk, IsOk, None, string_bytes};
 ghost use Rattle.std.specs.Cow.{cow_str_bytes};
 ghost use Rattle.json.specs.Print.{print};
@@ -103,8 +103,8 @@ fn answered_text(alloc: Global, answer: &Answer) -> Result<CowStr<'static, Globa
     }
 }
 
-/// The compact JSON of an answer, with no line feed, as it is at hand: what names nothing stands
-/// in the program, and takes no memory.
+/// The compact JSON of an answer, with no line feed. An answer that names nothing is a constant
+/// text of the program, so it takes no memory.
 pub fn lent_text(alloc: Global, answer: &Answer) -> Result<CowStr<'static, Global>, Fault>
     ensures fault { Refuses result None }
     ensures ok { IfOk result (λ text. cow_str_bytes text ≡ answer_text (answer_of answer.now)) }

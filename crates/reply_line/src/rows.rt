@@ -1,4 +1,4 @@
-//! Rows as JSON.
+//! Rows of a reply as JSON, a function for each kind.
 ghost use Rattle.std.specs.Prelude.{OnOk};
 ghost use Rattle.gc_report.specs.Writing.{tokens_of, Adds};
 ghost use Rattle.reply_line.specs.Replies.{row_data};
