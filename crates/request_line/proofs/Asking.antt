@@ -52,7 +52,7 @@ pub asked_in-no_text : (line : List ℕ) → is_utf8 line ≡ false → asked_in
 unfolding asked_in
 asked_in-no_text line text = rw text refl
 
--- where memory alone was wanting, the line is unread for want of it
+-- where a call is refused with OutOfMemory only, the line is unread for that reason
 pub unread_of_memory : {X : Type 0} (r : Result X Fault) (asked : Option Asked) → Refuses r None → IfErr r (IsUnread asked)
 unread_of_memory (Ok x) asked wants = tt
 unread_of_memory (Err fault) asked wants = inl wants

@@ -1,4 +1,5 @@
--- The table of ops: a row for each op, with its name, the members of its line, and what a line with them asks for. Ours, unless a source stands beside.
+-- The table of ops: a row for each op, with its name, the members of its line, and what a line with
+-- them asks for. Ours, unless a source stands beside.
 use Prim.Native.String.{String}
 use Rattle.std.specs.Prelude.{ℕ, List, [], ◌∷◌, ◌++◌, Option, true, false, codes, map}
 use Rattle.std.specs.List.{find}

@@ -1,4 +1,4 @@
-//! Reads a line: what it asks for.
+//! Reads what a line asks for.
 #![tactic(auto)]
 
 mod asked;

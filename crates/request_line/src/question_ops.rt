@@ -1,4 +1,4 @@
-//! What a line asks for: questions.
+//! What a line asks for: questions, which change nothing.
 ghost use Rattle.std.specs.Prelude.{◌≡◌};
 ghost use Rattle.serde_json.specs.View.{members_view};
 ghost use Rattle.request_line.specs.Table.{asked_of};
