@@ -19,7 +19,7 @@ pub enum ArgFault {
     /// The words ask for no run; asking for help is no run either.
     #[error("usage: metad run [--workers 1..16]")]
     Usage,
-    /// A growth was refused.
+    /// Memory ran out.
     #[error("metad: fault 7 OutOfMemory")]
     OutOfMemory,
 }
