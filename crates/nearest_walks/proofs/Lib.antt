@@ -4,3 +4,5 @@ pub mod Bounded
 pub mod WalksBack
 pub mod Exactly
 pub mod FirstPlaces
+pub mod DepthsSeen
+pub mod DepthSearches

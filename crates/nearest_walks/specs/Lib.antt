@@ -2,3 +2,4 @@ pub mod Nearest
 pub mod Seeing
 pub mod Forests
 pub mod Firsts
+pub mod Depths

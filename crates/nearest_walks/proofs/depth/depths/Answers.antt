@@ -1,60 +1,111 @@
-use Rattle.std.proofs.Common.{◌≡◌, ◌∙◌, ◌<◌, ◌++◌, ℕ, List, length, get_or, take, drop, sym, ap, subst, arith, None, Option}
-use Rattle.std.specs.Prelude.{All, ◌==◌}
-use Rattle.std.proofs.lemmas.List.{take_at}
+use Rattle.std.proofs.Common.{◌≡◌, ◌∙◌, ◌+◌, ◌<◌, ◌≤◌, ℕ, List, [], Option, length, sym, subst, arith, None}
 use Rattle.mark_core.specs.declared.graph.Graph.{Graph}
-use Rattle.mark_core.specs.Reach.{node_count}
-use Rattle.nearest_walks.specs.declared.seen.Seen.{Seen}
-use Rattle.nearest_walks.specs.Firsts.{filled}
-use Rattle.nearest_walks.specs.Nearest.{IsDepth}
-use Rattle.nearest_walks.proofs.Seeings.{get_or_any}
-use Rattle.nearest_walks.proofs.Bounded.{seen_in_range}
-use Rattle.nearest_walks.proofs.FirstPlaces.{no_seen, depth_below, depth_below-more, depth_of_all}
+use Rattle.nearest_walks.specs.Depths.{Tells}
+use Rattle.nearest_walks.specs.Seeing.{see_all}
+use Rattle.nearest_walks.proofs.DepthSearches.{Searched, seen_at, started, few_queued, node_below, depth_is, depth_low, goes_on, depths_are}
 use Rattle.nearest_walks.proofs.depth.depths.Goals as goal
 
--- what was seen is a node of the graph
-pub fill-requires : goal.fill-requires
-fill-requires c =
-    let g : Graph = c.args.graph.now in
-    let seen : List Seen = c.in_ok-forest.forest.seen.items in
-    let this : Seen = c.index.result.now in
-    let inside : c.loop-place.place < length seen = omega arith in
-    let all : All (λ s. s.node < node_count g) seen =
-    seen_in_range g c.args.own.now c.args.held.now seen c.requires.range c.requires.own c.requires.held c.in_ok-forest.ensures.comes in
-    let one : (get_or seen c.loop-place.place this).node < node_count g = all c.loop-place.place this inside in
-    let here : this.node < node_count g = subst (λ (s : Seen). s.node < node_count g) (sym c.index.ensures) one in
-    subst (λ n. this.node < n) (sym (ap length c.deref_mut.ensures.value ∙ c.loop-place.invariant.count)) here
-
--- one more place
-pub loop-place-preserved : goal.loop-place-preserved
-loop-place-preserved c =
-    let seen : List Seen = c.in_ok-forest.forest.seen.items in
-    let place : ℕ = c.loop-place.place in
-    let inside : place < length seen = omega arith in
-    let old : List (Option ℕ) = c.loop-place.depths.items in
-    let new : List (Option ℕ) = c.fill.new.depths in
-    let this : Seen = get_or seen place no_seen in
-    let is : c.index.result.now ≡ this = c.index.ensures ∙ get_or_any seen place c.index.result.now no_seen inside in
-    let whole : take c.loop-place.depths.len (new ++ drop (length new) old) ≡ new =
-    take_at new (drop (length new) old) c.loop-place.depths.len (c.fill.ensures.count ∙ c.deref_mut.ensures.len) in
-    let same = c.deref_mut.ensures.value in
+-- the starts are seen, those that cost nothing first
+pub loop-next-init : goal.loop-next-init
+loop-next-init c =
+    let own : List ℕ = c.args.own.now in
+    let held : List ℕ = c.args.held.now in
+    let none : Tells [] c.in_ok-queue.queue.items c.in_ok-depths.depths.items = (
+      c.in_ok-queue.ensures.items,
+      λ n h. c.in_ok-depths.ensures.none n (subst (λ l. n < l) c.in_ok-depths.ensures.count h),
+    ) in
     record {
-      count = ap length whole ∙ c.fill.ensures.count ∙ ap length same ∙ c.loop-place.invariant.count;
-      each = λ n h.
-          let inside' : n < length c.deref_mut.result.now = subst (λ k. n < k) (sym (ap length same ∙ c.loop-place.invariant.count)) h in
-          ap (λ (l : List (Option ℕ)). get_or l n None) whole
-          ∙ c.fill.ensures.each n inside'
-          ∙ (λ j. filled (get_or (same j) n None) ((is j).node == n) (is j).depth)
-          ∙ ap (λ o. filled o (this.node == n) this.depth) (c.loop-place.invariant.each n h)
-          ∙ sym (depth_below-more seen n place);
+      count = c.in_ok-see_all-2.ensures.count ∙ c.in_ok-see_all.ensures.count
+          ∙ c.in_ok-depths.ensures.count ∙ c.len.ensures.count;
+      searched = started c.args.graph.now own held c.see_all-2.new.queue.items
+          c.see_all-2.new.depths.items
+          (c.in_ok-see_all-2.ensures.sees (see_all None 0 [] own) None
+          (c.in_ok-see_all.ensures.sees [] None none));
     }
 
--- the first place of a node is the nearest
-pub returns-clause-nearest : goal.returns-clause-nearest
-returns-clause-nearest c =
+-- what was seen is a node of the graph
+pub depth_at-depth-requires : goal.depth_at-depth-requires
+depth_at-depth-requires c =
+    let n : ℕ = c.index-node.result.now in
+    let inside : c.loop-next.next < length c.loop-next.queue.items = omega arith in
+    subst (λ l. n < l) (sym c.loop-next.invariant.count)
+    (node_below c.args.graph.now c.args.own.now c.args.held.now c.loop-next.queue.items
+    c.loop-next.depths.items c.loop-next.next c.loop-next.invariant.searched
+    inside n c.index-node.ensures
+    c.requires.range c.requires.own c.requires.held)
+
+-- no more nodes are seen than there are, so their number and their depth fit in 32 bits
+pub overflow_add-depth : goal.overflow_add-depth
+overflow_add-depth c =
     let g : Graph = c.args.graph.now in
     let own : List ℕ = c.args.own.now in
     let held : List ℕ = c.args.held.now in
-    let seen : List Seen = c.in_ok-forest.forest.seen.items in
-    let over : c.loop-place.place ≡ length seen = omega arith in
-    λ n h. subst (IsDepth g own held n) (sym (c.loop-place.invariant.each n h ∙ ap (depth_below seen n) over))
-    (depth_of_all g own held seen c.in_ok-forest.ensures n)
+    let queue : List ℕ = c.loop-next.queue.items in
+    let depths : List (Option ℕ) = c.loop-next.depths.items in
+    let next : ℕ = c.loop-next.next in
+    let s : Searched g own held queue depths next = c.loop-next.invariant.searched in
+    let n : ℕ = c.index-node.result.now in
+    let inside : next < length queue = omega arith in
+    let below = node_below g own held queue depths next s
+    inside n c.index-node.ensures c.requires.range c.requires.own c.requires.held in
+    let is = depth_is g own held queue depths next s
+    inside n c.index-node.ensures (subst (λ l. n < l) (sym c.loop-next.invariant.count) below) in
+    let deep : c.depth_at-depth.result ≡ (seen_at s.seen next).depth =
+    c.depth_at-depth.ensures (seen_at s.seen next).depth is in
+    let low = depth_low g own held queue depths next s inside n c.index-node.ensures in
+    let all = few_queued g own held queue depths next s
+    c.requires.range c.requires.own c.requires.held in
+    let few = c.requires.few in
+    omega arith
+
+pub overflow_add-next : goal.overflow_add-next
+overflow_add-next c =
+    let all = few_queued c.args.graph.now c.args.own.now c.args.held.now c.loop-next.queue.items
+    c.loop-next.depths.items c.loop-next.next c.loop-next.invariant.searched
+    c.requires.range c.requires.own c.requires.held in
+    let few = c.requires.few in
+    omega arith
+
+-- no more nodes are seen than there are, and one more of them is done
+pub loop-next-smaller : goal.loop-next-smaller
+loop-next-smaller c =
+    let all = few_queued c.args.graph.now c.args.own.now c.args.held.now c.loop-next.queue.items
+    c.loop-next.depths.items c.loop-next.next c.loop-next.invariant.searched
+    c.requires.range c.requires.own c.requires.held in
+    omega arith
+
+-- the targets of the node at the place are seen
+pub loop-next-preserved : goal.loop-next-preserved
+loop-next-preserved c =
+    let g : Graph = c.args.graph.now in
+    let own : List ℕ = c.args.own.now in
+    let held : List ℕ = c.args.held.now in
+    let queue : List ℕ = c.loop-next.queue.items in
+    let depths : List (Option ℕ) = c.loop-next.depths.items in
+    let next : ℕ = c.loop-next.next in
+    let s : Searched g own held queue depths next = c.loop-next.invariant.searched in
+    let n : ℕ = c.index-node.result.now in
+    let depth : ℕ = c.depth_at-depth.result in
+    let queue' : List ℕ = c.see_all-in-loop-next.new.queue.items in
+    let depths' : List (Option ℕ) = c.see_all-in-loop-next.new.depths.items in
+    let inside : next < length queue = omega arith in
+    let below = node_below g own held queue depths next s
+    inside n c.index-node.ensures c.requires.range c.requires.own c.requires.held in
+    let is = depth_is g own held queue depths next s
+    inside n c.index-node.ensures (subst (λ l. n < l) (sym c.loop-next.invariant.count) below) in
+    record {
+      count = c.in_ok-see_all-3.ensures.count ∙ c.loop-next.invariant.count;
+      searched = goes_on g own held queue depths next s inside n c.index-node.ensures depth
+          (c.depth_at-depth.ensures (seen_at s.seen next).depth is) queue' depths'
+          (λ seen before t.
+          subst (λ (ts : List ℕ). Tells (see_all before (depth + 1) seen ts) queue' depths') c.targets.ensures
+          (c.in_ok-see_all-3.ensures.sees seen before t));
+    }
+
+-- all that was seen is done
+pub returns-clause-nearest : goal.returns-clause-nearest
+returns-clause-nearest c =
+    let over : length c.loop-next.queue.items ≤ c.loop-next.next = omega arith in
+    λ n h. depths_are c.args.graph.now c.args.own.now c.args.held.now c.loop-next.queue.items
+    c.loop-next.depths.items c.loop-next.next c.loop-next.invariant.searched over n
+    (subst (λ l. n < l) (sym c.loop-next.invariant.count) h)

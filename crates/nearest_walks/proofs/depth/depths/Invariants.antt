@@ -1,11 +1,15 @@
-use Rattle.std.proofs.Common.{◌≡◌, ◌<◌, ℕ, length, get_or, None}
+use Rattle.std.proofs.Common.{◌≡◌, ◌-◌, length}
 use Rattle.mark_core.specs.Reach.{node_count}
-use Rattle.nearest_walks.proofs.FirstPlaces.{depth_below}
+use Rattle.nearest_walks.proofs.DepthSearches.{Searched}
 use Rattle.nearest_walks.proofs.depth.depths.Given as goal
 
--- the nodes so far have their depth
-abbrev pub invariant-loop-place : goal.invariant-loop-place
-invariant-loop-place l = record {
+-- the targets of all before the place were seen
+abbrev pub invariant-loop-next : goal.invariant-loop-next
+invariant-loop-next l = record {
   count : length l.depths.items ≡ node_count l.graph;
-  each : (n : ℕ) → n < node_count l.graph → get_or l.depths.items n None ≡ depth_below l.forest.seen.items n l.place;
+  searched : Searched l.graph l.own l.held l.queue.items l.depths.items l.next;
 }
+
+-- no more nodes are seen than there are
+abbrev pub decreases-loop-next : goal.decreases-loop-next
+decreases-loop-next l = node_count l.graph - l.next
