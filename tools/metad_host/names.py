@@ -1,5 +1,7 @@
 """Which names a store has, as the replies of its script tell it: what isn't there, and what is there already."""
 
+from .requests import QUESTIONS
+
 # the member that names a row, by the first word of an op
 OWN = {"image": "name", "container": "name", "content": "digest", "ingest": "ref", "snap": "key", "lease": "id"}
 
@@ -16,6 +18,8 @@ class Names:
         ns = request.get("ns")
         if ns not in self.namespaces:
             return ["ns"]
+        if op in QUESTIONS:
+            return ["resource"]
         found = []
         if op in ("lease.drop",) and ("lease", ns, request["id"]) in self.rows:
             return ["resource"]  # the lease is there

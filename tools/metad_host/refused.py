@@ -14,6 +14,7 @@ MADE = {"ns.add": "ns", "image.add": "name", "container.add": "name", "content.a
 FORBIDDEN = {"ns.remove": "ns: an object or a lease is in it", "ingest.begin": "ref: no number is left for it", "ingest.commit": "digest: the ingest expects another",
              "snap.prepare": "parent: not committed", "snap.view": "parent: not committed", "snap.commit": "key: not active", "snap.remove": "key: it has children",
              "profile": "v: something was stored before", "gc.run": "at: too many rows for a collection", "gc.plan": "at: too many rows for a collection",
+             "gc.explain": "at: too many rows for a collection", "gc.impact": "resource: it has children",
              "image.remove": "sync: too many rows for a collection", "lease.remove": "sync: too many rows for a collection"}
 OTHER = {7: "memory was refused", 8: "a thread couldn't be started", 9: "the device failed"}
 

@@ -20,7 +20,7 @@ snap.commit ns snapshotter key name [labels] [lease]; snap.remove ns snapshotter
 snap.label ns snapshotter name key value
 lease.add ns id [labels]; lease.remove ns id [sync]; lease.get ns id; lease.list ns; lease.label ns id key value
 lease.hold ns id type resource; lease.drop ns id type resource; lease.resources ns id
-profile v; gc.run at; gc.plan at""".replace("\n", ";").split(";"):
+profile v; gc.run at; gc.plan at; gc.explain ns type resource at; gc.impact ns type resource at""".replace("\n", ";").split(";"):
     _op, *_members = _row.split()
     OPS[_op] = ([_name.strip("[]") for _name in _members], {_name[1:-1] for _name in _members if _name.startswith("[")})
 
@@ -28,6 +28,8 @@ SHORT_RULE = "not 1 to 76 letters, digits, '.', '_' or '-', of which the first i
 NAME_RULE = "not 1 to 1,024 bytes without control characters"
 TIME_RULE = "no time such as 2024-03-01T00:00:00Z"
 TYPE_RULE = "neither content, nor ingests, nor snapshots/ with a snapshotter"
+QUESTIONS = ("gc.explain", "gc.impact")  # they ask of a row of any kind
+ROW_RULE = "neither images, containers, leases, content, nor ingests, nor snapshots/ with a snapshotter"
 
 
 class NoRequest(Exception):
@@ -152,10 +154,14 @@ def broken(op, name, request):
         return labels_rule(text)
     if name == "v":
         return None if text in (1, 2) else "neither 1 nor 2"
+    if name == "type" and op in QUESTIONS:
+        return None if resource_type(text) or text in ("images", "containers", "leases") else ROW_RULE
     if name == "type":
         return None if resource_type(text) else TYPE_RULE
-    if name == "resource" and resource_type(request["type"]) in (None, "content"):
-        return digest_rule(text) if resource_type(request["type"]) else None
+    if name == "resource" and broken(op, "type", request):
+        return None
+    if name == "resource" and request["type"] == "content":
+        return digest_rule(text)
     return name_rule(text)
 
 
