@@ -63,6 +63,7 @@ impl<S: SnapBackend, B: BlobBackend, I: IngestBackend> Backends<S, B, I> {
         }) }
         ensures err { OnErr result (self.new ≡ self.old) }
     {
+        // The list of the shards has its allocator.
         let _ = alloc;
         self.shards.set(snapshotter, shard)
     }

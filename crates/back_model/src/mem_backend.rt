@@ -104,6 +104,7 @@ fn add_child(nodes: &mut BTreeMap<u64, Node>, parent: Option<u64>)
     // There are no more children than snapshots, whose number fits.
     let _ = nodes.len();
     let children = node.children + 1;
+    // The key is there, so this takes no memory.
     let _ = nodes.insert(above, Node { children, ..node });
 }
 
@@ -121,6 +122,7 @@ fn drop_child(nodes: &mut BTreeMap<u64, Node>, parent: Option<u64>)
         unreachable!()
     };
     let children = node.children - 1;
+    // The key is there, so this takes no memory.
     let _ = nodes.insert(above, Node { children, ..node });
 }
 

@@ -51,6 +51,7 @@ impl IngestBackend for MemIngests {
     }
 
     fn holds(&self, number: u64) -> bool {
+        // The set is in order where a key is looked for.
         let _len = self.numbers.len();
         self.numbers.contains(&number)
     }

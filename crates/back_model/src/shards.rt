@@ -177,6 +177,7 @@ impl Shards<MemBackend> {
     pub(crate) fn never_failed(&self)
         ensures { all_failures self.now ≡ 0 }
     {
+        // To read the shards opens what the type keeps of them.
         let _ = &self.shards;
     }
 }

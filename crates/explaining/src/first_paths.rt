@@ -37,6 +37,7 @@ fn numbers_back(
     numbers.push(number)?;
     let mut here = number;
     for step in 0..steps {
+        // The steps only bound the loop.
         let _step = step;
         let Some(next) = before[here as usize] else {
             return Ok((numbers, here));

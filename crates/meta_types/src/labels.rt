@@ -221,6 +221,7 @@ fn remove_found(entries: &mut Vec<(String, String)>, found: Result<usize, usize>
     ensures absent { OnErr found (texts_of entries.new.items ≡ texts_of entries.old.items) }
 {
     if let Ok(place) = found {
+        // The label itself isn't wanted.
         let _label = entries.remove(place);
     }
 }
