@@ -1,12 +1,10 @@
 -- How many numbers there are, and the graph at a moment.
-use Rattle.std.proofs.Common.{◌≡◌, ℕ, ◌+◌, ◌*◌, ◌<◌, ◌≤◌, false, List, ◌++◌, map, length, filter, get_or, refl, ap, ◌∙◌, inl, inr, arith, ℤ, nat_lt, Bor}
+use Rattle.std.proofs.Common.{◌≡◌, ℕ, ◌+◌, ◌<◌, ◌≤◌, false, List, ◌++◌, map, length, filter, get_or, refl, ap, ◌∙◌, inl, inr, arith, ℤ, nat_lt, Bor}
 use Rattle.std.specs.Prelude.{All}
 use Rattle.std.specs.List.{flat_map}
 use Rattle.std.proofs.lemmas.Bool.Decides.{nat_tests}
 use Rattle.std.proofs.lemmas.List.{length-append, length-map}
 use Rattle.std.proofs.lemmas.List.Elements.{Contains-get_or}
-use Rattle.meta_types.specs.Limits.{is_too_large}
-use Rattle.meta_types.specs.declared.limits.TheConstants.{MAX_NODES}
 use Rattle.meta_types.specs.Rows.{Records}
 use Rattle.meta_types.specs.Paths.{ingest, content, snapshot, is_root}
 use Rattle.meta_types.specs.declared.resource.Mode.TheVariants.{Full, Flat}
@@ -30,14 +28,6 @@ use Rattle.explaining.proofs.WalkPaths.{start_ends}
 
 no_more : (a b : ℕ) → nat_lt a b ≡ false → b ≤ a
 no_more a b h = grind (arith, nat_tests)
-
-pub is_small : (stored : StoreRows) → is_too_large (records_of stored) ≡ false → IsSmall stored
-is_small stored h =
-    let c = length-map stored.content.now (λ (r : Bor ContentRow). r.now) in
-    let s = length-map stored.snapshots.now (λ (r : Bor SnapRow). r.now) in
-    let g = length-map stored.ingests.now (λ (r : Bor IngestRow). r.now) in
-    let k = no_more MAX_NODES (2 * (length (map (λ (r : Bor ContentRow). r.now) stored.content.now) + length (map (λ (r : Bor SnapRow). r.now) stored.snapshots.now)) + length (map (λ (r : Bor IngestRow). r.now) stored.ingests.now)) h in
-    omega (arith, c, s, g, k)
 
 pub few_numbered : (stored : StoreRows) → IsSmall stored → length (numbered (records_of stored)) ≤ 16777216
 few_numbered stored small =

@@ -1,5 +1,5 @@
 -- Folds that have come to a place.
-use Rattle.std.proofs.Common.{◌≡◌, ℕ, zero, suc, ◌+◌, ◌<◌, ◌≤◌, List, [], ◌∷◌, ◌++◌, map, length, get_or, take, refl, sym, ap, ◌∙◌, arith, fold, Bor}
+use Rattle.std.proofs.Common.{◌≡◌, ℕ, zero, suc, ◌+◌, ◌<◌, List, [], ◌∷◌, ◌++◌, map, length, get_or, take, sym, ap, ◌∙◌, arith, fold, Bor}
 use Rattle.std.proofs.lemmas.List.Sums.{fold-append}
 use Rattle.meta_types.specs.Rows.{LeaseRow}
 use Rattle.meta_types.specs.Paths.{Thing, image, container, lease}
@@ -18,17 +18,6 @@ module _ {Row Y Z : Type 0} (f : Z → Y → Z) (g : Row → Y) where
       let none_more : k ≡ 0 = omega (arith, up) in
       ap (λ j. fold f (f b (g y)) (map g (take j xs))) none_more ∙ ap (λ z. f b (g z)) (sym is)
   next b (y ∷ xs) (suc i) (suc k) x up lt is = next (f b (g y)) xs i k x (omega (arith, up)) (omega (arith, lt)) is
-
-  -- one element more
-  pub folded : (b : Z) (xs : List Row) (i : ℕ) (x : Row) → i < length xs → x ≡ get_or xs i x → fold f b (map g (take (i + 1) xs)) ≡ f (fold f b (map g (take i xs))) (g x)
-  folded b xs i x = next b xs i (i + 1) x refl
-
-  -- all of them
-  pub all_folded : (b : Z) (xs : List Row) (i : ℕ) → length xs ≤ i → fold f b (map g (take i xs)) ≡ fold f b (map g xs)
-  all_folded b [] zero le = refl
-  all_folded b [] (suc i) le = refl
-  all_folded b (y ∷ xs) zero le = absurd (omega (arith, le))
-  all_folded b (y ∷ xs) (suc i) le = all_folded (f b (g y)) xs i (omega (arith, le))
 
 -- images, then containers, then leases
 pub three_folded : {Z : Type 0} (f : Z → Thing → Z) (b : Z) (stored : StoreRows)

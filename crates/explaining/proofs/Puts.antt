@@ -1,44 +1,12 @@
 -- A number that is put where it goes first.
-use Rattle.std.proofs.Common.{◌≡◌, ◌≢◌, ℕ, zero, suc, ◌+◌, ◌<◌, Bool, true, false, List, [], ◌∷◌, length, get_or, take, refl, sym, ap, ◌∙◌, subst, inl, inr, arith, Option, Some, None}
-use Rattle.std.specs.Prelude.{◌&&◌, ◌||◌, ◌==◌, IfSome, if◌then◌else◌, slice_set}
+use Rattle.std.proofs.Common.{◌≡◌, ℕ, zero, suc, ◌+◌, ◌<◌, Bool, true, false, List, [], ◌∷◌, length, get_or, take, refl, sym, ap, ◌∙◌, subst, arith, Option, Some, None}
+use Rattle.std.specs.Prelude.{◌&&◌, ◌||◌, ◌==◌, IfSome, if◌then◌else◌}
 use Rattle.std.specs.List.{list_any}
-use Rattle.std.proofs.lemmas.Bool.{cases_Bool}
-use Rattle.std.proofs.lemmas.Bool.Decides.{nat_tests}
-use Rattle.std.proofs.lemmas.List.{get_or-set_same, get_or-set_other}
+use Rattle.gc_graph.proofs.Truths.{or_none}
 use Rattle.explaining.specs.Firsts.{chosen, AreWithin}
-use Rattle.explaining.proofs.ChosenTwice.{not_chosen, chosen_twice}
-
-same_number : (a b : ℕ) → (a == b) ≡ true → b ≡ a
-same_number a b h = grind (arith, nat_tests)
-
-other_number : (a b : ℕ) → (a == b) ≡ false → b ≢ a
-other_number a b h = λ e. grind (arith, nat_tests)
+use Rattle.explaining.proofs.ChosenTwice.{chosen_twice}
 
 module _ (before : ℕ → ℕ → Bool) (from : ℕ) where
-  -- a target a step farther takes the number, and no other does
-  pub put_here : (xs : List (Option ℕ)) (place t : ℕ) (step : ℕ → Bool) → place < length xs → step place ≡ true
-      → get_or (slice_set xs place (chosen before true from (get_or xs place None))) t None ≡ chosen before ((place == t) && step t) from (get_or xs t None)
-  put_here xs place t step lt h = elim (cases_Bool (place == t)) [
-    | inl same ↦ (
-        let e : t ≡ place = same_number place t same in
-        ap (λ k. get_or (slice_set xs place (chosen before true from (get_or xs place None))) k None) e
-        ∙ get_or-set_same xs place (chosen before true from (get_or xs place None)) None lt
-        ∙ sym (ap (λ b. chosen before (b && step t) from (get_or xs t None)) same ∙ ap (λ k. chosen before (step k) from (get_or xs k None)) e ∙ ap (λ b. chosen before b from (get_or xs place None)) h))
-    | inr other ↦
-        get_or-set_other xs place t (chosen before true from (get_or xs place None)) None (other_number place t other)
-        ∙ sym (ap (λ b. chosen before (b && step t) from (get_or xs t None)) other ∙ not_chosen before from (get_or xs t None))
-  ]
-
-  -- nothing changes where the target is no step farther
-  pub put_not : (xs : List (Option ℕ)) (place t : ℕ) (step : ℕ → Bool) → step place ≡ false
-      → get_or xs t None ≡ chosen before ((place == t) && step t) from (get_or xs t None)
-  put_not xs place t step h = elim (cases_Bool (place == t)) [
-    | inl same ↦ (
-        let e : t ≡ place = same_number place t same in
-        sym (ap (λ b. chosen before (b && step t) from (get_or xs t None)) same ∙ ap (λ b. chosen before b from (get_or xs t None)) (ap step e ∙ h) ∙ not_chosen before from (get_or xs t None)))
-    | inr other ↦ sym (ap (λ b. chosen before (b && step t) from (get_or xs t None)) other ∙ not_chosen before from (get_or xs t None))
-  ]
-
   module _ (count : ℕ) (lt : from < count) where
     one_within : (c : Bool) (o : Option ℕ) → IfSome o (λ b. b < count) → IfSome (chosen before c from o) (λ b. b < count)
     one_within false None h = h
@@ -63,10 +31,6 @@ one_more_any p (x ∷ xs) i zero d up lt = absurd (omega (arith, up))
 one_more_any p (x ∷ xs) zero (suc k) d up lt =
     let none : k ≡ 0 = omega (arith, up) in
     ap (λ j. p x || list_any p (take j xs)) none ∙ or_none (p x)
-  where
-    or_none : (b : Bool) → (b || false) ≡ b
-    or_none true = refl
-    or_none false = refl
 one_more_any p (x ∷ xs) (suc i) (suc k) d up lt =
     ap (λ b. p x || b) (one_more_any p xs i k d (omega (arith, up)) (omega (arith, lt))) ∙ grouped (p x) (list_any p (take i xs)) (p (get_or xs i d))
   where

@@ -3,7 +3,6 @@ use Rattle.std.proofs.Common.{◌≡◌, Bool, true, false, List, [], ◌∷◌,
 use Rattle.std.specs.Prelude.{◌&&◌, ◌||◌, bytes_eq, if◌then◌else◌}
 use Rattle.std.specs.List.{list_any}
 use Rattle.std.proofs.lemmas.List.Folds.{list_any-append}
-use Rattle.std.proofs.lemmas.Slice.Eq.{bytes_eq-Decides}
 use Rattle.meta_types.specs.Text.{Text}
 use Rattle.meta_types.specs.Keys.{Key, is_key, row_at, has_row}
 use Rattle.meta_types.specs.Rows.{Records, image_key, container_key, content_key, ingest_key, snap_key, lease_key}
@@ -13,40 +12,24 @@ use Rattle.meta_types.specs.declared.resource.Mode.{Mode}
 use Rattle.meta_types.specs.declared.resource.Mode.TheVariants.{Full, Flat}
 use Rattle.meta_types.specs.declared.resource.Resource.TheVariants.{Content, Snapshot, Ingest}
 use Rattle.meta_types.specs.declared.object.Object.TheVariants.{Image, Container, Lease, Held}
+use Rattle.gc_graph.proofs.Truths.{bytes_flip, and_none, or_none}
 
 -- ---- tests
-
-same_test : (a b : Bool) → (a ≡ true → b ≡ true) → (b ≡ true → a ≡ true) → a ≡ b
-same_test true b f g = sym (f refl)
-same_test false true f g = g refl
-same_test false false f g = refl
-
-turned : (a b : Text) → bytes_eq a b ≡ bytes_eq b a
-turned a b = same_test (bytes_eq a b) (bytes_eq b a)
-    (λ h. (bytes_eq-Decides b a).1 (sym ((bytes_eq-Decides a b).0 h))) (λ h. (bytes_eq-Decides a b).1 (sym ((bytes_eq-Decides b a).0 h)))
 
 and_true : (a : Bool) → (a && true) ≡ a
 and_true true = refl
 and_true false = refl
 
-or_false : (a : Bool) → (a || false) ≡ a
-or_false true = refl
-or_false false = refl
-
 or_itself : (a : Bool) → (a || a) ≡ a
 or_itself true = refl
 or_itself false = refl
 
-and_false : (a : Bool) → (a && false) ≡ false
-and_false true = refl
-and_false false = refl
-
 -- two texts of a row are those of a key
 two_texts : (ns name x y : Text) → (bytes_eq x ns && bytes_eq y name) ≡ is_key (ns ∷ name ∷ []) (x ∷ y ∷ [])
-two_texts ns name x y = λ i. turned x ns i && sym (and_true (turned y name i)) i
+two_texts ns name x y = λ i. bytes_flip x ns i && sym (and_true (bytes_flip y name i)) i
 
 three_texts : (ns group name x y z : Text) → (bytes_eq x ns && (bytes_eq y group && bytes_eq z name)) ≡ is_key (ns ∷ group ∷ name ∷ []) (x ∷ y ∷ z ∷ [])
-three_texts ns group name x y z = λ i. turned x ns i && (turned y group i && sym (and_true (turned z name i)) i)
+three_texts ns group name x y z = λ i. bytes_flip x ns i && (bytes_flip y group i && sym (and_true (bytes_flip z name i)) i)
 
 -- ---- lists
 
@@ -88,9 +71,9 @@ module _ (r : Records) (ns : Text) where
       let h = has_row image_key (ns ∷ name ∷ []) r.tables.images in
       six p r h false false false false false
       (by_key p image_key (ns ∷ name ∷ []) image (λ row. two_texts ns name row.ns row.name) r.tables.images)
-      (no_row p container (λ row. and_false (bytes_eq row.ns ns)) r.tables.containers) (no_row p lease (λ row. and_false (bytes_eq row.ns ns)) r.leases) (no_row p ingest (λ row. and_false (bytes_eq row.ns ns)) r.tables.ingests)
-      (both_modes p content r.tables.content false (no_row p (content Full) (λ row. and_false (bytes_eq row.ns ns)) r.tables.content) (no_row p (content Flat) (λ row. and_false (bytes_eq row.ns ns)) r.tables.content))
-      (both_modes p snapshot r.tables.snapshots false (no_row p (snapshot Full) (λ row. and_false (bytes_eq row.key.ns ns)) r.tables.snapshots) (no_row p (snapshot Flat) (λ row. and_false (bytes_eq row.key.ns ns)) r.tables.snapshots))
+      (no_row p container (λ row. and_none (bytes_eq row.ns ns)) r.tables.containers) (no_row p lease (λ row. and_none (bytes_eq row.ns ns)) r.leases) (no_row p ingest (λ row. and_none (bytes_eq row.ns ns)) r.tables.ingests)
+      (both_modes p content r.tables.content false (no_row p (content Full) (λ row. and_none (bytes_eq row.ns ns)) r.tables.content) (no_row p (content Flat) (λ row. and_none (bytes_eq row.ns ns)) r.tables.content))
+      (both_modes p snapshot r.tables.snapshots false (no_row p (snapshot Full) (λ row. and_none (bytes_eq row.key.ns ns)) r.tables.snapshots) (no_row p (snapshot Flat) (λ row. and_none (bytes_eq row.key.ns ns)) r.tables.snapshots))
       ∙ first_of h
     where
       first_of : (b : Bool) → (((((b || false) || false) || false) || false) || false) ≡ b
@@ -102,11 +85,11 @@ module _ (r : Records) (ns : Text) where
       let p = is_asked ns (Container name) in
       let h = has_row container_key (ns ∷ name ∷ []) r.tables.containers in
       six p r false h false false false false
-      (no_row p image (λ row. and_false (bytes_eq row.ns ns)) r.tables.images)
+      (no_row p image (λ row. and_none (bytes_eq row.ns ns)) r.tables.images)
       (by_key p container_key (ns ∷ name ∷ []) container (λ row. two_texts ns name row.ns row.name) r.tables.containers)
-      (no_row p lease (λ row. and_false (bytes_eq row.ns ns)) r.leases) (no_row p ingest (λ row. and_false (bytes_eq row.ns ns)) r.tables.ingests)
-      (both_modes p content r.tables.content false (no_row p (content Full) (λ row. and_false (bytes_eq row.ns ns)) r.tables.content) (no_row p (content Flat) (λ row. and_false (bytes_eq row.ns ns)) r.tables.content))
-      (both_modes p snapshot r.tables.snapshots false (no_row p (snapshot Full) (λ row. and_false (bytes_eq row.key.ns ns)) r.tables.snapshots) (no_row p (snapshot Flat) (λ row. and_false (bytes_eq row.key.ns ns)) r.tables.snapshots))
+      (no_row p lease (λ row. and_none (bytes_eq row.ns ns)) r.leases) (no_row p ingest (λ row. and_none (bytes_eq row.ns ns)) r.tables.ingests)
+      (both_modes p content r.tables.content false (no_row p (content Full) (λ row. and_none (bytes_eq row.ns ns)) r.tables.content) (no_row p (content Flat) (λ row. and_none (bytes_eq row.ns ns)) r.tables.content))
+      (both_modes p snapshot r.tables.snapshots false (no_row p (snapshot Full) (λ row. and_none (bytes_eq row.key.ns ns)) r.tables.snapshots) (no_row p (snapshot Flat) (λ row. and_none (bytes_eq row.key.ns ns)) r.tables.snapshots))
       ∙ second_of h
     where
       second_of : (b : Bool) → (((((false || b) || false) || false) || false) || false) ≡ b
@@ -118,11 +101,11 @@ module _ (r : Records) (ns : Text) where
       let p = is_asked ns (Lease id) in
       let h = has_row lease_key (ns ∷ id ∷ []) r.leases in
       six p r false false h false false false
-      (no_row p image (λ row. and_false (bytes_eq row.ns ns)) r.tables.images) (no_row p container (λ row. and_false (bytes_eq row.ns ns)) r.tables.containers)
+      (no_row p image (λ row. and_none (bytes_eq row.ns ns)) r.tables.images) (no_row p container (λ row. and_none (bytes_eq row.ns ns)) r.tables.containers)
       (by_key p lease_key (ns ∷ id ∷ []) lease (λ row. two_texts ns id row.ns row.id) r.leases)
-      (no_row p ingest (λ row. and_false (bytes_eq row.ns ns)) r.tables.ingests)
-      (both_modes p content r.tables.content false (no_row p (content Full) (λ row. and_false (bytes_eq row.ns ns)) r.tables.content) (no_row p (content Flat) (λ row. and_false (bytes_eq row.ns ns)) r.tables.content))
-      (both_modes p snapshot r.tables.snapshots false (no_row p (snapshot Full) (λ row. and_false (bytes_eq row.key.ns ns)) r.tables.snapshots) (no_row p (snapshot Flat) (λ row. and_false (bytes_eq row.key.ns ns)) r.tables.snapshots))
+      (no_row p ingest (λ row. and_none (bytes_eq row.ns ns)) r.tables.ingests)
+      (both_modes p content r.tables.content false (no_row p (content Full) (λ row. and_none (bytes_eq row.ns ns)) r.tables.content) (no_row p (content Flat) (λ row. and_none (bytes_eq row.ns ns)) r.tables.content))
+      (both_modes p snapshot r.tables.snapshots false (no_row p (snapshot Full) (λ row. and_none (bytes_eq row.key.ns ns)) r.tables.snapshots) (no_row p (snapshot Flat) (λ row. and_none (bytes_eq row.key.ns ns)) r.tables.snapshots))
       ∙ third_of h
     where
       third_of : (b : Bool) → (((((false || false) || b) || false) || false) || false) ≡ b
@@ -134,10 +117,10 @@ module _ (r : Records) (ns : Text) where
       let p = is_asked ns (Held (Ingest name)) in
       let h = has_row ingest_key (ns ∷ name ∷ []) r.tables.ingests in
       six p r false false false h false false
-      (no_row p image (λ row. and_false (bytes_eq row.ns ns)) r.tables.images) (no_row p container (λ row. and_false (bytes_eq row.ns ns)) r.tables.containers) (no_row p lease (λ row. and_false (bytes_eq row.ns ns)) r.leases)
+      (no_row p image (λ row. and_none (bytes_eq row.ns ns)) r.tables.images) (no_row p container (λ row. and_none (bytes_eq row.ns ns)) r.tables.containers) (no_row p lease (λ row. and_none (bytes_eq row.ns ns)) r.leases)
       (by_key p ingest_key (ns ∷ name ∷ []) ingest (λ row. ap (λ b. bytes_eq row.ns ns && b) (or_itself (bytes_eq row.name name)) ∙ two_texts ns name row.ns row.name) r.tables.ingests)
-      (both_modes p content r.tables.content false (no_row p (content Full) (λ row. and_false (bytes_eq row.ns ns)) r.tables.content) (no_row p (content Flat) (λ row. and_false (bytes_eq row.ns ns)) r.tables.content))
-      (both_modes p snapshot r.tables.snapshots false (no_row p (snapshot Full) (λ row. and_false (bytes_eq row.key.ns ns)) r.tables.snapshots) (no_row p (snapshot Flat) (λ row. and_false (bytes_eq row.key.ns ns)) r.tables.snapshots))
+      (both_modes p content r.tables.content false (no_row p (content Full) (λ row. and_none (bytes_eq row.ns ns)) r.tables.content) (no_row p (content Flat) (λ row. and_none (bytes_eq row.ns ns)) r.tables.content))
+      (both_modes p snapshot r.tables.snapshots false (no_row p (snapshot Full) (λ row. and_none (bytes_eq row.key.ns ns)) r.tables.snapshots) (no_row p (snapshot Flat) (λ row. and_none (bytes_eq row.key.ns ns)) r.tables.snapshots))
       ∙ fourth_of h
     where
       fourth_of : (b : Bool) → (((((false || false) || false) || b) || false) || false) ≡ b
@@ -149,12 +132,12 @@ module _ (r : Records) (ns : Text) where
       let p = is_asked ns (Held (Content digest)) in
       let h = has_row content_key (ns ∷ digest ∷ []) r.tables.content in
       six p r false false false false h false
-      (no_row p image (λ row. and_false (bytes_eq row.ns ns)) r.tables.images) (no_row p container (λ row. and_false (bytes_eq row.ns ns)) r.tables.containers) (no_row p lease (λ row. and_false (bytes_eq row.ns ns)) r.leases)
-      (no_row p ingest (λ row. and_false (bytes_eq row.ns ns)) r.tables.ingests)
+      (no_row p image (λ row. and_none (bytes_eq row.ns ns)) r.tables.images) (no_row p container (λ row. and_none (bytes_eq row.ns ns)) r.tables.containers) (no_row p lease (λ row. and_none (bytes_eq row.ns ns)) r.leases)
+      (no_row p ingest (λ row. and_none (bytes_eq row.ns ns)) r.tables.ingests)
       (both_modes p content r.tables.content h
-      (by_key p content_key (ns ∷ digest ∷ []) (content Full) (λ row. ap (λ b. bytes_eq row.ns ns && b) (or_false (bytes_eq row.digest digest)) ∙ two_texts ns digest row.ns row.digest) r.tables.content)
+      (by_key p content_key (ns ∷ digest ∷ []) (content Full) (λ row. ap (λ b. bytes_eq row.ns ns && b) (or_none (bytes_eq row.digest digest)) ∙ two_texts ns digest row.ns row.digest) r.tables.content)
       (by_key p content_key (ns ∷ digest ∷ []) (content Flat) (λ row. two_texts ns digest row.ns row.digest) r.tables.content))
-      (both_modes p snapshot r.tables.snapshots false (no_row p (snapshot Full) (λ row. and_false (bytes_eq row.key.ns ns)) r.tables.snapshots) (no_row p (snapshot Flat) (λ row. and_false (bytes_eq row.key.ns ns)) r.tables.snapshots))
+      (both_modes p snapshot r.tables.snapshots false (no_row p (snapshot Full) (λ row. and_none (bytes_eq row.key.ns ns)) r.tables.snapshots) (no_row p (snapshot Flat) (λ row. and_none (bytes_eq row.key.ns ns)) r.tables.snapshots))
       ∙ fifth_of h
     where
       fifth_of : (b : Bool) → (((((false || false) || false) || false) || b) || false) ≡ b
@@ -166,9 +149,9 @@ module _ (r : Records) (ns : Text) where
       let p = is_asked ns (Held (Snapshot snapshotter name)) in
       let h = has_row snap_key (ns ∷ snapshotter ∷ name ∷ []) r.tables.snapshots in
       six p r false false false false false h
-      (no_row p image (λ row. and_false (bytes_eq row.ns ns)) r.tables.images) (no_row p container (λ row. and_false (bytes_eq row.ns ns)) r.tables.containers) (no_row p lease (λ row. and_false (bytes_eq row.ns ns)) r.leases)
-      (no_row p ingest (λ row. and_false (bytes_eq row.ns ns)) r.tables.ingests)
-      (both_modes p content r.tables.content false (no_row p (content Full) (λ row. and_false (bytes_eq row.ns ns)) r.tables.content) (no_row p (content Flat) (λ row. and_false (bytes_eq row.ns ns)) r.tables.content))
+      (no_row p image (λ row. and_none (bytes_eq row.ns ns)) r.tables.images) (no_row p container (λ row. and_none (bytes_eq row.ns ns)) r.tables.containers) (no_row p lease (λ row. and_none (bytes_eq row.ns ns)) r.leases)
+      (no_row p ingest (λ row. and_none (bytes_eq row.ns ns)) r.tables.ingests)
+      (both_modes p content r.tables.content false (no_row p (content Full) (λ row. and_none (bytes_eq row.ns ns)) r.tables.content) (no_row p (content Flat) (λ row. and_none (bytes_eq row.ns ns)) r.tables.content))
       (both_modes p snapshot r.tables.snapshots h
-      (by_key p snap_key (ns ∷ snapshotter ∷ name ∷ []) (snapshot Full) (λ row. ap (λ b. bytes_eq row.key.ns ns && b) (or_false (bytes_eq row.key.snapshotter snapshotter && bytes_eq row.key.name name)) ∙ three_texts ns snapshotter name row.key.ns row.key.snapshotter row.key.name) r.tables.snapshots)
+      (by_key p snap_key (ns ∷ snapshotter ∷ name ∷ []) (snapshot Full) (λ row. ap (λ b. bytes_eq row.key.ns ns && b) (or_none (bytes_eq row.key.snapshotter snapshotter && bytes_eq row.key.name name)) ∙ three_texts ns snapshotter name row.key.ns row.key.snapshotter row.key.name) r.tables.snapshots)
       (by_key p snap_key (ns ∷ snapshotter ∷ name ∷ []) (snapshot Flat) (λ row. three_texts ns snapshotter name row.key.ns row.key.snapshotter row.key.name) r.tables.snapshots))

@@ -63,11 +63,6 @@ told_one_more profile word by [] i d steps lt h t = absurd (omega arith)
 told_one_more profile word by (x ∷ xs) zero d steps lt h t = one_step_more profile word by x xs steps h t
 told_one_more profile word by (x ∷ xs) (suc i) d steps lt h t = told_one_more profile word by xs i d steps (omega arith) h t
 
-pub told_none : (profile : ℕ) (word : By) (xs : List Thing) (i : ℕ) → i ≡ length xs → AreTold profile word (drop i xs) []
-told_none profile word [] i e = subst (λ k. AreTold profile word (drop k []) []) (sym e) refl
-told_none profile word (x ∷ xs) zero e = absurd (omega arith)
-told_none profile word (x ∷ xs) (suc i) e = told_none profile word xs i (omega arith)
-
 -- ---- the answer
 
 pub is_kept : (records : Records) (at : ℤ) (asked : Thing → Bool) (xs : List Thing) (steps : List PathStep) → (length xs ≡ 0 → ⊥) → Explains records at asked xs → AreTold records.profile Root xs steps → IsExplanation records at asked true steps

@@ -17,6 +17,7 @@ use Rattle.gc_graph.proofs.References.{no_edge}
 use Rattle.gc_graph.proofs.Things.{HasNone, without_nodes, is_root_thing, split_thing}
 use Rattle.gc_graph.proofs.Walks.{targets_at, edge_number, number_edge, at_place, thing_at}
 use Rattle.nearest_walks.specs.Nearest.{IsStart, IsWalkTo, IsNearest}
+use Rattle.nearest_walks.proofs.Exactly.{walk_push, end_push}
 use Rattle.explaining.specs.Explained.{IsSplitGraphOf, HasShortestPath}
 
 -- what a path ends in is there
@@ -28,15 +29,6 @@ in_store records at last (before ∷ path) p = p.0
 pub ends_alone : (records : Records) (at : ℤ) (last : Thing) (path : List Thing) → IsPath records at last path → Contains (root_things records) last → is_root records.profile at last ≡ true
 ends_alone records at last [] p c = p.1
 ends_alone records at last (before ∷ path) p (k, lt, is) = absurd (false≢true (sym (no_edge before last (subst HasNone is (without_nodes records k last lt))) ∙ p.1))
-
--- a walk goes on along an edge of its end
-walk_push : (edges : List (List ℕ)) (a : ℕ) (walk : List ℕ) (b : ℕ) → IsWalk edges a walk → Contains (get_or edges (end_of a walk) []) b → IsWalk edges a (walk ++ b ∷ [])
-walk_push edges a [] b w c = (c, tt)
-walk_push edges a (x ∷ walk) b w c = (w.0, walk_push edges x walk b w.1 c)
-
-end_push : (a : ℕ) (walk : List ℕ) (b : ℕ) → end_of a (walk ++ b ∷ []) ≡ b
-end_push a [] b = refl
-end_push a (x ∷ walk) b = end_push x walk b
 
 -- at a step more
 walk_to_push : (g : Graph) (own held : List ℕ) (a cost b : ℕ) (walk : List ℕ) → IsWalkTo g own held a cost walk → Contains (targets g a) b → IsWalkTo g own held b (cost + 1) (walk ++ b ∷ [])
