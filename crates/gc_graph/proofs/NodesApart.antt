@@ -1,10 +1,8 @@
 -- Rows in the order of their keys have nodes of their own.
-use Rattle.std.proofs.Common.{◌≡◌, ◌≢◌, ℕ, zero, suc, true, List, [], ◌∷◌, ◌++◌, map, get_or, refl, sym, ap, ◌∙◌, arith}
+use Rattle.std.proofs.Common.{◌≡◌, ◌≢◌, ℕ, zero, suc, List, [], ◌∷◌, ◌++◌, map, get_or, refl, sym, ap, ◌∙◌, arith}
 use Rattle.std.specs.Prelude.{All, AllPairs}
-use Rattle.std.proofs.lemmas.Bool.{and_parts}
 use Rattle.std.proofs.lemmas.List.Kept.{AllPairs-cons}
-use Rattle.meta_types.proofs.Ordered.{before_trans}
-use Rattle.meta_types.specs.Keys.{Key, is_before, is_first, are_in_order}
+use Rattle.meta_types.specs.Keys.{Key}
 use Rattle.meta_types.specs.Rows.{content_key, ingest_key, snap_key}
 use Rattle.meta_types.specs.Rows.{Records}
 use Rattle.meta_types.specs.declared.rows.ContentRow.{ContentRow}
@@ -42,16 +40,6 @@ AllPairs-append R [] ys h k cross = k
 AllPairs-append R (x ∷ xs) ys h k cross =
     AllPairs-cons R x (xs ++ ys) (All-append (R x) xs ys (λ j e below. h 0 (suc j) e (omega arith) (omega arith)) (cross 0 x (omega arith)))
     (AllPairs-append R xs ys (λ i j e lt within. h (suc i) (suc j) e (omega arith) (omega arith)) k (λ j e below. cross (suc j) e (omega arith)))
-
--- ---- keys in order
-
-module _ {Row : Type 0} (key_of : Row → Key) where
-  before_all : (row : Row) (rows : List Row) → is_first key_of row rows ≡ true → are_in_order key_of rows ≡ true → All (λ other. is_before (key_of row) (key_of other) ≡ true) rows
-  before_all row [] p o i d lt = absurd (omega arith)
-  before_all row (next ∷ rows) p o zero d lt = p
-  before_all row (next ∷ rows) p o (suc i) d lt =
-      let parts = and_parts (is_first key_of next rows) (are_in_order key_of rows) o in
-      before_trans (key_of row) (key_of next) (key_of (get_or rows i d)) p (before_all next rows parts.0 parts.1 i d (omega arith))
 
 -- ---- nodes
 
