@@ -18,7 +18,8 @@ use Rattle.meta_types.proofs.KeepsSound.{all_added, all_removed}
 use Rattle.meta_types.proofs.TablesAfter.{above_is}
 use Rattle.meta_types.proofs.ListSearches.{some_is}
 use Rattle.object_tables.proofs.PairsKept.{pairs_added}
-use Rattle.object_tables.proofs.RowsKept.{keys_same, pairs_removed, pairs_of, no_row_of, row_removed, row_added, free_removed}
+use Rattle.row_tables.proofs.NamespaceLists.{keys_same}
+use Rattle.object_tables.proofs.RowsKept.{pairs_removed, pairs_of, no_row_of, row_removed, row_added, free_removed}
 use Rattle.object_tables.proofs.ParentsKept.{key_above, number_above, Stays, parent_kept}
 use Rattle.object_tables.proofs.NumbersKept.{Apart, TwoSnaps, turned}
 

@@ -12,8 +12,9 @@ use Rattle.row_tables.specs.Arrived.{one_text, Becomes}
 use Rattle.object_tables.specs.Children.{Enters, entered, left, parent_key, family_key, names_of, family_names, first_family, with_child, without_child}
 use Rattle.object_tables.specs.declared.families.Family.{Family}
 use Rattle.row_tables.proofs.ChangedThere.{stayed}
-use Rattle.object_tables.proofs.Inserted.{gone_free}
-use Rattle.object_tables.proofs.RowsKept.{keys_same, key_itself, row_is, row_added, row_removed}
+use Rattle.meta_types.proofs.Puts.{no_row_removed}
+use Rattle.row_tables.proofs.NamespaceLists.{keys_same}
+use Rattle.object_tables.proofs.RowsKept.{key_itself, row_is, row_added, row_removed}
 
 pub none_at : {X : Type 0} (o : Option X) → is_some o ≡ false → o ≡ None
 none_at None h = refl
@@ -161,7 +162,7 @@ module _ (key : SnapKey) (parent : Text) (families : List Family) where
         | inl t ↦ (
             let same = keys_same (a ∷ b ∷ c ∷ []) home t in
             ap (λ k. names_of (row_at family_key k (remove_row family_key home families))) same
-            ∙ ap names_of (none_at (row_at family_key home (remove_row family_key home families)) (gone_free family_key home families o))
+            ∙ ap names_of (none_at (row_at family_key home (remove_row family_key home families)) (no_row_removed family_key home families o))
             ∙ sym empty ∙ ap (λ k. names_of (row_at family_key k families)) (sym same))
         | inr f ↦ ap names_of (row_removed family_key (a ∷ b ∷ c ∷ []) home f families)
       ]

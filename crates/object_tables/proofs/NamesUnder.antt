@@ -1,12 +1,12 @@
 -- The names of the snapshots under each parent follow the rows.
-use Rattle.std.proofs.Common.{◌≡◌, Bool, true, false, not, List, [], ◌∷◌, length, map, suc, refl, sym, ap, ◌∙◌, arith, inl, inr, get_or}
+use Rattle.std.proofs.Common.{◌≡◌, Bool, true, false, not, List, [], ◌∷◌, length, map, refl, sym, ap, ◌∙◌, arith, inl, inr, get_or}
 use Rattle.std.specs.Prelude.{All, Option, Some, None, bytes_eq, filter, if◌then◌else◌, ◌&&◌, ◌==◌}
 use Rattle.std.specs.Option.{option_map_or}
 use Rattle.std.specs.List.{list_any}
 use Rattle.std.specs.Ordering.{is_lt, ordering_then}
 use Rattle.std.specs.Cmp.{tied_itself}
 use Rattle.std.specs.Cmp.Lexicographic.{slice_cmp, same_text, nat_list_eq_equiv, nat_list_cmp_total}
-use Rattle.std.proofs.lemmas.Bool.{cases_Bool, and_parts, ne_eqb}
+use Rattle.std.proofs.lemmas.Bool.{cases_Bool, and_parts}
 use Rattle.std.proofs.lemmas.List.{length-map}
 use Rattle.std.proofs.lemmas.List.Elements.{All-head, All-tail, All-nil, All-cons}
 use Rattle.meta_types.specs.Text.{Text, text_cmp}
@@ -23,6 +23,7 @@ use Rattle.row_tables.specs.Arrived.{one_text, kept}
 use Rattle.row_tables.specs.Visiting.{gone, all_visited}
 use Rattle.object_tables.specs.Children.{NamesByParent, names_under, entered, left, left_by, without_row, child_named}
 use Rattle.object_tables.specs.Calls.{children_of}
+use Rattle.row_tables.proofs.NamespaceRows.{any_pass}
 use Rattle.object_tables.proofs.Inserted.{filtered_in, filtered_out}
 use Rattle.object_tables.proofs.RowsKept.{key_itself, all_kept, taken_out}
 
@@ -200,14 +201,7 @@ named_relabelled key labels_in rows = λ i a b c. at a b c rows i
 
 -- ---- what the names tell
 
--- some item passes where those that pass are not none
-any_pass : {X : Type 0} (p : X → Bool) (xs : List X) → list_any p xs ≡ not (length (filter p xs) == 0)
-any_pass p [] = refl
-any_pass p (x ∷ xs) = elim (cases_Bool (p x)) [
-  | inl t ↦ rw t (sym (ap not (ne_eqb (suc (length (filter p xs))) 0 (λ e. absurd (omega arith)))))
-  | inr f ↦ rw f (any_pass p xs)
-]
-
+-- some row is a child where the names of the children are not none
 pub some_named : (a b c : Text) (rows : List SnapRow) → list_any (is_child_of a b c) rows ≡ not (length (names_under rows a b c) == 0)
 some_named a b c rows = any_pass (is_child_of a b c) rows ∙ ap (λ n. not (n == 0)) (sym (length-map (filter (is_child_of a b c) rows) name))
 

@@ -1,8 +1,7 @@
 -- Rows in order stay so by what a call does to them.
-use Rattle.std.proofs.Common.{◌≡◌, ◌<◌, false, List, [], ◌∷◌, length, get_or, refl, ap, arith, inl, inr}
-use Rattle.std.proofs.Math.Numerals.{one-add}
-use Rattle.std.specs.List.{list_any, position_or_len}
-use Rattle.std.specs.Prelude.{Result, Ok, Err, OnOk, OnErr, IsTrue, bytes_eq, slice_set}
+use Rattle.std.proofs.Common.{◌≡◌, false, List, [], ◌∷◌, refl, ap, inl, inr}
+use Rattle.std.specs.List.{list_any}
+use Rattle.std.specs.Prelude.{Result, Ok, Err, OnOk, OnErr, IsTrue, bytes_eq}
 use Rattle.std.proofs.lemmas.Bool.{cases_Bool}
 use Rattle.meta_types.specs.Keys.{Key, is_key, has_row, add_row, remove_row, change_row, are_in_order}
 use Rattle.meta_types.specs.Text.{Text}
@@ -33,16 +32,6 @@ module _ {Row : Type 0} (key_of : Row → Key) where
   nothing_to_change key change (row ∷ rows) h = elim (cases_Bool (is_key key (key_of row))) [
     | inl t ↦ absurd (cc (rw t at h))
     | inr f ↦ rw f (ap (λ others. row ∷ others) (nothing_to_change key change rows (rw f at h)))
-  ]
-
-  -- what is written at the place of a key changes the row of that key
-  pub changed_there : (key : Key) (change : Row → Row) (rows : List Row) (x : Row) → position_or_len (λ row. is_key key (key_of row)) rows < length rows
-      → x ≡ get_or rows (position_or_len (λ row. is_key key (key_of row)) rows) x
-      → slice_set rows (position_or_len (λ row. is_key key (key_of row)) rows) (change x) ≡ change_row key_of key change rows
-  changed_there key change [] x lt is = absurd (omega (arith, lt))
-  changed_there key change (row ∷ rows) x lt is = elim (cases_Bool (is_key key (key_of row))) [
-    | inl t ↦ rw t (ap (λ r. change r ∷ rows) (rw t at is))
-    | inr f ↦ rw (f, one-add) (ap (λ others. row ∷ others) (changed_there key change rows x (omega (arith, rw (f, one-add) at lt)) (rw (f, one-add) at is)))
   ]
 
 -- the namespace is there where its row is

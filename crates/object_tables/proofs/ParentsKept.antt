@@ -1,8 +1,8 @@
 -- A row keeps its parent, and the parent's number, where the parent stays.
-use Rattle.std.proofs.Common.{◌≡◌, ℕ, ◌<◌, Bool, true, false, not, List, [], ◌∷◌, refl, sym, ap, ◌∙◌, subst, arith, inl, inr}
+use Rattle.std.proofs.Common.{◌≡◌, ℕ, ◌<◌, true, false, not, List, [], ◌∷◌, refl, sym, ap, ◌∙◌, subst, arith, inl, inr}
 use Rattle.std.specs.Prelude.{Option, Some, None, IfSome, IsTrue, is_some, is_none, bytes_eq, ◌&&◌}
 use Rattle.std.specs.Option.{option_map_or}
-use Rattle.std.proofs.lemmas.Bool.{cases_Bool, both_ways, and_parts, and_from}
+use Rattle.std.proofs.lemmas.Bool.{cases_Bool, both_ways, and_parts, and_from, not-false}
 use Rattle.std.proofs.lemmas.Slice.Eq.{bytes_eq-Decides}
 use Rattle.meta_types.specs.Text.{Text}
 use Rattle.meta_types.specs.Keys.{Key, is_key, row_at, has_row, add_row, remove_row, change_row}
@@ -72,10 +72,6 @@ pub has_parent : (rows : List SnapRow) (row : SnapRow)
     → HasParent rows row
 has_parent rows row there may less = go row.parent (parent_of rows row) refl there may
   where
-    from_not : (b : Bool) → not b ≡ false → b ≡ true
-    from_not true h = refl
-    from_not false h = absurd cc
-
     go : (parent : Option Text) (above : Option SnapRow) → parent_of rows row ≡ above
         → (is_some parent && is_none above) ≡ false
         → option_map_or (λ (one : SnapRow). not (is_committed one.kind)) above false ≡ false
@@ -84,7 +80,7 @@ has_parent rows row there may less = go row.parent (parent_of rows row) refl the
     go None above e there may = tt
     go (Some name) None e there may = absurd cc
     go (Some name) (Some above) e there may =
-        (above, e, from_not (is_committed above.kind) may, less above e)
+        (above, e, not-false (is_committed above.kind) may, less above e)
 
 -- ---- which rows stay
 

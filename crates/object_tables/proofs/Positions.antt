@@ -1,23 +1,11 @@
 -- Rows by the place that a search gives.
-use Rattle.std.proofs.Common.{◌≡◌, ℕ, ◌≤◌, Bool, ltb, List, length, Some, sym, ap, ◌∙◌, inl, inr}
+use Rattle.std.proofs.Common.{◌≡◌, ℕ, Bool, ltb, List, length, Some, sym, ap, ◌∙◌, inl, inr}
 use Rattle.std.specs.List.{position_or_len, position, remove, insert}
-use Rattle.std.proofs.lemmas.Bool.{cases_Bool, ltb-false}
-use Rattle.std.proofs.lemmas.List.Sums.{prefix_len-le-length}
-use Rattle.std.proofs.Common.{not}
-use Rattle.std.specs.Prelude.{option_and_then, slice_get}
-use Rattle.std.proofs.lemmas.Option.{slice_get_past}
-use Rattle.meta_types.specs.Keys.{Key, is_key, row_at, remove_row, put_in_order}
-use Rattle.meta_types.proofs.RowAtPlace.{row_at_place, remove_at_place, put_at_place}
-
-pub place_within : {X : Type 0} (p : X → Bool) (xs : List X) → position_or_len p xs ≤ length xs
-place_within p xs = prefix_len-le-length (λ x. not (p x)) xs
+use Rattle.std.proofs.lemmas.Bool.{cases_Bool}
+use Rattle.meta_types.specs.Keys.{Key, is_key, remove_row, put_in_order}
+use Rattle.meta_types.proofs.RowAtPlace.{remove_at_place, put_at_place}
 
 module _ {Row : Type 0} (key_of : Row → Key) (key : Key) where
-  pub row_at_position : (rows : List Row) → row_at key_of key rows ≡ option_and_then (slice_get rows) (position (λ row. is_key key (key_of row)) rows)
-  row_at_position rows = elim (cases_Bool (ltb (position_or_len (λ row. is_key key (key_of row)) rows) (length rows))) [
-    | inl t ↦ rw t (row_at_place key_of key rows)
-    | inr f ↦ rw f (row_at_place key_of key rows ∙ slice_get_past rows _ (ltb-false _ _ f))
-  ]
 
   pub removed_here : (rows new : List Row) (place : ℕ) → place ≡ position_or_len (λ row. is_key key (key_of row)) rows → new ≡ remove rows place → new ≡ remove_row key_of key rows
   removed_here rows new place e is = is ∙ ap (remove rows) e ∙ sym (remove_at_place key_of key rows)

@@ -1,29 +1,19 @@
 -- Rows that are added, removed or changed: which row a key has then, and what holds of each pair.
 use Rattle.std.proofs.Common.{◌≡◌, Bool, true, false, cond, List, [], ◌∷◌, refl, sym, ap, ◌∙◌, subst, arith, ◌⊎◌, inl, inr}
-use Rattle.std.specs.Prelude.{All, AllPairs, Contains, Some, is_some, bytes_eq}
-use Rattle.std.specs.Cmp.Lexicographic.{pointwise, same_text}
+use Rattle.std.specs.Prelude.{All, AllPairs, Contains, Some, is_some}
 use Rattle.std.specs.Ordering.{is_eq}
-use Rattle.std.proofs.lemmas.Bool.{cases_Bool, and_parts, both_ways}
+use Rattle.std.proofs.lemmas.Bool.{cases_Bool, both_ways}
 use Rattle.std.proofs.lemmas.Cmp.{tied_itself}
 use Rattle.std.proofs.lemmas.List.Elements.{All-cons, All-head, All-tail, All-weaker, All-contains}
 use Rattle.std.proofs.lemmas.List.Kept.{AllPairs-cons}
 use Rattle.meta_types.specs.Keys.{Key, is_key, is_before, row_at, has_row, add_row, remove_row, change_row}
 use Rattle.object_tables.specs.Calls.{kept}
 use Rattle.meta_types.proofs.Ordered.{keys_total, key_ties}
-use Rattle.meta_types.proofs.ListSearches.{some_is, no_none, found_is, row_is_found}
+use Rattle.meta_types.proofs.ListSearches.{pairs_head, pairs_tail, some_is, no_none, found_is, row_is_found}
 use Rattle.meta_types.proofs.KeepsSound.{all_removed, all_changed}
-use Rattle.object_tables.proofs.PairsKept.{pairs_head, pairs_tail}
+use Rattle.row_tables.proofs.NamespaceLists.{keys_same}
 
 -- ---- keys
-
--- keys with the same texts are one
-pub keys_same : (a b : Key) → is_key a b ≡ true → a ≡ b
-keys_same [] [] h = refl
-keys_same [] (y ∷ ys) h = absurd cc
-keys_same (x ∷ xs) [] h = absurd cc
-keys_same (x ∷ xs) (y ∷ ys) h =
-    let parts = and_parts (bytes_eq x y) (pointwise bytes_eq xs ys) h in
-    ap (λ t. t ∷ xs) (same_text x y (sym parts.0)) ∙ ap (λ ts. y ∷ ts) (keys_same xs ys parts.1)
 
 pub key_itself : (key : Key) → is_key key key ≡ true
 key_itself key = key_ties key key ∙ ap is_eq (tied_itself keys_total key)

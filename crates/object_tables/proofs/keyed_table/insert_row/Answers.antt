@@ -1,6 +1,7 @@
 use Rattle.std.proofs.Common.{arith}
 use Rattle.meta_types.specs.Keys.{is_before}
-use Rattle.object_tables.proofs.Positions.{place_within, added_here}
+use Rattle.row_tables.proofs.NamespaceLists.{place_within}
+use Rattle.object_tables.proofs.Positions.{added_here}
 use Rattle.object_tables.proofs.keyed_table.insert_row.Goals as goal
 
 -- a gap is within the rows

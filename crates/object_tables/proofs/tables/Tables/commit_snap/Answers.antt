@@ -1,5 +1,6 @@
-use Rattle.std.proofs.Common.{◌≡◌, ◌∙◌, Bool, true, false, not, List, [], ◌∷◌, Some, None, refl, sym, ap, subst}
+use Rattle.std.proofs.Common.{◌≡◌, ◌∙◌, true, false, not, List, [], ◌∷◌, Some, None, sym, ap, subst}
 use Rattle.std.specs.Prelude.{IsTrue}
+use Rattle.std.proofs.lemmas.Bool.{not-false}
 use Rattle.meta_types.specs.Keys.{row_at, has_row, are_in_order}
 use Rattle.meta_types.specs.Text.{Text}
 use Rattle.meta_types.specs.Labels.{LabelList}
@@ -27,13 +28,9 @@ is_of_active : (ns snapshotter key name : Text) (rows : List SnapRow) (row : Sna
     → row_at snap_key (ns ∷ snapshotter ∷ key ∷ []) rows ≡ Some row
     → committing_fault ns snapshotter key name rows ≡ None → is_active row.kind ≡ true
 is_of_active ns snapshotter key name rows row found fine =
-    from_not (is_active row.kind) (passed false
+    not-false (is_active row.kind) (passed false
     (has_row snap_key (ns ∷ snapshotter ∷ name ∷ []) rows) (not (is_active row.kind))
     (rw found at fine)).2
-  where
-    from_not : (b : Bool) → not b ≡ false → b ≡ true
-    from_not true h = refl
-    from_not false h = absurd cc
 
 -- the new row is in before the old one goes
 pub returns-clause-ok : goal.returns-clause-ok
