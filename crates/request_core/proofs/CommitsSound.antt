@@ -2,7 +2,7 @@
 use Rattle.std.proofs.Common.{◌≡◌, ℕ, ◌<◌, true, false, not, List, [], ◌∷◌, refl, sym, ap, ◌∙◌, subst}
 use Rattle.std.specs.Prelude.{All, Contains, Option, Some, None, is_none}
 use Rattle.std.specs.Option.{option_map_or}
-use Rattle.std.proofs.lemmas.Bool.{or_parts}
+use Rattle.std.proofs.lemmas.Bool.{or_parts, not-false}
 use Rattle.std.proofs.lemmas.List.Elements.{All-weaker, All-contains}
 use Rattle.meta_types.specs.Text.{Text}
 use Rattle.meta_types.specs.Keys.{Key, row_at, has_row, add_row, remove_row}
@@ -17,7 +17,7 @@ use Rattle.meta_types.specs.declared.rows.SnapRow.{SnapRow}
 use Rattle.meta_types.specs.declared.resource.Resource.TheVariants.{Snapshot}
 use Rattle.meta_types.specs.declared.request.Request.TheVariants.{SnapCommit}
 use Rattle.meta_types.proofs.KeepsSound.{all_added, all_removed}
-use Rattle.request_core.proofs.ListsSound.{none_applies, from_not, sound_leases, sound_snapshots, leases_held}
+use Rattle.request_core.proofs.ListsSound.{none_applies, sound_leases, sound_snapshots, leases_held}
 use Rattle.object_tables.proofs.ParentsKept.{key_above, number_above, Stays, parent_kept}
 use Rattle.object_tables.proofs.CommitKept.{named, committed_is, stays_committed, row_of, named_kept}
 use Rattle.object_tables.proofs.TablesKept.{snap_committed}
@@ -111,4 +111,4 @@ after_snap_commit state ns snapshotter key name labels lease s none =
     go None e there active free = absurd cc
     go (Some row) e there active free =
         snap_commit_sound state ns snapshotter key name (labels_of labels) row s e
-        (from_not (is_active row.kind) active) free
+        (not-false (is_active row.kind) active) free

@@ -3,7 +3,7 @@ use Rattle.std.proofs.Common.{◌≡◌, ℕ, List, [], ◌∷◌, Option, Some,
 use Rattle.std.specs.Prelude.{IsTrue, bytes_eq}
 use Rattle.std.specs.List.{list_any}
 use Rattle.std.specs.Option.{option_map_or}
-use Rattle.std.proofs.lemmas.Bool.{or_parts}
+use Rattle.std.proofs.lemmas.Bool.{or_parts, not-false}
 use Rattle.meta_types.specs.Text.{Text}
 use Rattle.meta_types.specs.Keys.{Key, add_row, remove_row, change_row}
 use Rattle.meta_types.specs.Labels.{labels_of, put_label}
@@ -19,7 +19,7 @@ use Rattle.meta_types.specs.declared.resource.Resource.TheVariants.{Content}
 use Rattle.meta_types.specs.declared.request.Request.TheVariants.{ContentAdd, ContentRemove, ContentLabel, LeaseAdd, LeaseRemove, LeaseLabel, LeaseHold, LeaseDrop, Profile}
 use Rattle.meta_types.proofs.KeepsSound.{all_removed, all_changed, rows_added, rows_removed, rows_changed}
 use Rattle.object_tables.proofs.TablesKept.{content_added, content_removed, content_changed}
-use Rattle.request_core.proofs.ListsSound.{none_applies, from_not, sound_content, sound_leases, still_stored, leases_held}
+use Rattle.request_core.proofs.ListsSound.{none_applies, sound_content, sound_leases, still_stored, leases_held}
 
 -- ---- content
 
@@ -37,7 +37,7 @@ after_content_add state ns digest labels lease s none =
     let rows = state.records.tables.content in
     let blobs = state.backends.blobs in
     let grown = sound_content state s (add_row content_key row rows) (put_blob digest blobs)
-    (content_added state.records.tables s.tables row (from_not _ (or_parts _ _ f.1).0) f.2)
+    (content_added state.records.tables s.tables row (not-false _ (or_parts _ _ f.1).0) f.2)
     (still_stored rows row blobs s.stored) in
     sound_leases (with_blob digest (with_content state (add_row content_key row rows))) grown _
     (leases_held state.records.tables.namespaces ns lease (Content digest) state.records.leases
@@ -86,7 +86,7 @@ after_lease_add state ns id labels s none =
     record { ns = ns; id = id; labels = labels_of labels; resources = [] } in
     sound_leases state s _
     (rows_added lease_key (λ (other : LeaseRow). other.ns) state.records.tables.namespaces row
-    state.records.leases (from_not _ (or_parts _ _ f.1).0) f.2 s.leases)
+    state.records.leases (not-false _ (or_parts _ _ f.1).0) f.2 s.leases)
 
 pub after_lease_remove : (state : State) (ns id : Text) → IsSound state
     → IsSound (outcome state (LeaseRemove ns id)).after

@@ -2,7 +2,7 @@
 use Rattle.std.proofs.Common.{◌≡◌, ℕ, ◌+◌, ◌<◌, true, false, not, List, [], ◌∷◌, Option, None, refl, sym, arith}
 use Rattle.std.specs.Prelude.{All, AllPairs, IsTrue, nat_lt, ◌==◌}
 use Rattle.std.specs.List.{list_any}
-use Rattle.std.proofs.lemmas.Bool.{or_parts, ltb-true}
+use Rattle.std.proofs.lemmas.Bool.{or_parts, ltb-true, not-false}
 use Rattle.std.proofs.lemmas.Bool.Decides.{nat_tests, Decides-eqb}
 use Rattle.std.proofs.lemmas.List.Elements.{All-weaker}
 use Rattle.meta_types.specs.Text.{Text}
@@ -20,7 +20,7 @@ use Rattle.meta_types.specs.declared.rows.SnapRow.{SnapRow}
 use Rattle.meta_types.specs.declared.resource.Resource.TheVariants.{Content, Ingest}
 use Rattle.meta_types.specs.declared.request.Request.TheVariants.{IngestBegin, IngestCommit, IngestAbort}
 use Rattle.meta_types.proofs.KeepsSound.{all_added, all_removed, any_added, added_any}
-use Rattle.request_core.proofs.ListsSound.{none_applies, from_not, sound_content, sound_leases, sound_ingests, still_stored, leases_held}
+use Rattle.request_core.proofs.ListsSound.{none_applies, sound_content, sound_leases, sound_ingests, still_stored, leases_held}
 use Rattle.object_tables.proofs.PairsKept.{all_put, pairs_put}
 use Rattle.object_tables.proofs.TablesKept.{content_added, ingest_added, ingest_removed}
 
@@ -90,7 +90,7 @@ after_ingest_commit state ns name digest labels lease s none =
     with_ingests state (remove_row ingest_key (ns ∷ name ∷ []) state.records.tables.ingests) in
     let s1 : IsSound left = after_ingest_abort state ns name s in
     let grown = sound_content left s1 (add_row content_key row rows) (put_blob digest blobs)
-    (content_added left.records.tables s1.tables row (from_not _ (or_parts _ _ there).0) f.2)
+    (content_added left.records.tables s1.tables row (not-false _ (or_parts _ _ there).0) f.2)
     (still_stored rows row blobs s.stored) in
     sound_leases (with_blob digest (with_content left (add_row content_key row rows))) grown _
     (leases_held state.records.tables.namespaces ns lease (Content digest) state.records.leases
@@ -160,6 +160,6 @@ after_ingest_begin state ns name at expected lease s none =
     } in
     let rows = state.records.tables.ingests in
     sound_leases (with_ingest_object (with_ingests state (add_row ingest_key row rows)))
-    (ingest_begun state row s refl (from_not _ (or_parts _ _ f.1).0) f.2) _
+    (ingest_begun state row s refl (not-false _ (or_parts _ _ f.1).0) f.2) _
     (leases_held state.records.tables.namespaces ns lease (Ingest name) state.records.leases
     s.leases)

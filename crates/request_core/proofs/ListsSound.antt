@@ -1,5 +1,5 @@
 -- A state with another list in place of one is sound. None of it speaks of code.
-use Rattle.std.proofs.Common.{◌≡◌, ℕ, Bool, true, false, not, List, [], ◌∷◌, Option, Some, None, refl, inl, inr}
+use Rattle.std.proofs.Common.{◌≡◌, ℕ, Bool, true, false, List, [], ◌∷◌, Option, Some, None, refl, inl, inr}
 use Rattle.std.specs.Prelude.{IsTrue, bytes_eq}
 use Rattle.std.specs.List.{list_any}
 use Rattle.std.proofs.lemmas.Bool.{cases_Bool}
@@ -36,10 +36,6 @@ fine false false false false h = (refl, refl, refl, refl)
 pub none_applies : (o : Outcome) → least_fault o ≡ None
     → (o.invalid ≡ false) × (o.missing ≡ false) × (o.there ≡ false) × (o.forbidden ≡ false)
 none_applies o h = fine o.invalid o.missing o.there o.forbidden h
-
-pub from_not : (b : Bool) → not b ≡ false → b ≡ true
-from_not true h = refl
-from_not false h = absurd cc
 
 -- ---- one list is another
 

@@ -1,9 +1,9 @@
 -- The labels of the last pairs of a list.
 use Rattle.std.proofs.Common.{◌≡◌, ◌∙◌, ℕ, zero, suc, ◌+◌, ◌-◌, ◌<◌, ◌≤◌, None, ap, Bool, true, false, List, [], ◌∷◌, length, get_or, drop, refl, sym, ap, arith, inl, inr, Err, drop-cons, String, Global, subst}
 use Rattle.std.proofs.lemmas.List.{length-map, get_or-map}
-use Rattle.std.specs.Prelude.{◌&&◌, string_bytes}
+use Rattle.std.specs.Prelude.{string_bytes}
 use Rattle.std.proofs.Math.Numerals.{add-one}
-use Rattle.std.proofs.lemmas.Bool.{cases_Bool}
+use Rattle.std.proofs.lemmas.Bool.{cases_Bool, and_right}
 use Rattle.meta_types.specs.Text.{Text, texts_of}
 use Rattle.meta_types.specs.Labels.{LabelList, are_labels, labels_of, takes_label, put_label}
 use Rattle.meta_types.specs.Faults.{Refuses, unless}
@@ -38,12 +38,8 @@ module _ (pairs : List (Text × Text)) (k : ℕ) (d : Text × Text) (lt : k < le
         rw same tt)
     | inr f ↦ (
         let same : fault ≡ InvalidArgument = rw f at r in
-        rw same (refl, not_all pairs k (ap are_labels one_more ∙ and_false (are_labels (drop (k + 1) pairs)) f)))
+        rw same (refl, not_all pairs k (ap are_labels one_more ∙ and_right (are_labels (drop (k + 1) pairs)) _ f)))
   ]
-    where
-      and_false : {b : Bool} (a : Bool) → b ≡ false → (a && b) ≡ false
-      and_false true e = e
-      and_false false e = refl
 
 -- the same of entries, which are strings: one before the place is put
 module _ (entries : List (String Global × String Global)) (place : ℕ) (some : 0 < place) (within : place ≤ length entries) (held : LabelList) (allowed : are_labels (drop place (texts_of entries)) ≡ true) (held_is : held ≡ labels_of (drop place (texts_of entries)))

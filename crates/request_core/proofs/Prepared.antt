@@ -4,7 +4,7 @@ use Rattle.std.specs.Prelude.{All, ◌==◌, ◌&&◌, bytes_eq, is_some, is_non
 use Rattle.std.specs.List.{list_any}
 use Rattle.std.specs.Option.{option_map_or}
 use Rattle.std.specs.Cmp.Lexicographic.{same_text}
-use Rattle.std.proofs.lemmas.Bool.{cases_Bool, and_parts, or_from, or_parts}
+use Rattle.std.proofs.lemmas.Bool.{cases_Bool, and_parts, or_from, or_parts, and_right}
 use Rattle.std.proofs.lemmas.List.Elements.{All-head, All-tail}
 use Rattle.meta_types.specs.Text.{Text}
 use Rattle.meta_types.specs.Keys.{is_key, row_at, has_row}
@@ -27,12 +27,8 @@ object_free snapshotter n [] h = refl
 object_free snapshotter n (snap ∷ snaps) h =
     let below = All-head (λ (other : BackSnap). other.number < n) snap snaps h in
     or_from (is_named (snapshotter, n) snap) (list_any (is_named (snapshotter, n)) snaps)
-    (and_false (bytes_eq snap.snapshotter snapshotter) (snap.number == n) (apart snap.number n below))
+    (and_right (bytes_eq snap.snapshotter snapshotter) (snap.number == n) (apart snap.number n below))
     (object_free snapshotter n snaps (All-tail (λ (other : BackSnap). other.number < n) snap snaps h))
-  where
-    and_false : (a b : Bool) → b ≡ false → (a && b) ≡ false
-    and_false true b h = h
-    and_false false b h = refl
 
 -- ---- the parent's object is there
 

@@ -2,7 +2,7 @@
 use Rattle.std.proofs.Common.{◌≡◌, false, not, List, refl}
 use Rattle.std.specs.Prelude.{Option, None, is_some, is_none, option_map, ◌&&◌}
 use Rattle.std.specs.Option.{option_map_or}
-use Rattle.std.proofs.lemmas.Bool.{or_parts}
+use Rattle.std.proofs.lemmas.Bool.{or_parts, not-false}
 use Rattle.meta_types.specs.Text.{Text}
 use Rattle.meta_types.specs.Keys.{add_row}
 use Rattle.meta_types.specs.Labels.{labels_of}
@@ -18,7 +18,7 @@ use Rattle.meta_types.specs.declared.rows.SnapKind.{SnapKind}
 use Rattle.meta_types.specs.declared.rows.SnapKind.TheVariants.{Active, View}
 use Rattle.meta_types.specs.declared.resource.Resource.TheVariants.{Snapshot}
 use Rattle.meta_types.specs.declared.request.Request.TheVariants.{SnapPrepare, SnapView}
-use Rattle.request_core.proofs.ListsSound.{none_applies, from_not, sound_leases, leases_held}
+use Rattle.request_core.proofs.ListsSound.{none_applies, sound_leases, leases_held}
 use Rattle.object_tables.proofs.ParentsKept.{has_parent}
 use Rattle.request_core.proofs.MadeSound.{parent_below, snap_made}
 
@@ -42,7 +42,7 @@ after_prepares state kind ns snapshotter key parent labels lease s none =
     let forbidden = or_parts
     (option_map_or (λ (row : SnapRow). not (is_committed row.kind)) above false)
     (is_out_of_numbers state) f.3 in
-    let grown = snap_made state new s refl (from_not _ (or_parts _ _ missing.0).0) f.2
+    let grown = snap_made state new s refl (not-false _ (or_parts _ _ missing.0).0) f.2
     (has_parent rows new missing.1 forbidden.0 (parent_below state new s refl)) in
     sound_leases
     (with_snapshot_object snapshotter (option_map (λ row. row.number) above)

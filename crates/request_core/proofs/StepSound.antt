@@ -2,7 +2,7 @@
 use Rattle.std.proofs.Common.{◌≡◌, List, [], ◌∷◌, Option, None, refl}
 use Rattle.std.specs.Prelude.{bytes_eq, option_map, option_and_then}
 use Rattle.std.specs.List.{list_any}
-use Rattle.std.proofs.lemmas.Bool.{or_parts}
+use Rattle.std.proofs.lemmas.Bool.{or_parts, not-false}
 use Rattle.meta_types.specs.Text.{Text}
 use Rattle.meta_types.specs.Keys.{is_before, add_row, remove_row}
 use Rattle.meta_types.specs.Labels.{labels_of, put_label}
@@ -16,7 +16,7 @@ use Rattle.meta_types.specs.declared.request.Request.TheVariants.{NsAdd, NsRemov
 use Rattle.meta_types.proofs.KeepsSound.{rows_among, any_added}
 use Rattle.object_tables.proofs.OtherTables.{unused, namespace_added, namespace_removed}
 use Rattle.object_tables.proofs.TablesKept.{image_added, image_removed, image_changed, container_added, container_removed, container_changed}
-use Rattle.request_core.proofs.ListsSound.{none_applies, from_not, sound_images, sound_containers}
+use Rattle.request_core.proofs.ListsSound.{none_applies, sound_images, sound_containers}
 
 -- ---- namespaces
 
@@ -61,7 +61,7 @@ after_image_add state ns name target labels s none =
     let row : ImageRow =
     record { ns = ns; name = name; target = target; labels = labels_of labels } in
     sound_images state s _
-    (image_added state.records.tables s.tables row (from_not _ (or_parts _ _ f.1).0) f.2)
+    (image_added state.records.tables s.tables row (not-false _ (or_parts _ _ f.1).0) f.2)
 
 pub after_image_target : (state : State) (ns name target : Text) → IsSound state
     → IsSound (outcome state (ImageTarget ns name target)).after
@@ -97,7 +97,7 @@ after_container_add state ns name snapshotter key labels s none =
       labels = labels_of labels;
     } in
     sound_containers state s _
-    (container_added state.records.tables s.tables row (from_not _ (or_parts _ _ f.1).0) f.2)
+    (container_added state.records.tables s.tables row (not-false _ (or_parts _ _ f.1).0) f.2)
 
 pub after_container_remove : (state : State) (ns name : Text) → IsSound state
     → IsSound (outcome state (ContainerRemove ns name)).after

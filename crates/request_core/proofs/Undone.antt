@@ -1,10 +1,7 @@
 -- What is taken out again leaves what was there.
-use Rattle.std.proofs.Common.{◌≡◌, true, false, List, [], ◌∷◌, Option, Some, None, refl, ap, ◌∙◌, inl, inr}
+use Rattle.std.proofs.Common.{◌≡◌, true, false, List, [], ◌∷◌, Option, Some, None, refl, ap, inl, inr}
 use Rattle.std.specs.Prelude.{if◌then◌else◌}
 use Rattle.std.proofs.lemmas.Bool.{cases_Bool}
-use Rattle.std.specs.Ordering.{is_eq}
-use Rattle.std.proofs.lemmas.Cmp.{tied_itself}
-use Rattle.meta_types.proofs.Ordered.{keys_total, key_ties}
 use Rattle.meta_types.specs.Text.{Text}
 use Rattle.meta_types.specs.Keys.{Key, is_key, is_before, has_row, add_row, remove_row}
 use Rattle.meta_types.specs.Resources.{resource_key}
@@ -13,9 +10,7 @@ use Rattle.meta_types.specs.Rows.{LeaseRow, Tables, content_key, ingest_key, lea
 use Rattle.meta_types.specs.declared.rows.ContentRow.{ContentRow}
 use Rattle.meta_types.specs.declared.rows.IngestRow.{IngestRow}
 use Rattle.meta_types.specs.declared.resource.Resource.{Resource}
-
-is_key_refl : (k : Key) → is_key k k ≡ true
-is_key_refl k = key_ties k k ∙ ap is_eq (tied_itself keys_total k)
+use Rattle.object_tables.proofs.RowsKept.{key_itself}
 
 module _ {Row : Type 0} (key_of : Row → Key) where
   no_later : (key : Key) (row : Row) (rows : List Row) → has_row key_of key (row ∷ rows) ≡ false → (is_key key (key_of row) ≡ false) × (has_row key_of key rows ≡ false)
@@ -26,9 +21,9 @@ module _ {Row : Type 0} (key_of : Row → Key) where
 
   -- a row that was added where none of its key was is taken out again
   pub removed_added : (row : Row) (rows : List Row) → has_row key_of (key_of row) rows ≡ false → remove_row key_of (key_of row) (add_row key_of row rows) ≡ rows
-  removed_added row [] free = rw (is_key_refl (key_of row)) refl
+  removed_added row [] free = rw (key_itself (key_of row)) refl
   removed_added row (next ∷ rows) free = elim (cases_Bool (is_before (key_of row) (key_of next))) [
-    | inl t ↦ rw (t, is_key_refl (key_of row)) refl
+    | inl t ↦ rw (t, key_itself (key_of row)) refl
     | inr f ↦ (
         let absent = no_later (key_of row) next rows free in
         rw (f, absent.0) (ap (λ (rs : List Row). next ∷ rs) (removed_added row rows absent.1)))
