@@ -90,9 +90,6 @@ module _ (came : Records) where
     pub told_in_order : TellsReached came at reached → TellsReached ordered at reached
     told_in_order = told_in_any_order came ordered at reached refl same_thing
 
-    pub told_as_came : TellsReached ordered at reached → TellsReached came at reached
-    told_as_came = told_in_any_order ordered came at reached refl (λ thing. ((same_thing thing).1, (same_thing thing).0))
-
     pub removed_in_order : names_in_key_order (removed_of at reached came) ≡ removed_of at reached ordered
     removed_in_order = λ i. record {
       content = names_kept (λ (row : ContentRow). (row.ns, row.digest)) name_key (λ row. not (content_stays reached row)) came.tables.content i;

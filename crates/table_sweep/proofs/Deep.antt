@@ -8,6 +8,7 @@ use Rattle.meta_types.specs.Text.{Text}
 use Rattle.meta_types.specs.Rows.{BackSnap}
 use Rattle.meta_types.specs.Keys.{put_in_order, in_order}
 use Rattle.meta_types.specs.Backends.{is_named, ancestors, depth_of, goes_before, object_name}
+use Rattle.meta_types.proofs.Filtered.{filter_mapped}
 use Rattle.table_sweep.specs.Depths.{Listed, snap_of, above_of, depth_in, key_of, is_first, key_name}
 
 -- ---- depths
@@ -59,14 +60,6 @@ module _ {X Y : Type 0} (f : X → Y) (p : X → X → Bool) (q : Y → Y → Bo
   order_alike [] = refl
   order_alike (x ∷ xs) = ap (put_in_order q (f x)) (order_alike xs) ∙ put_alike x (in_order p xs)
 
-filter_map_is : {X Y : Type 0} (f : X → Y) (p : Y → Bool) (xs : List X) → filter p (map f xs) ≡ map f (filter (λ x. p (f x)) xs)
-filter_map_is f p [] = refl
-filter_map_is f p (x ∷ xs) = go (p (f x)) (filter_map_is f p xs)
-  where
-    go : (b : Bool) → filter p (map f xs) ≡ map f (filter (λ x. p (f x)) xs) → (if b then f x ∷ filter p (map f xs) else filter p (map f xs)) ≡ map f (if b then x ∷ filter (λ x. p (f x)) xs else filter (λ x. p (f x)) xs)
-    go true e = ap (λ rest. f x ∷ rest) e
-    go false e = e
-
 module _ (snapshots : List Listed) where
   -- snapshots and their keys compare alike
   same_order : (a b : Listed) → goes_before (map snap_of snapshots) (snap_of a) (snap_of b) ≡ is_first (key_of snapshots a) (key_of snapshots b)
@@ -79,4 +72,4 @@ module _ (snapshots : List Listed) where
       let those = filter (λ s. goes (snap_of s)) snapshots in
       ap (map key_name) (order_alike (key_of snapshots) p is_first (λ a b. refl) those) ∙ map-map key_name (key_of snapshots) (in_order p those)
       ∙ sym (map-map object_name snap_of (in_order p those)) ∙ sym (ap (map object_name) (order_alike snap_of p (goes_before (map snap_of snapshots)) same_order those))
-      ∙ sym (ap (λ l. map object_name (in_order (goes_before (map snap_of snapshots)) l)) (filter_map_is snap_of goes snapshots))
+      ∙ sym (ap (λ l. map object_name (in_order (goes_before (map snap_of snapshots)) l)) (filter_mapped goes snap_of snapshots))

@@ -1,6 +1,6 @@
 -- What stays is numbered as all rows were: a snapshot that stays keeps its parent.
-use Rattle.std.proofs.Common.{◌≡◌, ◌<◌, ℕ, Bool, true, not, List, sym, ap, ◌∙◌, subst, ℤ}
-use Rattle.std.specs.Prelude.{All, Contains, filter, Option, Some, IfSome, IsTrue, ◌==◌, ◌↔◌}
+use Rattle.std.proofs.Common.{◌≡◌, ◌<◌, Bool, true, not, List, sym, ap, ◌∙◌, subst, ℤ}
+use Rattle.std.specs.Prelude.{All, Contains, filter, Option, Some, IfSome, IsTrue, ◌==◌}
 use Rattle.std.proofs.lemmas.List.Elements.{All-filter, All-contains}
 use Rattle.std.proofs.lemmas.List.Kept.{AllPairs-filter}
 use Rattle.meta_types.specs.Rows.{Records, snap_key, ingest_key}
@@ -12,21 +12,13 @@ use Rattle.meta_types.specs.declared.rows.IngestRow.{IngestRow}
 use Rattle.meta_types.specs.declared.rows.SnapRow.{SnapRow}
 use Rattle.meta_types.proofs.ListSearches.{all_left}
 use Rattle.meta_types.proofs.TablesAfter.{same_parent}
-use Rattle.mark_core.specs.declared.graph.Graph.{Graph}
-use Rattle.mark_core.specs.Reach.{Reached}
-use Rattle.mark_core.specs.Bits.{bit_of}
 use Rattle.row_tables.specs.Arrived.{sorted}
-use Rattle.gc_graph.specs.declared.node.Node.{Node}
-use Rattle.gc_graph.specs.Built.{IsBuilt}
-use Rattle.gc_graph.specs.Marked.{reached_by}
-use Rattle.gc_graph.proofs.Tells.{tells}
 use Rattle.table_sweep.specs.declared.masks.Masks.{Masks}
 use Rattle.table_sweep.specs.Stays.{AreMasks, StayNumbered}
 use Rattle.table_sweep.specs.InKeyOrder.{records_in_key_order}
 use Rattle.table_sweep.proofs.Planned.{kept_by}
 use Rattle.table_sweep.proofs.Fitting.{numbered_as}
 use Rattle.table_sweep.proofs.SortedRows.{sorted_filter}
-use Rattle.table_sweep.proofs.CameRecords.{told_in_order}
 
 abbrev UnlikeIngest : SnapRow → IngestRow → Type 0
 UnlikeIngest snap begun = IsTrue (not (snap.number == begun.number))
@@ -66,11 +58,3 @@ stay_numbered came at reached told masks are s = record {
       (sym (ap (sorted ingest_key) (kept_by (ingest_stays reached) came.tables.ingests masks.ingests.items are.ingests) ∙ sorted_filter ingest_key (ingest_stays reached) came.tables.ingests))
       (numbered_left (records_in_key_order came) at reached told s);
 }
-
--- so is what the masks keep of a plan whose marks are the reached numbers
-pub plan_numbered : (came : Records) (at : ℤ) (book : List Node) (graph : Graph) (marks : List ℕ) (masks : Masks)
-    → IsBuilt came at book graph → ((n : ℕ) → (bit_of marks n ≡ 1) ↔ Reached graph n) → AreMasks came at (reached_by came.profile book marks at) masks
-    → AreNumbered (sorted snap_key came.tables.snapshots) (sorted ingest_key came.tables.ingests) → StayNumbered came.tables masks
-plan_numbered came at book graph marks masks built marked are =
-    let reached = reached_by came.profile book marks at in
-    stay_numbered came at reached (told_in_order came at reached (tells came at book graph built marks marked)) masks are

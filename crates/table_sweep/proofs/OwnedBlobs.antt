@@ -12,6 +12,7 @@ use Rattle.std.proofs.lemmas.List.Folds.{list_any-append}
 use Rattle.meta_types.specs.Text.{Text, text_cmp}
 use Rattle.meta_types.specs.Keys.{is_key, is_before}
 use Rattle.meta_types.specs.declared.rows.ContentRow.{ContentRow}
+use Rattle.gc_graph.proofs.Truths.{or_none}
 use Rattle.object_tables.specs.Calls.{kept}
 use Rattle.row_tables.specs.Arrived.{one_text, same_text, same_key, keys_equiv, sorted}
 use Rattle.row_tables.proofs.FirstPosition.{position_next}
@@ -66,10 +67,6 @@ module _ (digest : Text) (before : Text → Bool) where
 
 -- ---- the marks of a row
 
-pub row_goes : (digest : Text) (before : Text → Bool) (stays : Bool) (blobs : List Text) (marks : List Bool) → stays ≡ false → marks ≡ map before blobs
-    → marks ≡ map (λ other. (stays && bytes_eq digest other) || before other) blobs
-row_goes digest before stays blobs marks f is = rw f is
-
 pub row_stays : (digest : Text) (before : Text → Bool) (stays : Bool) (blobs : List Text) (marks : List Bool) → stays ≡ true → marks ≡ map (λ other. bytes_eq digest other || before other) blobs
     → marks ≡ map (λ other. (stays && bytes_eq digest other) || before other) blobs
 row_stays digest before stays blobs marks t is = rw t is
@@ -80,15 +77,11 @@ or_turned true false = refl
 or_turned false true = refl
 or_turned false false = refl
 
-or_false : (a : Bool) → (a || false) ≡ a
-or_false true = refl
-or_false false = refl
-
 -- one row more owns its blob
 owned_more : (rows : List ContentRow) (row : ContentRow) (stays : Bool) (digest : Text)
     → owns_blob (rows ++ (if stays then row ∷ [] else [])) digest ≡ ((stays && bytes_eq row.digest digest) || owns_blob rows digest)
-owned_more rows row true digest = list_any-append (λ other. bytes_eq other.digest digest) rows (row ∷ []) ∙ or_turned (owns_blob rows digest) (bytes_eq row.digest digest || false) ∙ ap (λ b. b || owns_blob rows digest) (or_false (bytes_eq row.digest digest))
-owned_more rows row false digest = list_any-append (λ other. bytes_eq other.digest digest) rows [] ∙ or_false (owns_blob rows digest)
+owned_more rows row true digest = list_any-append (λ other. bytes_eq other.digest digest) rows (row ∷ []) ∙ or_turned (owns_blob rows digest) (bytes_eq row.digest digest || false) ∙ ap (λ b. b || owns_blob rows digest) (or_none (bytes_eq row.digest digest))
+owned_more rows row false digest = list_any-append (λ other. bytes_eq other.digest digest) rows [] ∙ or_none (owns_blob rows digest)
 
 abbrev row_of : Bor ContentRow → ContentRow
 row_of row = row.now

@@ -1,31 +1,8 @@
 -- Which backend objects the rows that stay own.
-use Rattle.std.proofs.Common.{◌≡◌, ℕ, ◌+◌, ◌<◌, Bool, true, false, List, [], ◌∷◌, ◌++◌, map, length, get_or, take, refl, sym, ap, ◌∙◌, arith, inl, inr, if◌then◌else◌}
-use Rattle.std.specs.Prelude.{◌==◌, bytes_eq}
-use Rattle.std.proofs.lemmas.Bool.{cases_Bool, both_ways}
-use Rattle.std.proofs.lemmas.Bool.Decides.{Decides-eqb}
-use Rattle.std.proofs.lemmas.Slice.Eq.{bytes_eq-Decides}
+use Rattle.std.proofs.Common.{◌≡◌, ℕ, ◌+◌, ◌<◌, Bool, true, false, List, [], ◌∷◌, ◌++◌, map, length, get_or, take, refl, sym, ap, ◌∙◌, arith, if◌then◌else◌}
 use Rattle.std.proofs.lemmas.List.{length-take-le, map-append, get_or_default}
-use Rattle.meta_types.specs.Text.{Text}
 use Rattle.object_tables.specs.Calls.{kept}
 use Rattle.gc_graph.proofs.BookNumbers.{take_next}
-
-pub bytes_turned : (a b : Text) → bytes_eq a b ≡ bytes_eq b a
-bytes_turned a b = elim (cases_Bool (bytes_eq a b)) [
-  | inl t ↦ t ∙ sym ((bytes_eq-Decides b a).1 (sym ((bytes_eq-Decides a b).0 t)))
-  | inr f ↦ elim (cases_Bool (bytes_eq b a)) [
-    | inl t ↦ absurd (both_ways (bytes_eq a b) f ((bytes_eq-Decides a b).1 (sym ((bytes_eq-Decides b a).0 t))))
-    | inr g ↦ f ∙ sym g
-  ]
-]
-
-pub number_turned : (a b : ℕ) → (a == b) ≡ (b == a)
-number_turned a b = elim (cases_Bool (a == b)) [
-  | inl t ↦ t ∙ sym ((Decides-eqb b a).1 (sym ((Decides-eqb a b).0 t)))
-  | inr f ↦ elim (cases_Bool (b == a)) [
-    | inl t ↦ absurd (both_ways (a == b) f ((Decides-eqb a b).1 (sym ((Decides-eqb b a).0 t))))
-    | inr g ↦ f ∙ sym g
-  ]
-]
 
 -- ---- rows that stay
 
