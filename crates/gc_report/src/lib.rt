@@ -1,4 +1,4 @@
-//! The report of a collection, what would go without a row, and the JSON of both.
+//! A collection's report, what would go without a row, and their JSON.
 #![tactic(auto)]
 
 mod copies;
