@@ -1,5 +1,6 @@
 //! Names in key order: only those of removed and of ignored rows are sorted.
 ghost use Rattle.std.specs.Prelude.{◌≡◌, None, IfOk};
+ghost use Rattle.std.specs.List.Sorted.{IsPermutation};
 ghost use Rattle.meta_types.specs.Faults.{Refuses};
 ghost use Rattle.row_tables.specs.Arrived.{sorted};
 ghost use Rattle.table_sweep.specs.InKeyOrder.{name_key, name_cmp, snapshot_name_key, snapshot_name_cmp};
@@ -23,22 +24,52 @@ pub(crate) fn names_in_order(names: Vec<(ShortName, Name)>) -> Result<Vec<(Short
     Ok(names)
 }
 
+// Eight digits of a digest, behind the name of its algorithm, as a number.
+pub(crate) fn first_digits(digest: &Digest) -> u64 {
+    let text = digest.text().as_bytes();
+    if text.len() < 15 {
+        return 0;
+    }
+    u64::from_be_bytes([
+        text[7], text[8], text[9], text[10], text[11], text[12], text[13], text[14],
+    ])
+}
+
+fn compare_namespaces(a: &(ShortName, Digest), b: &(ShortName, Digest)) -> Ordering {
+    a.0.cmp(&b.0)
+}
+
+// By namespace and first digits, the latter as numbers beside places: few texts are compared.
+// Names of equal digits, or of two algorithms, may still stand in any order.
+fn digests_nearly_in_order(
+    names: Vec<(ShortName, Digest)>,
+) -> Result<Vec<(ShortName, Digest)>, Fault>
+    ensures fault { Refuses result None }
+    ensures ok { IfOk result (λ list. IsPermutation names.items list.items) }
+{
+    let mut names = names;
+    names.sort_by_cached_key(|name| first_digits(&name.1))?;
+    names.sort_by(|a, b| compare_namespaces(a, b))?;
+    Ok(names)
+}
+
 fn compare_digests(a: &(ShortName, Digest), b: &(ShortName, Digest)) -> Ordering
     ensures { result ≡ name_cmp a.now b.now }
 {
     a.0.cmp(&b.0).then(a.1.cmp(&b.1))
 }
 
-// Names of content, by namespace and digest.
+// Names of content, by namespace and digest. The last sort compares each with the next, and moves
+// those that the first ones left.
 pub(crate) fn digests_in_order(
     names: Vec<(ShortName, Digest)>,
 ) -> Result<Vec<(ShortName, Digest)>, Fault>
     ensures fault { Refuses result None }
     ensures ok { IfOk result (λ list. list.items ≡ sorted name_key names.items) }
 {
-    let mut names = names;
-    names.sort_by(|a, b| compare_digests(a, b))?;
-    Ok(names)
+    let mut nearly = digests_nearly_in_order(names)?;
+    nearly.sort_by(|a, b| compare_digests(a, b))?;
+    Ok(nearly)
 }
 
 fn compare_snapshots(a: &(ShortName, ShortName, Name), b: &(ShortName, ShortName, Name)) -> Ordering
