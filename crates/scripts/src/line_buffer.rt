@@ -16,18 +16,20 @@ pub struct LineBuffer {
 }
 
 impl LineBuffer {
-    ghost use Rattle.std.specs.Prelude.{◌++◌, List, ℕ, OnOk, None};
+    ghost use Rattle.std.specs.Prelude.{◌++◌, List, ℕ, IfOk, OnOk, None};
     ghost use Rattle.meta_types.specs.Faults.{Refuses};
     ghost use Rattle.scripts.specs.Progress.{IsLine};
 
-    /// An empty line.
-    pub fn new(alloc: Global) -> LineBuffer
-        ensures empty { IsLine result [] }
+    /// An empty line, with room for the longest, so that no line ends a run for want of it.
+    pub fn new(alloc: Global) -> Result<LineBuffer, Fault>
+        ensures fault { Refuses result None }
+        ensures ok { IfOk result (λ buffer. IsLine buffer []) }
     {
-        LineBuffer {
-            bytes: Vec::new(alloc),
+        let bytes = Vec::with_capacity(alloc, LINE_LIMIT)?;
+        Ok(LineBuffer {
+            bytes,
             is_too_long: false,
-        }
+        })
     }
 
     /// Begins the next line. The room stays for it.

@@ -227,7 +227,7 @@ fn run_named<L: Ledger, T: Threads + Wait + Sync, R: Read, W: Write>(
     ensures faults { IfErr result IsStartedFault }
 {
     let mut store = ScriptStore::<L>::open(alloc, blank, workers)?;
-    let mut buffer = LineBuffer::new(alloc);
+    let mut buffer = LineBuffer::new(alloc)?;
     'reads: for _ in 1..READ_LIMIT {
         match take_block(rt, alloc, &mut store, &mut buffer, reader, writer) {
             Ok(Run::GoesOn) => {}
