@@ -17,8 +17,7 @@ pub mod SweptBackends
 pub mod Backs
 pub mod Allowed
 pub mod Placed
-pub mod Cursors
-pub mod Dealing
+pub mod Fated
 pub mod OnePart
 pub mod NamesStand
 pub mod LastLane

@@ -133,21 +133,6 @@ module _ {X : Type 0} (same : X → X → Bool) (is_same : (x y : X) → same x 
         kept : Contains old n → Contains (filter (λ x. not (isin done x) || isin failed x) old) n
         kept c = in_filter (λ x. not (isin done x) || isin failed x) old n c (ap (λ (b : Bool). not b || isin failed n) is_fresh)
 
-    -- room for one more
-    pub room : (now removed failed : List X) (before after most : ℕ) → SweepsEach same done old now removed failed before after → length list ≤ most → (length removed < most) × (length failed < most)
-    room now removed failed before after most s fits =
-        let all : length done + length (n ∷ rest) ≡ length list = sym (length-append done (n ∷ rest)) ∙ ap (λ (l : List X). length l) is in
-        let r : length removed ≤ length done = subst (λ (l : List X). length l ≤ length done) (sym s.removed_is) (shorter (λ x. not (isin failed x)) done) in
-        let f : length failed ≤ length done = subst (λ (l : List X). length l ≤ length done) (sym s.failed_is) (shorter (λ x. isin failed x) done) in
-        (omega (arith, all, r, fits), omega (arith, all, f, fits))
-      where
-        shorter : (p : X → Bool) (xs : List X) → length (filter p xs) ≤ length xs
-        shorter p [] = omega arith
-        shorter p (x ∷ xs) = elim (cases_Bool (p x)) [
-          | inl t ↦ (let h = shorter p xs in rw t (omega (arith, h)))
-          | inr f ↦ (let h = shorter p xs in rw f (omega (arith, h)))
-        ]
-
     -- ---- one more of the list
 
     pub more_removed : (now next removed removed' failed : List X) (before after after' : ℕ) → SweepsEach same done old now removed failed before after → removed' ≡ removed ++ n ∷ [] → next ≡ filter (λ y. not (same n y)) now → after' ≡ after + 0

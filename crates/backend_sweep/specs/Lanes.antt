@@ -1,10 +1,12 @@
 -- Shards beside what is to be swept of each, and what was. Ours, unless a source stands beside.
-use Rattle.std.specs.Prelude.{ℕ, ◌≡◌, Bool, false, not, ◌||◌, List, [], length, find, Some, bytes_eq}
+use Rattle.std.specs.Prelude.{ℕ, ◌≡◌, Bool, false, not, ◌||◌, List, [], length, find, Option, None, Some, bytes_eq, if◌then◌else◌}
 use Rattle.std.specs.Option.{option_map_or}
 use Rattle.meta_types.specs.Text.{Text}
 use Rattle.back_model.specs.Shown.{Shard}
 use Rattle.backend_sweep.specs.Shards.{has, numbers_of}
 use Rattle.backend_sweep.specs.Sweep.{Swept, Childfirst, IsRoomFor, Sweeps}
+use Rattle.backend_sweep.specs.declared.fates.Fate.{Fate}
+use Rattle.backend_sweep.specs.declared.fates.Fate.TheVariants as F
 
 -- what is to be swept of one snapshotter's shard, and what was
 pub record Laned : Type 0 where
@@ -34,6 +36,15 @@ pub record SweepsLane (old : Shard) (lane swept : Laned) (new : Shard) : Type 0 
 abbrev pub IsFound : List Laned → Laned → Type 0
 IsFound lanes lane =
     find (λ (other : Laned). bytes_eq other.snapshotter lane.snapshotter) lanes ≡ Some lane
+
+-- what became of the number, as its lane has it; one without a lane is kept
+abbrev pub fate_in : Option Laned → ℕ → Fate
+fate_in None n = F.Kept
+fate_in (Some lane) n = if has lane.swept.failed n then F.Failed else if has lane.swept.kept n then F.Kept else F.Removed
+
+-- what became of the name, by its lane
+abbrev pub fate_of : List Laned → Text × ℕ → Fate
+fate_of lanes name = fate_in (find (λ (lane : Laned). bytes_eq lane.snapshotter name.0) lanes) name.1
 
 -- the test of the number by the name's lane; false where it has no lane
 abbrev pub in_lane : (Laned → ℕ → Bool) → List Laned → Text × ℕ → Bool

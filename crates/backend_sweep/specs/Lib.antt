@@ -1,4 +1,5 @@
 pub mod Shards
+pub mod Fated
 pub mod Sweep
 pub mod Singles
 pub mod Parts

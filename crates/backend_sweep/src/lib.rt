@@ -2,19 +2,19 @@
 #![tactic(auto)]
 
 mod backends;
+mod blobs;
+mod fates;
 mod gate;
+mod ingests;
 mod number_set;
 mod parts;
-mod room;
 mod shard;
 mod shard_jobs;
 mod shard_plans;
 mod shard_swept;
-mod singles;
-mod swept;
 
 pub use backends::{sweep_plain, sweep_shards};
+pub use fates::{Fate, Fates};
 pub use gate::{OpenSweepGate, SweepGate};
 pub use shard::sweep_shard;
 pub use shard_swept::ShardSwept;
-pub use swept::Swept;

@@ -3,8 +3,9 @@ ghost use Rattle.std.specs.Prelude.{◌≡◌, ℕ, false};
 ghost use Rattle.backend_sweep.specs.Shards.{IsHeld, IsChild};
 ghost use Rattle.backend_sweep.specs.Sweep.{Tries, Sweeps, Childfirst, IsRoomFor, Leaves};
 
+use crate::fates::Fate;
 use crate::gate::SweepGate;
-use crate::shard_swept::{Removal, ShardSwept};
+use crate::shard_swept::ShardSwept;
 use back_model::{RemoveFault, SnapBackend};
 
 // Removes a snapshot, unless a child of it is left.
@@ -14,19 +15,19 @@ fn try_remove<S: SnapBackend, H: SweepGate>(
     number: u64,
     is_above: bool,
     gate: &H,
-) -> Removal
+) -> Fate
     requires held { IsHeld (S.contents shard.old) number }
     requires children { is_above ≡ false → (c : ℕ) → ¬ (IsChild (S.contents shard.old) number c) }
     ensures { Tries result is_above number (S.contents shard.old) (S.contents shard.new)
         (S.fails shard.old) (S.fails shard.new) }
 {
     if is_above {
-        return Removal::Kept;
+        return Fate::Kept;
     }
     gate.before_remove(snapshotter, number);
     match shard.remove(number) {
-        Ok(()) => Removal::Removed,
-        Err(RemoveFault::Device) => Removal::Failed,
+        Ok(()) => Fate::Removed,
+        Err(RemoveFault::Device) => Fate::Failed,
         Err(RemoveFault::Missing) => unreachable!(),
         Err(RemoveFault::HasChildren) => unreachable!(),
     }

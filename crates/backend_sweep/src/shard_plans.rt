@@ -1,16 +1,14 @@
 //! Shards beside what is to be swept of each.
-ghost use Rattle.std.specs.Prelude.{◌≡◌, ◌<◌, ◌≤◌, ℕ, List, [], length, map, filter, find, option_map, bytes_eq, None, IfOk, IfSome, slice_index_or};
-ghost use Rattle.std.specs.Vec.{vec_capacity};
+ghost use Rattle.std.specs.Prelude.{◌≡◌, ◌<◌, ℕ, length, map, find, option_map, bytes_eq, None, IfOk, IfSome, slice_index_or};
 ghost use Rattle.meta_types.specs.Faults.{Refuses};
 ghost use Rattle.back_model.specs.Shown.{shown};
 ghost use Rattle.backend_sweep.specs.Sweep.{Childfirst, IsRoomFor, Sweeps};
-ghost use Rattle.backend_sweep.specs.Lanes.{lane_for, IsReady, SweepsLane, IsFound, is_removed, is_failed};
+ghost use Rattle.backend_sweep.specs.Lanes.{lane_for, IsReady, SweepsLane, IsFound, fate_in, fate_of};
 ghost use Rattle.backend_sweep.specs.Parts.{StandBySnapshotter};
-ghost use Rattle.backend_sweep.specs.Swept.{HasRoom};
 
+use crate::fates::Fate;
 use crate::gate::{OpenSweepGate, SweepGate};
 use crate::parts::part_of;
-use crate::room::Room;
 use crate::shard::sweep_shard;
 use crate::shard_swept::ShardSwept;
 use back_model::SnapBackend;
@@ -187,54 +185,31 @@ fn lane_from<'a>(
     lane_at(lanes, snapshotter)
 }
 
-// Each name goes where its lane has it.
-fn distribute(
-    names: Vec<(ShortName, u64)>,
-    lanes: &[ShardPlan],
-    removed: &mut Vec<(ShortName, u64)>,
-    failed: &mut Vec<(ShortName, u64)>,
-)
-    requires removed { (removed.old.items ≡ []) × (length names.items ≤ vec_capacity removed.old) }
-    requires failed { (failed.old.items ≡ []) × (length names.items ≤ vec_capacity failed.old) }
-    ensures removed { removed.new.items ≡ filter (is_removed lanes.now) names.items }
-    ensures failed { failed.new.items ≡ filter (is_failed lanes.now) names.items }
+// What became of a number, as its lane has it.
+fn fate_in(lane: Option<&ShardPlan>, number: u64) -> Fate
+    ensures { result ≡ fate_in (option_map (λ lane. lane.now) lane.entry) number }
 {
-    let mut last = None;
-    for name in names {
-        last = lane_from(lanes, last, &name.0);
-        let Some(lane) = last else {
-            continue;
-        };
-        if lane.swept.has_failed(name.1) {
-            failed.push_reserved(name);
-        } else if !lane.swept.has_kept(name.1) {
-            removed.push_reserved(name);
-        }
+    let Some(lane) = lane else {
+        return Fate::Kept;
+    };
+    if lane.swept.has_failed(number) {
+        return Fate::Failed;
     }
+    if lane.swept.has_kept(number) {
+        return Fate::Kept;
+    }
+    Fate::Removed
 }
 
-/// Names the removed and the failed snapshots, by their lanes. It takes no memory.
-pub(crate) fn snapshots_swept(
-    alloc: Global,
-    lanes: &[ShardPlan],
-    room: Room<(ShortName, u64)>,
-) -> Room<(ShortName, u64)>
-    requires empty { (room.removed.items ≡ []) × (room.failed.items ≡ []) }
-    requires room { HasRoom room }
-    ensures names { result.names.items ≡ [] }
-    ensures removed { result.removed.items ≡ filter (is_removed lanes.now) room.names.items }
-    ensures failed { result.failed.items ≡ filter (is_failed lanes.now) room.names.items }
-    ensures room { HasRoom result }
+/// Sets what became of each snapshot, as its lane has it. It takes no memory.
+pub(crate) fn set_fates(lanes: &[ShardPlan], names: &[(ShortName, u64)], fates: &mut [Fate])
+    requires fates { length fates.old ≡ length names.now }
+    ensures { fates.new ≡ map (fate_of lanes.now) names.now }
 {
-    let Room {
-        names,
-        mut removed,
-        mut failed,
-    } = room;
-    distribute(names, lanes, &mut removed, &mut failed);
-    Room {
-        names: Vec::new(alloc),
-        removed,
-        failed,
+    let mut last = None;
+    for i in 0..names.len() {
+        let name = &names[i];
+        last = lane_from(lanes, last, &name.0);
+        fates[i] = fate_in(last, name.1);
     }
 }

@@ -4,18 +4,11 @@ ghost use Rattle.meta_types.specs.Faults.{Refuses};
 ghost use Rattle.backend_sweep.specs.Shards.{has};
 ghost use Rattle.backend_sweep.specs.Sweep.{put_of};
 
+use crate::fates::Fate;
 use crate::number_set::NumberSet;
 use meta_types::Fault;
 use std::alloc::Global;
 use std::marker::Model;
-
-/// What became of a snapshot that was to go.
-#[derive(Clone, Copy, Debug, PartialEq, Eq)]
-pub(crate) enum Removal {
-    Removed,
-    Failed,
-    Kept,
-}
 
 /// The numbers that were removed, those that the device failed, and those that were kept above one
 /// that failed: each in the order of the list that was swept.
@@ -125,16 +118,16 @@ impl ShardSwept {
     }
 
     // Puts a number into the list that its removal asks for, in the room for it.
-    pub(crate) fn put(&mut self, number: u64, parent: Option<u64>, became: Removal)
+    pub(crate) fn put(&mut self, number: u64, parent: Option<u64>, became: Fate)
         requires { 0 < self.old.room }
         ensures { self.new ≡ put_of self.old number parent became }
     {
         match became {
-            Removal::Removed => self.removed.push_reserved(number),
-            Removal::Failed => self.failed.add(number),
-            Removal::Kept => self.kept.add(number),
+            Fate::Removed => self.removed.push_reserved(number),
+            Fate::Failed => self.failed.add(number),
+            Fate::Kept => self.kept.add(number),
         }
-        if became != Removal::Removed {
+        if became != Fate::Removed {
             if let Some(above) = parent {
                 self.parents.add(above);
             }

@@ -4,3 +4,4 @@ pub mod Wholes
 pub mod Removing
 pub mod NamedRows
 mod Lent
+pub mod Dealing

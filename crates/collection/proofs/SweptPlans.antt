@@ -6,13 +6,18 @@ use Rattle.meta_types.specs.Reports.{Collects, Plans}
 use Rattle.table_sweep.specs.declared.planning.Plan.{Plan}
 use Rattle.table_sweep.specs.InKeyOrder.{records_in_key_order}
 use Rattle.table_sweep.specs.Plans.{IsPlanOfRows}
-use Rattle.backend_sweep.specs.Swept.{AllSwept}
+use Rattle.backend_sweep.specs.Fated.{AllFates, failed_of}
 use Rattle.collection.specs.Whole.{reported, IsPlanOfStore, SweepsBackends, SweepsRecords}
 
 -- a plan's report, with what was swept
-pub a_swept_plan_is_a_collection : (came : Records) (backends : BackLists) (at : ℤ) (plan : Plan) (swept : AllSwept) (records : Records) (back : BackLists) → IsPlanOfRows came (length came.tables.namespaces) backends at plan → SweepsRecords plan came records → SweepsBackends plan backends swept back
-    → Collects (record { records = records_in_key_order came; backends = backends }) at swept.failed (reported plan.report swept) (record { records = records; backends = back })
-a_swept_plan_is_a_collection came backends at plan swept records back p rows objects =
+pub a_swept_plan_is_a_collection : (came : Records) (backends : BackLists) (at : ℤ) (plan : Plan)
+    (fates : AllFates) (records : Records) (back : BackLists)
+    → IsPlanOfRows came (length came.tables.namespaces) backends at plan
+    → SweepsRecords plan came records → SweepsBackends plan backends fates back
+    → Collects (record { records = records_in_key_order came; backends = backends }) at
+    (failed_of plan.report.backend fates) (reported plan.report fates)
+    (record { records = records; backends = back })
+a_swept_plan_is_a_collection came backends at plan fates records back p rows objects =
     let left = collected_records at p.reached (records_in_key_order came) in
     let s = objects left.tables (ap (λ report. report.backend) p.report_is) in
     let rows_are = rows at p.reached p.masks in
@@ -24,7 +29,7 @@ a_swept_plan_is_a_collection came backends at plan swept records back p rows obj
       report_is = λ i. record (p.report_is i) {
         backend = s.removed_is i;
         dry = false;
-        failed = swept.failed;
+        failed = failed_of plan.report.backend fates;
       };
     }
 

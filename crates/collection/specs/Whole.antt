@@ -10,14 +10,15 @@ use Rattle.table_sweep.specs.Plans.{IsPlanOfRows}
 use Rattle.meta_types.specs.Paths.{Thing}
 use Rattle.meta_types.specs.Collected.{collected_records}
 use Rattle.backend_sweep.specs.Planned.{IsPlanOf}
-use Rattle.backend_sweep.specs.Swept.{AllSwept, SweepsNames}
+use Rattle.backend_sweep.specs.Fated.{AllFates, removed_of, failed_of}
+use Rattle.backend_sweep.specs.Swept.{SweepsNames}
 
 -- the report of a collection is that of its dry run, but for what was swept
-abbrev pub reported : Report → AllSwept → Report
-reported planned swept = record planned {
-  backend = swept.removed;
+abbrev pub reported : Report → AllFates → Report
+reported planned fates = record planned {
+  backend = removed_of planned.backend fates;
   dry = false;
-  failed = swept.failed;
+  failed = failed_of planned.backend fates;
 }
 
 -- the plan of a store
@@ -25,8 +26,8 @@ abbrev pub IsPlanOfStore : State → ℤ → Plan → Type 0
 IsPlanOfStore state at plan = IsPlanOf state.records (length state.records.tables.namespaces) state.backends at plan
 
 -- the backends are swept of what the plan names
-abbrev pub SweepsBackends : Plan → BackLists → AllSwept → BackLists → Type 0
-SweepsBackends plan old swept new = SweepsNames plan.report.backend old new swept
+abbrev pub SweepsBackends : Plan → BackLists → AllFates → BackLists → Type 0
+SweepsBackends plan old fates new = SweepsNames plan.report.backend old new fates
 
 -- records that came so are swept of what the masks don't keep: what is left
 -- is seen in the order of keys
@@ -36,8 +37,13 @@ SweepsRecords plan came new = (at : ℤ) (reached : Thing → Bool) → AreMasks
 -- a plan of records as they came, both sweeps by it and the report are a collection of them in the
 -- order of keys, with the failures of the sweep
 abbrev pub ASweptPlanIsACollection : Type 0
-ASweptPlanIsACollection = (came : Records) (backends : BackLists) (at : ℤ) (plan : Plan) (swept : AllSwept) (records : Records) (back : BackLists) → IsPlanOfRows came (length came.tables.namespaces) backends at plan → SweepsRecords plan came records → SweepsBackends plan backends swept back
-    → Collects (record { records = records_in_key_order came; backends = backends }) at swept.failed (reported plan.report swept) (record { records = records; backends = back })
+ASweptPlanIsACollection = (came : Records) (backends : BackLists) (at : ℤ) (plan : Plan)
+    (fates : AllFates) (records : Records) (back : BackLists)
+    → IsPlanOfRows came (length came.tables.namespaces) backends at plan
+    → SweepsRecords plan came records → SweepsBackends plan backends fates back
+    → Collects (record { records = records_in_key_order came; backends = backends }) at
+    (failed_of plan.report.backend fates) (reported plan.report fates)
+    (record { records = records; backends = back })
 
 -- the report of a plan of a store is that of a dry run
 abbrev pub APlanIsADryRun : Type 0

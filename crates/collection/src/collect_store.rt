@@ -13,8 +13,10 @@ ghost use Rattle.backend_sweep.specs.Swept.{count_names, held_in};
 
 use crate::arrived::{ArrivedRecords, put_back, take_out};
 use crate::checks::check;
+use crate::keeps::Keeps;
+use crate::reporting::Rooms;
 use crate::reports::Reports;
-use crate::spare::{Spare, reports_of};
+use crate::spare::{reports_of, spares_of};
 use back_model::{Backends, BlobBackend, IngestBackend, SnapBackend};
 use backend_sweep::{SweepGate, sweep_shards};
 use meta_types::{Fault, Instant};
@@ -63,6 +65,7 @@ fn collect_came<
     I: IngestBackend,
     G: Gate,
     H: SweepGate,
+    K: Keeps,
 >(
     rt: &R,
     alloc: Global,
@@ -72,7 +75,7 @@ fn collect_came<
     workers: usize,
     gate: &G,
     sweep_gate: &H,
-) -> Result<Reports, Fault>
+) -> Result<Reports<K>, Fault>
     requires sound { IsSound (store_in (in_order came.old) backends.old.shards
         (B.contents backends.old.blobs) (I.contents backends.old.ingests)) }
     requires workers { is_worker_count workers ≡ true }
@@ -92,15 +95,16 @@ fn collect_came<
         (B.contents backends.new.blobs) (I.contents backends.new.ingests)) }
 {
     let plan = plan_held(rt, alloc, came, backends, at, workers, gate)?;
-    let log = Spare::of(alloc, &plan)?;
-    let list = Spare::of(alloc, &plan)?;
+    let spares = spares_of::<K>(alloc, &plan)?;
+    let rooms = Rooms::of(alloc, &plan)?;
     sweep_gate.before_sweep(alloc, &plan.report)?;
-    let swept = sweep_shards(rt, alloc, backends, &plan, workers, sweep_gate)?;
+    let fates = sweep_shards(rt, alloc, backends, &plan, workers, sweep_gate)?;
     sweep(&mut came.tables, &mut came.leases, &plan.masks);
-    Ok(reports_of(alloc, plan, swept, log, list))
+    Ok(reports_of(plan, fates, rooms, spares))
 }
 
-/// Collects, and reports the removals. From the first of them on nothing is refused.
+/// Collects, and reports the removals, in copies too where a history is kept. From the first
+/// removal on nothing is refused.
 pub fn collect<
     R: Threads + Wait + Sync,
     S: SnapBackend,
@@ -108,6 +112,7 @@ pub fn collect<
     I: IngestBackend,
     G: Gate,
     H: SweepGate,
+    K: Keeps,
 >(
     rt: &R,
     alloc: Global,
@@ -117,7 +122,7 @@ pub fn collect<
     workers: usize,
     gate: &G,
     sweep_gate: &H,
-) -> Result<Reports, Fault>
+) -> Result<Reports<K>, Fault>
     requires { IsSound (store_in records.old backends.old.shards (B.contents backends.old.blobs)
         (I.contents backends.old.ingests)) }
     ensures fault { RefusesThreads result (collect_fault (records_in records.old) workers) }

@@ -8,6 +8,7 @@ ghost use Rattle.table_sweep.specs.Backed.{lists_of};
 ghost use Rattle.collection.specs.Stores.{records_in, lists_in, store_in};
 
 use crate::checks::check;
+use crate::keeps::Keeps;
 use crate::planning::plan_store;
 use crate::reports::Reports;
 use back_model::{BackLists, Backends, BlobBackend, IngestBackend, SnapBackend};
@@ -67,7 +68,14 @@ pub fn dry_report<R: Threads + Wait + Sync, G: Gate>(
 }
 
 /// What a collection of this store would report. Nothing is swept.
-pub fn dry_run<R: Threads + Wait + Sync, S: SnapBackend, B: BlobBackend, I: IngestBackend, G: Gate>(
+pub fn dry_run<
+    R: Threads + Wait + Sync,
+    S: SnapBackend,
+    B: BlobBackend,
+    I: IngestBackend,
+    G: Gate,
+    K: Keeps,
+>(
     rt: &R,
     alloc: Global,
     records: &Records,
@@ -75,7 +83,7 @@ pub fn dry_run<R: Threads + Wait + Sync, S: SnapBackend, B: BlobBackend, I: Inge
     at: Instant,
     workers: usize,
     gate: &G,
-) -> Result<Reports, Fault>
+) -> Result<Reports<K>, Fault>
     requires { AreTables records.now.tables }
     ensures fault { RefusesThreads result (collect_fault (records_in records.now) workers) }
     ensures ok { IfOk result (λ report. Plans (store_in records.now backends.now.shards

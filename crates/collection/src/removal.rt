@@ -16,6 +16,7 @@ ghost use Rattle.collection.specs.Stores.{records_in, store_in};
 
 use crate::checks::is_too_large;
 use crate::collect_store::collect;
+use crate::keeps::Keeps;
 use crate::reports::Reports;
 use back_model::{Backends, BlobBackend, IngestBackend, SnapBackend};
 use backend_sweep::SweepGate;
@@ -109,6 +110,7 @@ pub fn remove_collect<
     I: IngestBackend,
     G: Gate,
     H: SweepGate,
+    K: Keeps,
 >(
     rt: &R,
     alloc: Global,
@@ -119,7 +121,7 @@ pub fn remove_collect<
     workers: usize,
     gate: &G,
     sweep_gate: &H,
-) -> Result<Reports, Fault>
+) -> Result<Reports<K>, Fault>
     requires { IsSound (store_in records.old backends.old.shards (B.contents backends.old.blobs)
         (I.contents backends.old.ingests)) }
     ensures fault { RefusesCollect result (remove_collect_fault (store_in records.old

@@ -1,20 +1,163 @@
-//! The report of a collection, from that of its dry run.
-ghost use Rattle.std.specs.Prelude.{◌≡◌};
+//! The report of a collection, from that of its dry run: names are dealt by what became of their
+//! objects, in room that is made before.
+ghost use Rattle.std.specs.Prelude.{◌≡◌, ◌≤◌, [], length, None, IfOk};
+ghost use Rattle.std.specs.Vec.{vec_capacity};
+ghost use Rattle.meta_types.specs.Faults.{Refuses};
+ghost use Rattle.backend_sweep.specs.Fated.{AreFatesOf, names_with, was_removed, has_failed, removed_of, failed_of};
+ghost use Rattle.collection.specs.Rooms.{IsRoomFor, HasRoomFor};
 ghost use Rattle.collection.specs.Whole.{reported};
 
-use backend_sweep::Swept;
-use gc_report::Report;
+use backend_sweep::{Fate, Fates};
+use gc_report::{Objects, Report};
+use meta_types::{Digest, Fault, ShortName};
+use std::alloc::Global;
+use std::mem::drop;
+use table_sweep::Plan;
 
-// The report of a collection: that of its dry run, with the objects that were removed and those
-// that failed.
-pub(crate) fn report(planned: Report, swept: Swept) -> Report
-    ensures { result ≡ reported planned swept }
+/// Room for names that are removed, and for such as fail.
+#[derive(Drop)]
+pub(crate) struct Room<T: Drop> {
+    pub(crate) removed: Vec<T>,
+    pub(crate) failed: Vec<T>,
+}
+
+impl<T: Drop> Room<T> {
+    // For so many names.
+    fn of(alloc: Global, count: usize) -> Result<Room<T>, Fault>
+        ensures fault { Refuses result None }
+        ensures removed { IfOk result (λ room. (room.removed.items ≡ [])
+            × (count ≤ vec_capacity room.removed)) }
+        ensures failed { IfOk result (λ room. (room.failed.items ≡ [])
+            × (count ≤ vec_capacity room.failed)) }
+    {
+        Ok(Room {
+            removed: Vec::with_capacity(alloc, count)?,
+            failed: Vec::with_capacity(alloc, count)?,
+        })
+    }
+}
+
+// Moves each name into the list of its fate, and drops what was kept.
+fn deal_into<T: Drop>(names: Vec<T>, fates: &[Fate], removed: &mut Vec<T>, failed: &mut Vec<T>)
+    requires fates { length fates.now ≡ length names.items }
+    requires removed { (removed.old.items ≡ []) × (length names.items ≤ vec_capacity removed.old) }
+    requires failed { (failed.old.items ≡ []) × (length names.items ≤ vec_capacity failed.old) }
+    ensures removed { removed.new.items ≡ names_with was_removed names.items fates.now }
+    ensures failed { failed.new.items ≡ names_with has_failed names.items fates.now }
 {
-    let (backend, failed) = swept.into_objects();
+    let mut i = 0;
+    for name in names {
+        let fate = fates[i];
+        i += 1;
+        match fate {
+            Fate::Removed => removed.push_reserved(name),
+            Fate::Failed => failed.push_reserved(name),
+            Fate::Kept => drop(name),
+        }
+    }
+}
+
+// What was removed of these names, and what failed. It takes no memory.
+fn deal<T: Drop>(names: Vec<T>, fates: &[Fate], room: Room<T>) -> (Vec<T>, Vec<T>)
+    requires fates { length fates.now ≡ length names.items }
+    requires room { IsRoomFor names.items room }
+    ensures removed { result.0.items ≡ names_with was_removed names.items fates.now }
+    ensures failed { result.1.items ≡ names_with has_failed names.items fates.now }
+{
+    let Room {
+        mut removed,
+        mut failed,
+    } = room;
+    deal_into(names, fates, &mut removed, &mut failed);
+    (removed, failed)
+}
+
+/// Room for the objects of a report.
+#[derive(Drop)]
+pub(crate) struct Rooms {
+    pub(crate) blobs: Room<Digest>,
+    pub(crate) ingests: Room<u64>,
+    pub(crate) snapshots: Room<(ShortName, u64)>,
+}
+
+impl Rooms {
+    /// For what the plan names.
+    pub(crate) fn of(alloc: Global, plan: &Plan) -> Result<Rooms, Fault>
+        ensures fault { Refuses result None }
+        ensures ok { IfOk result (HasRoomFor plan.now.report.backend) }
+    {
+        let blobs = Room::of(alloc, plan.report.backend.blobs.len())?;
+        let ingests = Room::of(alloc, plan.report.backend.ingests.len())?;
+        let snapshots = Room::of(alloc, plan.report.backend.snapshots.len())?;
+        Ok(Rooms {
+            blobs,
+            ingests,
+            snapshots,
+        })
+    }
+}
+
+// The objects that were removed, and those that failed. It takes no memory.
+fn dealt(names: Objects, fates: &Fates, rooms: Rooms) -> (Objects, Objects)
+    requires fates { AreFatesOf names fates.now }
+    requires room { HasRoomFor names rooms }
+    ensures removed { result.0 ≡ removed_of names fates.now }
+    ensures failed { result.1 ≡ failed_of names fates.now }
+{
+    let Objects {
+        blobs,
+        ingests,
+        snapshots,
+    } = names;
+    let Rooms {
+        blobs: blobs_room,
+        ingests: ingests_room,
+        snapshots: snapshots_room,
+    } = rooms;
+    let (blobs, failed_blobs) = deal(blobs, &fates.blobs, blobs_room);
+    let (ingests, failed_ingests) = deal(ingests, &fates.ingests, ingests_room);
+    let (snapshots, failed_snapshots) = deal(snapshots, &fates.snapshots, snapshots_room);
+    let removed = Objects {
+        blobs,
+        ingests,
+        snapshots,
+    };
+    let failed = Objects {
+        blobs: failed_blobs,
+        ingests: failed_ingests,
+        snapshots: failed_snapshots,
+    };
+    (removed, failed)
+}
+
+/// The report of a collection: that of its dry run, with the objects that were removed and those
+/// that failed. It takes no memory.
+pub(crate) fn report(planned: Report, fates: &Fates, rooms: Rooms) -> Report
+    requires fates { AreFatesOf planned.backend fates.now }
+    requires room { HasRoomFor planned.backend rooms }
+    ensures { result ≡ reported planned fates.now }
+{
+    let Report {
+        backend: names,
+        dry: _,
+        failed: _,
+        ignored,
+        ignored_images,
+        kept,
+        profile,
+        removed,
+        scanned,
+    } = planned;
+    let (backend, failed) = dealt(names, fates, rooms);
     Report {
         backend,
         dry: false,
         failed,
-        ..planned
+        ignored,
+        ignored_images,
+        kept,
+        profile,
+        removed,
+        scanned,
     }
 }

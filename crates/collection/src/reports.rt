@@ -1,43 +1,97 @@
-//! One report three times.
+//! The report of a collection, and its copies where a history is kept.
 ghost use Rattle.std.specs.Prelude.{◌≡◌, None, IfOk};
 ghost use Rattle.meta_types.specs.Faults.{Refuses};
+ghost use Rattle.collection.specs.Copies.{AreCopies};
 
+use crate::keeps::{Keeps, Kept};
 use gc_report::Report;
 use meta_types::Fault;
 use std::alloc::Global;
-use std::marker::Model;
+use std::marker::{Model, PhantomData};
+use std::mem::drop;
 
-/// The same report for the caller, for the log, and for the session's list.
+/// The report of an entry in the log, and of one in the session's list.
 #[derive(Drop)]
-pub struct Reports {
-    pub caller: Report,
+pub struct Copies {
     pub log: Report,
     pub list: Report,
 }
 
-impl Model for Reports {
-    ghost use Rattle.std.specs.Prelude.{◌≡◌};
+/// The report of a collection. It has copies where a history is kept, and only there.
+#[derive(Drop)]
+pub struct Reports<K: Keeps> {
+    pub(crate) caller: Report,
+    pub(crate) others: Option<Copies>,
+    pub(crate) keeps: PhantomData<K>,
+}
+
+impl<K: Keeps> Model for Reports<K> {
     ghost use Rattle.meta_types.specs.Reports.{Report as Said};
+    ghost use Rattle.collection.specs.Copies.{AreCopies};
 
     ghost Value = { Said };
 
     ghost view = { λ r. r.caller };
 
-    ghost invariant = { λ r. (r.log ≡ r.caller) × (r.list ≡ r.caller) };
+    ghost invariant = { λ r. AreCopies K.KEPT r.caller r.others };
 }
 
-impl Reports {
-    /// The report, and two copies.
-    pub(crate) fn of(alloc: Global, report: Report) -> Result<Reports, Fault>
+// Two copies, where a history is kept.
+fn copies_of<K: Keeps>(alloc: Global, report: &Report) -> Result<Option<Copies>, Fault>
+    ensures fault { Refuses result None }
+    ensures ok { IfOk result (AreCopies K.KEPT report.now) }
+{
+    if !K::KEPT {
+        return Ok(None);
+    }
+    let log = report.copy(alloc)?;
+    let list = report.copy(alloc)?;
+    Ok(Some(Copies { log, list }))
+}
+
+impl<K: Keeps> Reports<K> {
+    /// The report, with copies where a history is kept.
+    pub(crate) fn of(alloc: Global, report: Report) -> Result<Reports<K>, Fault>
         ensures fault { Refuses result None }
         ensures ok { IfOk result (λ reports. reports ≡ report) }
     {
-        let log = report.copy(alloc)?;
-        let list = report.copy(alloc)?;
+        let others = copies_of::<K>(alloc, &report)?;
         Ok(Reports {
             caller: report,
-            log,
-            list,
+            others,
+            keeps: PhantomData,
         })
+    }
+
+    /// The report alone.
+    pub fn alone(self) -> Report
+        ensures { result ≡ self }
+    {
+        let Reports {
+            caller,
+            others,
+            keeps: _,
+        } = self;
+        drop(others);
+        caller
+    }
+}
+
+impl Reports<Kept> {
+    /// The report, and its copies.
+    pub fn apart(self) -> (Report, Copies)
+        ensures caller { result.0 ≡ self }
+        ensures log { result.1.log ≡ self }
+        ensures list { result.1.list ≡ self }
+    {
+        let Reports {
+            caller,
+            others,
+            keeps: _,
+        } = self;
+        match others {
+            Some(copies) => (caller, copies),
+            None => unreachable!(),
+        }
     }
 }

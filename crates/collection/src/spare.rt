@@ -1,70 +1,118 @@
-//! Copies of a report, made before anything is removed.
+//! Copies of a report, made before anything is removed, where a history is kept.
 ghost use Rattle.std.specs.Prelude.{◌≡◌, None, IfOk};
-ghost use Rattle.meta_types.specs.Backends.{no_objects};
 ghost use Rattle.meta_types.specs.Faults.{Refuses};
-ghost use Rattle.backend_sweep.specs.Swept.{AreOf};
+ghost use Rattle.backend_sweep.specs.Fated.{AreFatesOf};
+ghost use Rattle.collection.specs.Copies.{IsSpare, AreSpare, AreCopies};
+ghost use Rattle.collection.specs.Rooms.{HasRoomFor};
 ghost use Rattle.collection.specs.Whole.{reported};
-ghost use Rattle.collection.specs.Planned.{IsSpare};
 
-use crate::reporting::report;
-use crate::reports::Reports;
-use backend_sweep::Swept;
+use crate::keeps::Keeps;
+use crate::reporting::{Rooms, report};
+use crate::reports::{Copies, Reports};
+use backend_sweep::Fates;
 use gc_report::Report;
 use meta_types::Fault;
 use std::alloc::Global;
+use std::marker::PhantomData;
 use table_sweep::Plan;
 
-/// A plan's report once more, and room for what a sweep by it does.
+/// A plan's report once more, and room for what a sweep does of it.
 #[derive(Drop)]
 pub(crate) struct Spare {
     pub(crate) report: Report,
-    pub(crate) room: Swept,
+    pub(crate) rooms: Rooms,
 }
 
 impl Spare {
-    pub(crate) fn of(alloc: Global, plan: &Plan) -> Result<Spare, Fault>
+    fn of(alloc: Global, plan: &Plan) -> Result<Spare, Fault>
         ensures fault { Refuses result None }
-        ensures ok { IfOk result (IsSpare plan.now) }
+        ensures ok { IfOk result (IsSpare plan.now.report) }
     {
-        let room = Swept::room(alloc, plan)?;
+        let rooms = Rooms::of(alloc, plan)?;
         let report = plan.report.copy(alloc)?;
-        Ok(Spare { report, room })
+        Ok(Spare { report, rooms })
     }
 
     // The report of what was swept. It takes no memory.
-    fn swept(self, alloc: Global, swept: &Swept) -> Report
-        requires of { AreOf self.room.room swept.now }
-        requires empty { (self.room.removed ≡ no_objects) × (self.room.failed ≡ no_objects) }
-        ensures { result ≡ reported self.report (record swept.now { room = no_objects }) }
+    fn swept(self, fates: &Fates) -> Report
+        requires of { AreFatesOf self.report.backend fates.now }
+        requires room { HasRoomFor self.report.backend self.rooms }
+        ensures { result ≡ reported self.report fates.now }
     {
         let Spare {
             report: planned,
-            mut room,
+            rooms,
         } = self;
-        room.fill(alloc, swept);
-        report(planned, room)
+        report(planned, fates, rooms)
     }
 }
 
-/// The report for the caller, for the log, and for the session's list. It takes no memory.
-pub(crate) fn reports_of(
+/// Two of them, for log and session, where a history is kept.
+pub(crate) fn spares_of<K: Keeps>(
     alloc: Global,
-    plan: Plan,
-    swept: Swept,
-    log: Spare,
-    list: Spare,
-) -> Reports
-    requires of { AreOf plan.report.backend swept }
-    requires log { IsSpare plan log }
-    requires list { IsSpare plan list }
-    ensures { result ≡ reported plan.report swept }
+    plan: &Plan,
+) -> Result<Option<(Spare, Spare)>, Fault>
+    ensures fault { Refuses result None }
+    ensures ok { IfOk result (AreSpare K.KEPT plan.now.report) }
 {
-    let log = log.swept(alloc, &swept);
-    let list = list.swept(alloc, &swept);
-    let Plan {
-        masks: _,
-        report: planned,
-    } = plan;
-    let caller = report(planned, swept);
-    Reports { caller, log, list }
+    if !K::KEPT {
+        return Ok(None);
+    }
+    let log = Spare::of(alloc, plan)?;
+    let list = Spare::of(alloc, plan)?;
+    Ok(Some((log, list)))
+}
+
+// What was swept is told in each copy. It takes no memory.
+fn filled<K: Keeps>(
+    planned: &Report,
+    fates: &Fates,
+    spares: Option<(Spare, Spare)>,
+) -> Option<Copies>
+    requires of { AreFatesOf planned.now.backend fates.now }
+    requires spares { AreSpare K.KEPT planned.now spares }
+    ensures { AreCopies K.KEPT (reported planned.now fates.now) result }
+{
+    let Some((log, list)) = spares else {
+        return None;
+    };
+    let log = log.swept(fates);
+    let list = list.swept(fates);
+    Some(Copies { log, list })
+}
+
+// The report of what was swept, and its copies. It takes no memory.
+fn with_copies<K: Keeps>(
+    planned: Report,
+    fates: &Fates,
+    rooms: Rooms,
+    spares: Option<(Spare, Spare)>,
+) -> Reports<K>
+    requires of { AreFatesOf planned.backend fates.now }
+    requires room { HasRoomFor planned.backend rooms }
+    requires spares { AreSpare K.KEPT planned spares }
+    ensures { result ≡ reported planned fates.now }
+{
+    let others = filled::<K>(&planned, fates, spares);
+    Reports {
+        caller: report(planned, fates, rooms),
+        others,
+        keeps: PhantomData,
+    }
+}
+
+/// The report of a plan that was swept, and its copies. It takes no memory.
+pub(crate) fn reports_of<K: Keeps>(
+    plan: Plan,
+    fates: Fates,
+    rooms: Rooms,
+    spares: Option<(Spare, Spare)>,
+) -> Reports<K>
+    requires of { AreFatesOf plan.report.backend fates }
+    requires room { HasRoomFor plan.report.backend rooms }
+    requires spares { AreSpare K.KEPT plan.report spares }
+    ensures { result ≡ reported plan.report fates }
+{
+    let Plan { masks: _, report } = plan;
+    with_copies(report, &fates, rooms, spares)
 }

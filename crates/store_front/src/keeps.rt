@@ -1,27 +1,2 @@
-//! The two kinds of stores: one that keeps its history, and one that keeps none.
-ghost use Rattle.std.specs.Prelude.{Bool, true, false};
-
-/// Whether a store keeps its history.
-pub trait Keeps {
-    ghost KEPT: { Bool };
-
-    const KEPT: bool;
-}
-
-/// It keeps the store at the opening, and each event since with its answer.
-pub struct Kept;
-
-impl Keeps for Kept {
-    ghost KEPT = { true };
-
-    const KEPT: bool = true;
-}
-
-/// It keeps nothing but the store, and an event takes no memory for an entry.
-pub struct Unkept;
-
-impl Keeps for Unkept {
-    ghost KEPT = { false };
-
-    const KEPT: bool = false;
-}
+//! Whether a store keeps its history: a word that its collections take too.
+pub use collection::{Keeps, Kept, Unkept};

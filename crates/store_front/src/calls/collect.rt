@@ -30,6 +30,7 @@ pub(crate) fn run_collect<
     I: IngestBackend,
     G: Gate,
     H: SweepGate,
+    K: Keeps,
 >(
     rt: &R,
     alloc: Global,
@@ -39,7 +40,7 @@ pub(crate) fn run_collect<
     workers: usize,
     gate: &G,
     sweep_gate: &H,
-) -> Result<Reports, Fault>
+) -> Result<Reports<K>, Fault>
     requires { IsSound state.old.state }
     ensures step { Takes state.old.state (collect at.0 dry workers) (kept_report result)
         state.new.state }
@@ -63,6 +64,7 @@ pub(crate) fn run_removal<
     I: IngestBackend,
     G: Gate,
     H: SweepGate,
+    K: Keeps,
 >(
     rt: &R,
     alloc: Global,
@@ -72,7 +74,7 @@ pub(crate) fn run_removal<
     workers: usize,
     gate: &G,
     sweep_gate: &H,
-) -> Result<Reports, Fault>
+) -> Result<Reports<K>, Fault>
     requires { IsSound state.old.state }
     ensures step { Takes state.old.state (remove_collect removal.now at.0 workers)
         (kept_report result) state.new.state }

@@ -10,7 +10,7 @@ use crate::event::both::{Answers, Events};
 use crate::event::entry::{Entry, Told};
 use crate::event::event::Answer;
 use crate::event::kept_report::KeptReport;
-use collection::Reports;
+use collection::{Copies, Kept, Reports, Unkept};
 use gc_report::Report;
 use meta_types::{Fault, Reply};
 use std::alloc::Global;
@@ -116,7 +116,7 @@ pub(crate) fn keep_report<L: Ledger>(
     number: u32,
     events: Events,
     rooms: (KeptReport, KeptReport),
-    outcome: Result<Reports, Fault>,
+    outcome: Result<Reports<Kept>, Fault>,
 ) -> Result<Report, Fault>
     requires log_room { vec_len log.old < vec_capacity log.old }
     requires list_room { vec_len list.old < vec_capacity list.old }
@@ -131,11 +131,11 @@ pub(crate) fn keep_report<L: Ledger>(
 {
     match outcome {
         Ok(reports) => {
-            let Reports {
-                caller,
+            let (caller, copies) = reports.apart();
+            let Copies {
                 log: one,
                 list: other,
-            } = reports;
+            } = copies;
             let (first, second) = rooms;
             let answers = Answers {
                 log: Answer::Reported(first.filled(one)),
@@ -153,18 +153,11 @@ pub(crate) fn keep_report<L: Ledger>(
 }
 
 // The report, where nothing is kept of it.
-pub(crate) fn report_alone(outcome: Result<Reports, Fault>) -> Result<Report, Fault>
+pub(crate) fn report_alone(outcome: Result<Reports<Unkept>, Fault>) -> Result<Report, Fault>
     ensures { result ≡ outcome }
 {
     match outcome {
-        Ok(reports) => {
-            let Reports {
-                caller,
-                log: _,
-                list: _,
-            } = reports;
-            Ok(caller)
-        }
+        Ok(reports) => Ok(reports.alone()),
         Err(fault) => Err(fault),
     }
 }

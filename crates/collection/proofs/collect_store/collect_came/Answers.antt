@@ -1,9 +1,15 @@
-use Rattle.std.proofs.Common.{sym, subst, refl, length}
+use Rattle.std.proofs.Common.{inl, ◌≡◌, ◌∙◌, sym, subst, refl, length}
+use Rattle.std.specs.Prelude.{Result, Ok, Err, None}
+use Rattle.std.specs.Result.{IsErrAnd}
+use Rattle.meta_types.specs.declared.fault.Fault.{Fault}
+use Rattle.meta_types.specs.declared.fault.Fault.TheVariants.{OutOfMemory}
+use Rattle.steal_mark.specs.Refusing.{RefusesThreads}
 use Rattle.meta_types.specs.Rows.{Records, BackLists, State}
 use Rattle.meta_types.specs.Reports.{Report, Collects}
 use Rattle.meta_types.proofs.SoundAfter.{a_collected_store_is_sound}
 use Rattle.collection.proofs.SweptPlans.{a_swept_plan_is_a_collection}
-use Rattle.backend_sweep.specs.Swept.{AllSwept, held_in}
+use Rattle.backend_sweep.specs.Fated.{AllFates}
+use Rattle.backend_sweep.specs.Swept.{held_in}
 use Rattle.collection.specs.Arrived.{in_order, came_in}
 use Rattle.collection.specs.Stores.{records_in, store_in}
 use Rattle.collection.proofs.Bridges.{swept_fails, in_some_order}
@@ -25,10 +31,29 @@ sweep_shards-requires-after_bounds g c κs within =
       plan_is = in_some_order came (records_in (in_order c.args.came.now)) n held c.args.at.0 c.in_ok-plan.plan refl p;
     }
 
+memory_fails : (result : Result Report Fault) (fault : Fault)
+    → IsErrAnd result (λ other. other ≡ fault) → fault ≡ OutOfMemory → RefusesThreads result None
+memory_fails (Ok report) fault same h = absurd same
+memory_fails (Err other) fault same h = inl (same ∙ h)
+
+-- room is refused for memory
+pub returns-in_err-rooms-clause-fault : goal.returns-in_err-rooms-clause-fault
+returns-in_err-rooms-clause-fault g c =
+    let passed = c.from_residual-in_err-rooms in
+    memory_fails passed.result _ passed.ensures.1 c.in_err-rooms.ensures.fault
+
+-- so is the gate of the sweep
+pub returns-in_err-before_sweep-clause-fault : goal.returns-in_err-before_sweep-clause-fault
+returns-in_err-before_sweep-clause-fault g c =
+    let passed = c.from_residual-in_err-before_sweep in
+    memory_fails passed.result _ passed.ensures.1 c.in_err-before_sweep.ensures
+
 -- the workers being allowed, a sweep is refused with OutOfMemory only
-pub returns-in_err-swept-clause-fault : goal.returns-in_err-swept-clause-fault
-returns-in_err-swept-clause-fault g c =
-    swept_fails AllSwept c.args.workers c.from_residual-in_err-swept.result _ c.requires.workers c.from_residual-in_err-swept.ensures.1 c.in_err-swept.ensures.fault
+pub returns-in_err-fates-clause-fault : goal.returns-in_err-fates-clause-fault
+returns-in_err-fates-clause-fault g c =
+    let passed = c.from_residual-in_err-fates in
+    swept_fails AllFates c.args.workers passed.result _ c.requires.workers passed.ensures.1
+    c.in_err-fates.ensures.fault
 
 pub sweep-requires-clause-rows : goal.sweep-requires-clause-rows
 sweep-requires-clause-rows g c =
@@ -61,7 +86,8 @@ returns-clause-ok g c =
     let rows = rows_swept came plan c.sweep.new.tables c.sweep.new.leases c.sweep.ensures.tables c.sweep.ensures.leases in
     subst (λ (r : Report). Collects state at r.failed r (record { records = records; backends = back }))
     (sym c.reports_of.ensures)
-    (a_swept_plan_is_a_collection came held at plan c.in_ok-swept.swept records back p rows c.in_ok-swept.ensures.ok)
+    (a_swept_plan_is_a_collection came held at plan c.in_ok-fates.fates records back p rows
+    c.in_ok-fates.ensures.ok)
 
 -- what a collection leaves is sound
 pub returns-clause-sound : goal.returns-clause-sound

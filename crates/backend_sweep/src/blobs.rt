@@ -1,0 +1,26 @@
+//! The sweep of blobs.
+ghost use Rattle.std.specs.Prelude.{◌≡◌, length, bytes_eq};
+ghost use Rattle.backend_sweep.specs.Fated.{names_with, was_removed, has_failed};
+ghost use Rattle.backend_sweep.specs.Singles.{AreHeldOnce, SweepsEach};
+
+use crate::fates::Fate;
+use back_model::BlobBackend;
+use meta_types::Digest;
+
+/// Removes the blobs, and sets what became of each; one that the device fails stays. It takes no
+/// memory.
+pub(crate) fn sweep_blobs<B: BlobBackend>(backend: &mut B, names: &[Digest], fates: &mut [Fate])
+    requires names { AreHeldOnce bytes_eq names.now (B.contents backend.old) }
+    requires fates { length fates.old ≡ length names.now }
+    ensures swept { SweepsEach bytes_eq names.now (B.contents backend.old) (B.contents backend.new)
+        (names_with was_removed names.now fates.new) (names_with has_failed names.now fates.new)
+        (B.fails backend.old) (B.fails backend.new) }
+    ensures fates { length fates.new ≡ length names.now }
+{
+    for i in 0..names.len() {
+        match backend.remove(&names[i]) {
+            Ok(()) => fates[i] = Fate::Removed,
+            Err(_) => fates[i] = Fate::Failed,
+        }
+    }
+}
