@@ -6,6 +6,7 @@
 mod backends;
 mod graph;
 mod markings;
+mod questions;
 mod requests;
 mod sessions;
 
@@ -31,6 +32,9 @@ fn first_failed<R: Threads + Wait + Sync>(
     }
     if !markings::calls(rt, alloc)? {
         return Ok(Some("markings"));
+    }
+    if !questions::calls(rt, alloc)? {
+        return Ok(Some("questions"));
     }
     if !sessions::calls(rt, alloc)? {
         return Ok(Some("sessions"));
