@@ -19,15 +19,13 @@ use meta_types::{Fault, Holdings, Listing, Reply, ReplyRow};
 use std::alloc::{AllocError, Global};
 use std::borrow::CowStr;
 
-// What was written, as a text: a writer writes UTF-8 alone.
+// What was written, as a text. A writer writes UTF-8 alone, as its contract says, so no byte is
+// looked at again.
 pub(crate) fn into_text(out: Writer) -> String
     requires { out.before ≡ [] }
     ensures { string_bytes result ≡ print out.tokens }
 {
-    match String::from_utf8(out.into_inner()) {
-        Ok(text) => text,
-        Err(_) => unreachable!(),
-    }
+    unsafe { String::from_utf8_unchecked(out.into_inner()) }
 }
 
 fn listing_text(alloc: Global, listing: &Listing) -> Result<String, AllocError>
