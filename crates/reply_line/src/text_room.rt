@@ -15,11 +15,28 @@ const BRACKETS: usize = 3;
 // The digits of the greatest number, and its comma.
 const DIGITS: usize = 21;
 
-fn entry(first: &str, second: &str) -> usize {
+fn entry(first: &str, second: usize) -> usize {
     first
         .len()
-        .saturating_add(second.len())
+        .saturating_add(second)
         .saturating_add(2 * QUOTES + BRACKETS)
+}
+
+fn is_escaped(byte: u8) -> bool {
+    byte == b'"' || byte == b'\\'
+}
+
+// The bytes of a name in a text. Quotes and backslashes are escaped, each by one byte; a name has
+// no control character.
+fn name_length(name: &Name) -> usize {
+    let text = name.text();
+    let mut bytes = text.len();
+    for byte in text.as_bytes() {
+        if is_escaped(*byte) {
+            bytes = bytes.saturating_add(1);
+        }
+    }
+    bytes
 }
 
 fn blob_bytes(list: &[Digest]) -> usize {
@@ -46,7 +63,7 @@ fn object_bytes(list: &[(ShortName, u64)]) -> usize {
 fn content_bytes(list: &[(ShortName, Digest)]) -> usize {
     let mut bytes = 0usize;
     for row in list {
-        bytes = bytes.saturating_add(entry(row.0.text(), row.1.text()));
+        bytes = bytes.saturating_add(entry(row.0.text(), row.1.text().len()));
     }
     bytes
 }
@@ -54,7 +71,7 @@ fn content_bytes(list: &[(ShortName, Digest)]) -> usize {
 fn name_bytes(list: &[(ShortName, Name)]) -> usize {
     let mut bytes = 0usize;
     for row in list {
-        bytes = bytes.saturating_add(entry(row.0.text(), row.1.text()));
+        bytes = bytes.saturating_add(entry(row.0.text(), name_length(&row.1)));
     }
     bytes
 }
@@ -62,7 +79,7 @@ fn name_bytes(list: &[(ShortName, Name)]) -> usize {
 fn snapshot_bytes(list: &[(ShortName, ShortName, Name)]) -> usize {
     let mut bytes = 0usize;
     for row in list {
-        let most = entry(row.0.text(), row.1.text()).saturating_add(row.2.text().len());
+        let most = entry(row.0.text(), row.1.text().len()).saturating_add(name_length(&row.2));
         bytes = bytes.saturating_add(most.saturating_add(QUOTES));
     }
     bytes
@@ -82,8 +99,7 @@ fn removed_bytes(removed: &Removed) -> usize {
         .saturating_add(snapshot_bytes(&removed.snapshots))
 }
 
-// An empty buffer that takes the text of an answer with this report without growing, as long as no
-// name is escaped.
+// An empty buffer that takes the text of an answer with this report without growing.
 pub(crate) fn room_for(alloc: Global, report: &Report) -> Result<Vec<u8>, AllocError>
     ensures { IfOk result (λ room. room.items ≡ []) }
 {
@@ -96,9 +112,9 @@ pub(crate) fn room_for(alloc: Global, report: &Report) -> Result<Vec<u8>, AllocE
     Vec::with_capacity(alloc, bytes)
 }
 
-/// An empty buffer that takes the text of an answer with this report without growing, as long as
-/// no name is escaped. For the report of a dry run it is as large as for that of its collection,
-/// or larger: so room for that is seen before anything is removed.
+/// An empty buffer that takes the text of an answer with this report without growing. For the
+/// report of a dry run it is as large as for that of its collection, or larger: so room for that is
+/// seen before anything is removed.
 pub fn report_room(alloc: Global, report: &Report) -> Result<Vec<u8>, Fault>
     ensures fault { Refuses result None }
     ensures ok { IfOk result (λ room. room.items ≡ []) }
