@@ -69,3 +69,11 @@ follows_plainly old o (Err (By fault)) new f = (plainly fault (least_fault o) f.
 pub answers_plainly : (old : Store) (request : Request) (r : Result Reply Refusal) (new : Store) → AnswersExactly old request r new → Answers old request (plain r) new
 unfolding Answers AnswersExactly
 answers_plainly old request r new a = follows_plainly old (outcome old.state request) r new a
+
+-- what follows the outcome of a request answers it
+pub answers_exactly : (old : Store) (request asked : Request) (r : Result Reply Refusal)
+    (new : Store) → request ≡ asked → FollowsExactly old (outcome old.state asked) r new
+    → AnswersExactly old request r new
+unfolding AnswersExactly
+answers_exactly old request asked r new is f =
+    subst (λ (x : Request). FollowsExactly old (outcome old.state x) r new) (sym is) f

@@ -1,16 +1,19 @@
 -- What the parts of a request do. Ours, unless a source stands beside.
-use Rattle.std.specs.Prelude.{◌≡◌, ℕ, ◌+◌, Bool, true, false, ◌&&◌, ◌==◌, length, List, [], ◌∷◌, Option, Some, Result, Ok, Err, if◌then◌else◌}
+use Rattle.std.specs.Prelude.{◌≡◌, ℕ, ◌+◌, Bool, true, false, not, ◌&&◌, ◌==◌, length, List, [], ◌∷◌, Option, Some, None, Result, Ok, Err, if◌then◌else◌}
 use Rattle.std.specs.Option.{option_map_or}
-use Rattle.meta_types.specs.Text.{Text}
+use Rattle.meta_types.specs.Text.{Text, is_short_name}
 use Rattle.meta_types.specs.Keys.{has_row}
 use Rattle.meta_types.specs.Rows.{LeaseRow, Records, State, lease_key}
-use Rattle.meta_types.specs.Changes.{release_under}
-use Rattle.meta_types.specs.Ops.{found_fault, in_store}
+use Rattle.meta_types.specs.Changes.{all_of, release_under}
+use Rattle.meta_types.specs.Ops.{Outcome, done, found_fault, in_store, lacks}
 use Rattle.meta_types.specs.Ops.Snapshots.{commit_findings, prepare_findings}
 use Rattle.meta_types.specs.Ops.Ingests.{ingest_commit_findings}
 use Rattle.meta_types.specs.declared.rows.SnapRow.{SnapRow}
 use Rattle.request_core.specs.declared.refusal.Refusal.{Refusal}
+use Rattle.meta_types.specs.declared.resource.Kind.{Kind}
 use Rattle.meta_types.specs.declared.resource.Resource.{Resource}
+use Rattle.meta_types.specs.declared.reply.Reply.TheVariants.{Names}
+use Rattle.object_tables.specs.Calls.{names_of_kind}
 use Rattle.meta_types.specs.declared.fault.Fault.{Fault}
 use Rattle.meta_types.specs.declared.fault.Fault.TheVariants.{InvalidArgument, NotFound, AlreadyExists, FailedPrecondition, BadLine, TooLong, OutOfMemory, NoWorker, BackendFailed, ReadFailed, WriteFailed, Mismatch}
 
@@ -54,6 +57,15 @@ MakesWhereFree there (Err NoWorker) before after = ⊥
 MakesWhereFree there (Err ReadFailed) before after = ⊥
 MakesWhereFree there (Err WriteFailed) before after = ⊥
 MakesWhereFree there (Err (Mismatch place)) before after = ⊥
+
+-- lists the names of a kind's rows in a namespace (List)
+abbrev pub lists_kind : State → Kind → Text → Outcome
+lists_kind state kind ns =
+    record (done state) {
+      invalid = not (all_of (is_short_name ns ∷ []));
+      missing = lacks state ns None;
+      reply = Names (names_of_kind kind state.records.tables ns);
+    }
 
 -- what refuses a commit of a snapshot whose texts are allowed
 -- (containerd snapshots service, Commit)

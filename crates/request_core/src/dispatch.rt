@@ -7,7 +7,7 @@ ghost use Rattle.request_core.specs.Follows.{Answers, AnswersExactly};
 use crate::refusal::{Refusal, plain};
 use crate::state::State;
 use back_model::{BlobBackend, IngestBackend, SnapBackend};
-use meta_types::{Fault, Reply, Request};
+use meta_types::{Fault, Kind, Reply, Request, SnapKind};
 use std::alloc::Global;
 
 impl<S: SnapBackend, B: BlobBackend, I: IngestBackend> State<S, B, I> {
@@ -46,7 +46,7 @@ impl<S: SnapBackend, B: BlobBackend, I: IngestBackend> State<S, B, I> {
             Request::ImageTarget { ns, name, target } => self.image_target(alloc, ns, name, target),
             Request::ImageRemove { ns, name } => self.image_remove(alloc, ns, name),
             Request::ImageGet { ns, name } => self.image_get(alloc, ns, name),
-            Request::ImageList { ns } => self.image_list(alloc, ns),
+            Request::ImageList { ns } => self.list(alloc, Kind::Image, ns),
             Request::ImageLabel {
                 ns,
                 name,
@@ -68,7 +68,7 @@ impl<S: SnapBackend, B: BlobBackend, I: IngestBackend> State<S, B, I> {
             } => self.container_label(alloc, ns, name, key, value),
             Request::ContainerRemove { ns, name } => self.container_remove(alloc, ns, name),
             Request::ContainerGet { ns, name } => self.container_get(alloc, ns, name),
-            Request::ContainerList { ns } => self.container_list(alloc, ns),
+            Request::ContainerList { ns } => self.list(alloc, Kind::Container, ns),
             Request::ContentAdd {
                 ns,
                 digest,
@@ -83,7 +83,7 @@ impl<S: SnapBackend, B: BlobBackend, I: IngestBackend> State<S, B, I> {
                 key,
                 value,
             } => self.content_label(alloc, ns, digest, key, value),
-            Request::ContentList { ns } => self.content_list(alloc, ns),
+            Request::ContentList { ns } => self.list(alloc, Kind::Content, ns),
             Request::IngestBegin {
                 ns,
                 name,
@@ -100,7 +100,7 @@ impl<S: SnapBackend, B: BlobBackend, I: IngestBackend> State<S, B, I> {
             } => self.ingest_commit(alloc, ns, name, digest, labels, lease),
             Request::IngestAbort { ns, name } => self.ingest_abort(alloc, ns, name),
             Request::IngestGet { ns, name } => self.ingest_get(alloc, ns, name),
-            Request::IngestList { ns } => self.ingest_list(alloc, ns),
+            Request::IngestList { ns } => self.list(alloc, Kind::Ingest, ns),
             Request::SnapPrepare {
                 ns,
                 snapshotter,
@@ -108,7 +108,16 @@ impl<S: SnapBackend, B: BlobBackend, I: IngestBackend> State<S, B, I> {
                 parent,
                 labels,
                 lease,
-            } => self.snap_prepare(alloc, ns, snapshotter, key, parent, labels, lease),
+            } => self.prepare(
+                alloc,
+                SnapKind::Active,
+                ns,
+                snapshotter,
+                key,
+                parent,
+                labels,
+                lease,
+            ),
             Request::SnapView {
                 ns,
                 snapshotter,
@@ -116,7 +125,16 @@ impl<S: SnapBackend, B: BlobBackend, I: IngestBackend> State<S, B, I> {
                 parent,
                 labels,
                 lease,
-            } => self.snap_view(alloc, ns, snapshotter, key, parent, labels, lease),
+            } => self.prepare(
+                alloc,
+                SnapKind::View,
+                ns,
+                snapshotter,
+                key,
+                parent,
+                labels,
+                lease,
+            ),
             Request::SnapCommit {
                 ns,
                 snapshotter,

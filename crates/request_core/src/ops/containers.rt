@@ -4,12 +4,12 @@
 ghost use Rattle.meta_types.specs.declared.request.Request.TheVariants as R;
 ghost use Rattle.request_core.specs.Follows.{AnswersExactly};
 
-use crate::read::names::{read_ns, read_object};
+use crate::read::names::read_object;
 use crate::read::rows::read_container;
 use crate::refusal::Refusal;
 use crate::state::State;
 use back_model::{BlobBackend, IngestBackend, SnapBackend};
-use meta_types::{Fault, Kind, RawLabels, RawText, Reply, ReplyRow};
+use meta_types::{Fault, RawLabels, RawText, Reply, ReplyRow};
 use std::alloc::Global;
 
 impl<S: SnapBackend, B: BlobBackend, I: IngestBackend> State<S, B, I> {
@@ -39,14 +39,6 @@ impl<S: SnapBackend, B: BlobBackend, I: IngestBackend> State<S, B, I> {
             Some(row) => Ok(Reply::Row(ReplyRow::Container(row.copy(alloc)?))),
             None => Err(Refusal::By(Fault::NotFound)),
         }
-    }
-
-    pub(crate) fn container_list(&mut self, alloc: Global, ns: &RawText) -> Result<Reply, Refusal>
-        ensures { AnswersExactly self.old (R.ContainerList ns.now) result self.new }
-    {
-        let ns = read_ns(alloc, ns)?;
-        let names = self.records.tables.list(alloc, Kind::Container, &ns)?;
-        Ok(Reply::Names(names))
     }
 
     pub(crate) fn container_label(

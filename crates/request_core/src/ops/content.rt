@@ -5,12 +5,12 @@ ghost use Rattle.meta_types.specs.declared.request.Request.TheVariants as R;
 ghost use Rattle.request_core.specs.Follows.{AnswersExactly};
 
 use crate::add::content::grow_content;
-use crate::read::names::{read_content, read_ns};
+use crate::read::names::read_content;
 use crate::read::rows::read_new_content;
 use crate::refusal::Refusal;
 use crate::state::State;
 use back_model::{BlobBackend, IngestBackend, SnapBackend};
-use meta_types::{Fault, Kind, RawLabels, RawText, Reply, ReplyRow};
+use meta_types::{Fault, RawLabels, RawText, Reply, ReplyRow};
 use std::alloc::Global;
 
 impl<S: SnapBackend, B: BlobBackend, I: IngestBackend> State<S, B, I> {
@@ -67,14 +67,6 @@ impl<S: SnapBackend, B: BlobBackend, I: IngestBackend> State<S, B, I> {
             Some(row) => Ok(Reply::Row(ReplyRow::Content(row.copy(alloc)?))),
             None => Err(Refusal::By(Fault::NotFound)),
         }
-    }
-
-    pub(crate) fn content_list(&mut self, alloc: Global, ns: &RawText) -> Result<Reply, Refusal>
-        ensures { AnswersExactly self.old (R.ContentList ns.now) result self.new }
-    {
-        let ns = read_ns(alloc, ns)?;
-        let names = self.records.tables.list(alloc, Kind::Content, &ns)?;
-        Ok(Reply::Names(names))
     }
 
     pub(crate) fn content_label(

@@ -16,14 +16,13 @@ ghost use Rattle.request_core.specs.Parts.{ingest_commit_fault, is_lease_there};
 
 use crate::add::content::grow_content;
 use crate::add::ingest::grow_ingest;
-use crate::read::names::{read_ns, read_object};
+use crate::read::names::read_object;
 use crate::read::rows::{read_begin, read_ingest_commit};
 use crate::refusal::Refusal;
 use crate::state::State;
 use back_model::{BlobBackend, IngestBackend, SnapBackend};
 use meta_types::{
-    Digest, Fault, IngestRow, Kind, MAX_NUMBER, Name, RawLabels, RawText, Reply, ReplyRow,
-    ShortName,
+    Digest, Fault, IngestRow, MAX_NUMBER, Name, RawLabels, RawText, Reply, ReplyRow, ShortName,
 };
 use std::alloc::Global;
 
@@ -119,14 +118,6 @@ impl<S: SnapBackend, B: BlobBackend, I: IngestBackend> State<S, B, I> {
             Some(row) => Ok(Reply::Row(ReplyRow::Ingest(row.copy()?))),
             None => Err(Refusal::By(Fault::NotFound)),
         }
-    }
-
-    pub(crate) fn ingest_list(&mut self, alloc: Global, ns: &RawText) -> Result<Reply, Refusal>
-        ensures { AnswersExactly self.old (R.IngestList ns.now) result self.new }
-    {
-        let ns = read_ns(alloc, ns)?;
-        let names = self.records.tables.list(alloc, Kind::Ingest, &ns)?;
-        Ok(Reply::Names(names))
     }
 
     // The least fault of a commit; never OutOfMemory.

@@ -77,7 +77,7 @@ impl<S: SnapBackend, B: BlobBackend, I: IngestBackend> State<S, B, I> {
     }
 
     // Makes a snapshot of a kind, active or a view.
-    fn prepare(
+    pub(crate) fn prepare(
         &mut self,
         alloc: Global,
         kind: SnapKind,
@@ -117,58 +117,6 @@ impl<S: SnapBackend, B: BlobBackend, I: IngestBackend> State<S, B, I> {
         )?;
         self.records.next += 1;
         Ok(Reply::Done)
-    }
-
-    pub(crate) fn snap_prepare(
-        &mut self,
-        alloc: Global,
-        ns: &RawText,
-        snapshotter: &RawText,
-        key: &RawText,
-        parent: &Option<RawText>,
-        labels: &RawLabels,
-        lease: &Option<RawText>,
-    ) -> Result<Reply, Refusal>
-        requires { IsSound self.old.state }
-        ensures { AnswersExactly self.old (R.SnapPrepare ns.now snapshotter.now key.now
-            parent.now labels.now lease.now) result self.new }
-    {
-        self.prepare(
-            alloc,
-            SnapKind::Active,
-            ns,
-            snapshotter,
-            key,
-            parent,
-            labels,
-            lease,
-        )
-    }
-
-    pub(crate) fn snap_view(
-        &mut self,
-        alloc: Global,
-        ns: &RawText,
-        snapshotter: &RawText,
-        key: &RawText,
-        parent: &Option<RawText>,
-        labels: &RawLabels,
-        lease: &Option<RawText>,
-    ) -> Result<Reply, Refusal>
-        requires { IsSound self.old.state }
-        ensures { AnswersExactly self.old (R.SnapView ns.now snapshotter.now key.now
-            parent.now labels.now lease.now) result self.new }
-    {
-        self.prepare(
-            alloc,
-            SnapKind::View,
-            ns,
-            snapshotter,
-            key,
-            parent,
-            labels,
-            lease,
-        )
     }
 
     pub(crate) fn snap_commit(
