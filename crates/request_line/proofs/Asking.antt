@@ -1,6 +1,7 @@
 -- On what a line asks for.
-use Rattle.std.proofs.Common.{◌≡◌, ◌∙◌, ap, refl, ℕ, List, true, false, Option, Some, None, option_and_then, Result, Ok, Err, IfErr, inl}
-use Rattle.std.specs.Str.{is_utf8}
+use Rattle.std.proofs.Common.{◌≡◌, ◌∙◌, ap, refl, ℕ, List, Bool, true, false, Option, Some, None, option_and_then, Result, Ok, Err, IfErr, inl}
+use Rattle.std.specs.Str.{is_utf8, IsUtf8}
+use Rattle.std.proofs.lemmas.Str.{IsUtf8-from_is_utf8}
 use Rattle.serde_json.specs.Data.{Data, Members}
 use Rattle.serde_json.specs.Find.{as_object}
 use Rattle.serde_json.specs.Read.{read}
@@ -43,14 +44,22 @@ unfolding asked_in
 asked_in-value line d text value = rw (text, value) refl
 
 -- a text that is no JSON asks for nothing
-pub asked_in-no_value : (line : List ℕ) → is_utf8 line ≡ true → read line ≡ None → asked_in line ≡ None
+asked_in-no_value : (line : List ℕ) → is_utf8 line ≡ true → read line ≡ None → asked_in line ≡ None
 unfolding asked_in
 asked_in-no_value line text value = rw (text, value) refl
 
 -- a line that is no text asks for nothing
-pub asked_in-no_text : (line : List ℕ) → is_utf8 line ≡ false → asked_in line ≡ None
+asked_in-no_text : (line : List ℕ) → is_utf8 line ≡ false → asked_in line ≡ None
 unfolding asked_in
 asked_in-no_text line text = rw text refl
+
+unread_by : (line : List ℕ) (text : Bool) → is_utf8 line ≡ text → (IsUtf8 line → read line ≡ None) → asked_in line ≡ None
+unread_by line true is none = asked_in-no_value line is (none (IsUtf8-from_is_utf8 line is))
+unread_by line false is none = asked_in-no_text line is
+
+-- a line that is no JSON where it is a text asks for nothing
+pub asked_in-unread : (line : List ℕ) → (IsUtf8 line → read line ≡ None) → asked_in line ≡ None
+asked_in-unread line none = unread_by line (is_utf8 line) refl none
 
 -- where a call is refused with OutOfMemory only, the line is unread for that reason
 pub unread_of_memory : {X : Type 0} (r : Result X Fault) (asked : Option Asked) → Refuses r None → IfErr r (IsUnread asked)

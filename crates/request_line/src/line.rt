@@ -43,10 +43,7 @@ pub fn read_line(alloc: Global, line: &[u8]) -> Result<Asked, Fault>
     ensures fault { IfErr result (IsUnread (asked_in line.now)) }
     ensures ok { IfOk result (λ asked. asked_in line.now ≡ Some asked) }
 {
-    let Ok(text) = str::from_utf8(line) else {
-        return Err(Fault::BadLine);
-    };
-    match Value::from_str(alloc, text) {
+    match Value::from_slice(alloc, line) {
         Ok(value) => ask_by(alloc, value),
         Err(e) if e.is_memory() => Err(Fault::OutOfMemory),
         Err(_) => Err(Fault::BadLine),
