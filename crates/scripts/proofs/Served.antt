@@ -25,6 +25,13 @@ use Rattle.scripts.specs.LineSteps.{told_in, line_step_of, asked_step, asks_coll
 use Rattle.scripts.specs.Served.{IsServed, IsRefused}
 use Rattle.scripts.proofs.Outcomes.{no_event_has_another_step}
 
+-- ---- nothing was done
+
+-- memory ran out before the store's call
+pub no_memory : (old : State) (asked : Asked) (fault : Fault) → fault ≡ OutOfMemory
+    → IsRefused old asked fault old
+no_memory old asked fault is = inl (is, refl)
+
 -- ---- nothing failed
 
 no_items : {X : Type 0} (xs : List X) → length xs ≡ 0 → xs ≡ []

@@ -5,6 +5,7 @@ mod answering;
 pub mod laws;
 mod line_answer;
 mod line_buffer;
+mod line_room;
 mod lines;
 mod script;
 mod script_store;

@@ -9,6 +9,7 @@ ghost use Rattle.scripts.specs.LineAnswers.{line_answer_of};
 ghost use Rattle.scripts.specs.Served.{IsServed, IsRefused};
 
 use crate::line_answer::LineAnswer;
+use crate::line_room::room_beside;
 use crate::text_gate::TextGate;
 use gc_labels::read_instant;
 use gc_report::{Impact, Report};
@@ -16,13 +17,14 @@ use meta_types::{Explanation, Fault, Object, RawText, Removal, Reply, Request, S
 use reply_line::Answer;
 use request_line::Asked;
 use std::alloc::Global;
+use std::mem::drop;
 use std::sync::Wait;
 use std::sync::ledger::Ledger;
 use std::thread::Threads;
 use steal_mark::OpenGate;
 use store_front::{Keeps, MemLocked, Session};
 
-// Answers a request.
+// Answers a request, where memory is left for the next line.
 fn do_request<L: Ledger, K: Keeps>(
     locked: &mut MemLocked<L, K>,
     alloc: Global,
@@ -36,9 +38,14 @@ fn do_request<L: Ledger, K: Keeps>(
         fault locked.new.store.state) }
     ensures opened { session.new.number < locked.new.opened }
 {
+    let Ok(room) = room_beside(alloc, &request) else {
+        drop(request);
+        return Err(Fault::OutOfMemory);
+    };
     locked.never_failed();
     let reply = locked.apply(alloc, session, request);
     locked.never_failed();
+    drop(room);
     reply
 }
 

@@ -1,8 +1,13 @@
 use Rattle.std.proofs.Common.{refl}
 use Rattle.meta_types.specs.Steps.{requested}
 use Rattle.request_line.specs.declared.asked.Asked.TheVariants as A
-use Rattle.scripts.proofs.Served.{reply_ok, reply_err}
+use Rattle.scripts.proofs.Served.{no_memory, reply_ok, reply_err}
 use Rattle.scripts.proofs.serving.do_request.Goals as goal
+
+-- no memory would be left
+pub returns-in_default-clause-err : goal.returns-in_default-clause-err
+returns-in_default-clause-err g c =
+    no_memory c.args.locked.now.store.state (A.Request c.args.request) _ refl
 
 -- the reply of the step
 pub returns-clause-ok : goal.returns-clause-ok
