@@ -39,7 +39,6 @@ module _ (name : Text) (shards : List Shard) (n : ℕ) (p : Option ℕ) where
   fresh = record { snapshotter = name; snaps = finmap.empty; failures = 0 }
 
   module _ (gone : shard_at name shards ≡ None) where
-
     pub snaps_of_fresh : snaps_at name (put_shard fresh shards) ≡ snaps_at name shards
     snaps_of_fresh = let there : shard_at name (put_shard fresh shards) ≡ Some fresh = at_put fresh shards in rw (there, gone) refl
 

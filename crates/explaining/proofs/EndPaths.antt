@@ -80,7 +80,6 @@ not_nearer a b rest h = go (nat_lt a b) (a == b) rest refl refl h
     go false false r less same k = (at_least a b less, λ x. absurd (both_ways (a == b) same (equal a b x)))
 
 module _ (records : Records) (at : ℤ) (asked : Thing → Bool) where
-
   root_best : IsBest goes_before not_itself onward (is_asked_root records.profile at asked) (λ x. Contains (root_things records) x) (first_root records at asked)
   root_best =
       same_best goes_before not_itself onward (is_asked_root records.profile at asked) (λ x. ⊥ ⊎ Contains (root_things records) x) (λ x. Contains (root_things records) x)

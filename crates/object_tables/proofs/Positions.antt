@@ -6,7 +6,6 @@ use Rattle.meta_types.specs.Keys.{Key, is_key, remove_row, put_in_order}
 use Rattle.meta_types.proofs.RowAtPlace.{remove_at_place, put_at_place}
 
 module _ {Row : Type 0} (key_of : Row → Key) (key : Key) where
-
   pub removed_here : (rows new : List Row) (place : ℕ) → place ≡ position_or_len (λ row. is_key key (key_of row)) rows → new ≡ remove rows place → new ≡ remove_row key_of key rows
   removed_here rows new place e is = is ∙ ap (remove rows) e ∙ sym (remove_at_place key_of key rows)
 
