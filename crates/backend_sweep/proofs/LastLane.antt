@@ -1,5 +1,5 @@
 -- The lane of a snapshotter is that of any other name of it.
-use Rattle.std.proofs.Common.{◌≡◌, List, Bool, true, refl, sym, ◌∙◌, ap}
+use Rattle.std.proofs.Common.{◌≡◌, List, true, sym, ◌∙◌, ap}
 use Rattle.std.specs.Prelude.{Option, Some, None, IfSome, bytes_eq, find, option_map}
 use Rattle.std.proofs.lemmas.Slice.Eq.{bytes_eq-Decides}
 use Rattle.meta_types.specs.Text.{Text}

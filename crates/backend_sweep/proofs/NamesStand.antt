@@ -1,5 +1,5 @@
 -- The names of a plan stand by snapshotter.
-use Rattle.std.proofs.Common.{◌≡◌, ℕ, zero, suc, ◌+◌, ◌<◌, Bool, true, false, List, [], ◌∷◌, map, length, refl, sym, ap, subst, ◌∙◌, arith}
+use Rattle.std.proofs.Common.{◌≡◌, ℕ, zero, suc, ◌+◌, Bool, true, false, List, [], ◌∷◌, map, refl, sym, ap, subst, arith}
 use Rattle.std.specs.Prelude.{filter, slice_index_or, not, ◌||◌}
 use Rattle.std.specs.Ordering.{is_lt}
 use Rattle.meta_types.specs.Text.{Text, text_cmp}

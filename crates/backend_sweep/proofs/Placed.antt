@@ -76,3 +76,11 @@ pub sweeps_from : {X B : Type 0} (same : X → X → _) (contents : B → List X
 sweeps_from same contents fails old mid new list names removed failed m n s =
     subst (λ (b : _). SweepsEach same list (contents b) (contents new) removed failed (fails b) (fails new)) m
     (subst (λ (l : List _). SweepsEach same l (contents mid) (contents new) removed failed (fails mid) (fails new)) n s)
+
+-- and one whose backend and lists are these
+pub sweeps_to : {X B : Type 0} (same : X → X → _) (contents : B → List X) (fails : B → ℕ) (old new last : B) (list removed failed removed' failed' : List X) → last ≡ new → removed' ≡ removed → failed' ≡ failed
+    → SweepsEach same list (contents old) (contents new) removed failed (fails old) (fails new) → SweepsEach same list (contents old) (contents last) removed' failed' (fails old) (fails last)
+sweeps_to same contents fails old new last list removed failed removed' failed' l r f s =
+    subst (λ (b : _). SweepsEach same list (contents old) (contents b) removed' failed' (fails old) (fails b)) (sym l)
+    (subst (λ (xs : List _). SweepsEach same list (contents old) (contents new) xs failed' (fails old) (fails new)) (sym r)
+    (subst (λ (xs : List _). SweepsEach same list (contents old) (contents new) removed xs (fails old) (fails new)) (sym f) s))

@@ -1,73 +1,34 @@
 //! The sweep of all backends, by one thread or by several.
-ghost use Rattle.std.specs.Prelude.{◌≡◌, ◌+◌, map, bytes_eq, None, IfOk, OnErr};
+ghost use Rattle.std.specs.Prelude.{◌≡◌, ◌+◌, map, None, IfOk, OnErr};
 ghost use Rattle.meta_types.specs.Faults.{Refuses, unless};
 ghost use Rattle.meta_types.specs.Limits.{is_worker_count};
 ghost use Rattle.meta_types.specs.declared.fault.Fault.TheVariants.{InvalidArgument};
 ghost use Rattle.back_model.specs.Shown.{all_failures};
 ghost use Rattle.backend_sweep.specs.Planned.{IsPlanned};
-ghost use Rattle.backend_sweep.specs.Fated.{AreFatesOf, removed_of, failed_of};
+ghost use Rattle.backend_sweep.specs.Fated.{AreFatesOf, failed_of};
 ghost use Rattle.backend_sweep.specs.Lanes.{fate_of};
-ghost use Rattle.backend_sweep.specs.Shards.{is_number};
-ghost use Rattle.backend_sweep.specs.Singles.{AreHeldOnce, SweepsEach};
 ghost use Rattle.backend_sweep.specs.Swept.{held_in, SweepsNames, count_names};
 
-use crate::blobs::sweep_blobs;
 use crate::fates::Fates;
 use crate::gate::SweepGate;
-use crate::ingests::sweep_ingests;
 use crate::shard_jobs::{lanes_and_room, sweep_beside};
 use crate::shard_plans::{ShardPlan, lanes_of, set_fates, sweep_in_turn};
+use crate::tasks::sweep_singles;
 use back_model::{Backends, BlobBackend, IngestBackend, SnapBackend};
 use meta_types::{Fault, is_worker_count};
 use std::alloc::Global;
 use std::thread::Threads;
 use table_sweep::Plan;
 
-// Sweeps blobs and ingests, and sets what became of the snapshots, as the lanes have them. It takes
-// no memory.
-fn finish<S: SnapBackend, B: BlobBackend, I: IngestBackend>(
-    backends: &mut Backends<S, B, I>,
-    lanes: &[ShardPlan],
-    plan: &Plan,
-    fates: Fates,
-) -> Fates
-    requires blobs { AreHeldOnce bytes_eq plan.now.report.backend.blobs
-        (B.contents backends.old.blobs) }
-    requires ingests { AreHeldOnce is_number plan.now.report.backend.ingests
-        (I.contents backends.old.ingests) }
-    requires fates { AreFatesOf plan.now.report.backend fates }
-    ensures blobs { SweepsEach bytes_eq plan.now.report.backend.blobs
-        (B.contents backends.old.blobs) (B.contents backends.new.blobs)
-        (removed_of plan.now.report.backend result).blobs
-        (failed_of plan.now.report.backend result).blobs (B.fails backends.old.blobs)
-        (B.fails backends.new.blobs) }
-    ensures ingests { SweepsEach is_number plan.now.report.backend.ingests
-        (I.contents backends.old.ingests) (I.contents backends.new.ingests)
-        (removed_of plan.now.report.backend result).ingests
-        (failed_of plan.now.report.backend result).ingests (I.fails backends.old.ingests)
-        (I.fails backends.new.ingests) }
-    ensures snapshots { result.snapshots
-        ≡ map (fate_of lanes.now) plan.now.report.backend.snapshots }
-    ensures of { AreFatesOf plan.now.report.backend result }
-    ensures shards { backends.new.shards ≡ backends.old.shards }
+// Sets what became of the snapshots, as the lanes have them. It takes no memory.
+fn set_snapshots(lanes: &[ShardPlan], plan: &Plan, fates: &mut Fates)
+    requires { AreFatesOf plan.now.report.backend fates.old }
+    ensures set { fates.new ≡ record fates.old {
+      snapshots = map (fate_of lanes.now) plan.now.report.backend.snapshots;
+    } }
+    ensures of { AreFatesOf plan.now.report.backend fates.new }
 {
-    let Fates {
-        mut blobs,
-        mut ingests,
-        mut snapshots,
-    } = fates;
-    set_fates(lanes, &plan.report.backend.snapshots, &mut snapshots);
-    sweep_blobs(backends.blobs_mut(), &plan.report.backend.blobs, &mut blobs);
-    sweep_ingests(
-        backends.ingests_mut(),
-        &plan.report.backend.ingests,
-        &mut ingests,
-    );
-    Fates {
-        blobs,
-        ingests,
-        snapshots,
-    }
+    set_fates(lanes, &plan.report.backend.snapshots, &mut fates.snapshots);
 }
 
 /// Removes what the plan names, on the calling thread. Nothing is removed where it is refused.
@@ -91,7 +52,7 @@ pub fn sweep_plain<S: SnapBackend, B: BlobBackend, I: IngestBackend>(
         + I.fails backends.old.ingests + count_names (failed_of plan.now.report.backend fates)) }
     ensures err { OnErr result (backends.new ≡ backends.old) }
 {
-    let fates = Fates::room(alloc, plan)?;
+    let mut fates = Fates::room(alloc, plan)?;
     let shards = backends.take_shards();
     let lanes = match lanes_of(alloc, &shards, &plan.report.backend.snapshots) {
         Ok(lanes) => lanes,
@@ -102,22 +63,33 @@ pub fn sweep_plain<S: SnapBackend, B: BlobBackend, I: IngestBackend>(
     };
     let (shards, lanes) = sweep_in_turn(alloc, shards, lanes);
     backends.put_shards(shards);
-    Ok(finish(backends, &lanes, plan, fates))
+    sweep_singles(plan, backends, &mut fates);
+    set_snapshots(&lanes, plan, &mut fates);
+    Ok(fates)
 }
 
-/// Removes the objects that the plan names: shards by this number of workers, blobs and ingests on
-/// the calling thread.
-/// Nothing is removed where it is refused.
-pub fn sweep_shards<S: SnapBackend, B: BlobBackend, I: IngestBackend>(
-    rt: &(impl Threads + Sync),
+/// Removes the objects that the plan names, and runs a task beside, which is to remove the plan's
+/// rows. Each shard is a task of the workers, and so are the blobs, and the task. Ingests go last.
+/// Nothing is removed, and the task isn't run, where it is refused.
+pub fn sweep_shards<
+    R: Threads + Sync,
+    S: SnapBackend,
+    B: BlobBackend,
+    I: IngestBackend,
+    H: SweepGate,
+    F: FnMut() + Send,
+>(
+    rt: &R,
     alloc: Global,
     backends: &mut Backends<S, B, I>,
     plan: &Plan,
     workers: usize,
-    gate: &impl SweepGate,
+    gate: &H,
+    beside: &mut F,
 ) -> Result<Fates, Fault>
-    requires { IsPlanned (held_in backends.old.shards (B.contents backends.old.blobs)
+    requires planned { IsPlanned (held_in backends.old.shards (B.contents backends.old.blobs)
         (I.contents backends.old.ingests)) plan.now }
+    requires beside { F.pre beside.old }
     ensures fault { Refuses result (unless (is_worker_count workers) InvalidArgument) }
     ensures ok { IfOk result (SweepsNames plan.now.report.backend
         (held_in backends.old.shards (B.contents backends.old.blobs)
@@ -130,11 +102,13 @@ pub fn sweep_shards<S: SnapBackend, B: BlobBackend, I: IngestBackend>(
         ≡ all_failures backends.old.shards + B.fails backends.old.blobs
         + I.fails backends.old.ingests + count_names (failed_of plan.now.report.backend fates)) }
     ensures err { OnErr result (backends.new ≡ backends.old) }
+    ensures ran { IfOk result (λ _. F.step beside.old tt beside.new) }
+    ensures not_run { OnErr result (beside.new ≡ beside.old) }
 {
     if !is_worker_count(workers) {
         return Err(Fault::InvalidArgument);
     }
-    let fates = Fates::room(alloc, plan)?;
+    let mut fates = Fates::room(alloc, plan)?;
     let shards = backends.take_shards();
     let (lanes, jobs) = match lanes_and_room(alloc, &shards, &plan.report.backend.snapshots) {
         Ok(made) => made,
@@ -143,7 +117,10 @@ pub fn sweep_shards<S: SnapBackend, B: BlobBackend, I: IngestBackend>(
             return Err(fault);
         }
     };
-    let (shards, lanes) = sweep_beside(rt, alloc, shards, lanes, jobs, workers, gate);
+    let (shards, swept) = sweep_beside(
+        rt, alloc, shards, lanes, jobs, backends, plan, &mut fates, workers, gate, beside,
+    );
     backends.put_shards(shards);
-    Ok(finish(backends, &lanes, plan, fates))
+    set_snapshots(&swept, plan, &mut fates);
+    Ok(fates)
 }

@@ -12,6 +12,7 @@ mod shard;
 mod shard_jobs;
 mod shard_plans;
 mod shard_swept;
+mod tasks;
 
 pub use backends::{sweep_plain, sweep_shards};
 pub use fates::{Fate, Fates};

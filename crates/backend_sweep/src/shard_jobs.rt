@@ -1,17 +1,23 @@
 //! Shards that are swept by several threads.
-ghost use Rattle.std.specs.Prelude.{◌≡◌, ◌<◌, ◌≤◌, ℕ, [], length, map, All, None, IfOk, slice_index_or};
+ghost use Rattle.std.specs.Prelude.{◌≡◌, ◌<◌, ◌≤◌, ℕ, [], length, map, All, bytes_eq, None, IfOk, slice_index_or};
 ghost use Rattle.std.specs.Vec.{vec_capacity};
 ghost use Rattle.meta_types.specs.Faults.{Refuses};
 ghost use Rattle.back_model.specs.Shown.{shown};
+ghost use Rattle.backend_sweep.specs.Fated.{AreFatesOf, removed_of, failed_of};
 ghost use Rattle.backend_sweep.specs.Lanes.{lane_for, IsReady, SweepsLane};
 ghost use Rattle.backend_sweep.specs.Parts.{StandBySnapshotter};
+ghost use Rattle.backend_sweep.specs.Shards.{is_number};
+ghost use Rattle.backend_sweep.specs.Singles.{AreHeldOnce, SweepsEach};
 
+use crate::fates::Fates;
 use crate::gate::SweepGate;
 use crate::shard_plans::{ShardPlan, lanes_of, sweep_lane};
-use back_model::SnapBackend;
+use crate::tasks::sweep_tasks;
+use back_model::{Backends, BlobBackend, IngestBackend, SnapBackend};
 use meta_types::{Fault, ShortName};
 use std::alloc::Global;
 use std::thread::{self, Threads};
+use table_sweep::Plan;
 
 /// A shard with its plan, to be lent to one thread.
 #[derive(Drop)]
@@ -114,13 +120,13 @@ fn sweep_job<S: SnapBackend, H: SweepGate>(alloc: Global, job: &mut ShardJob<S>,
     sweep_lane(alloc, &mut job.entry.1, &mut job.lane, gate);
 }
 
-// Sweeps each shard by its plan, on up to `workers` threads. These alone take memory.
-fn sweep_jobs<R: Threads + Sync, S: SnapBackend, H: SweepGate>(
+/// Sweeps each shard by its plan, on up to `workers` threads. These alone take memory.
+pub(crate) fn sweep_jobs<R: Threads + Sync, S: SnapBackend, H: SweepGate>(
     rt: &R,
     alloc: Global,
-    jobs: &mut [ShardJob<S>],
     workers: usize,
     gate: &H,
+    jobs: &mut [ShardJob<S>],
 )
     requires workers { 0 < workers }
     requires ready { All (λ job. IsReady (shown S.contents S.fails job.entry) job.lane) jobs.old }
@@ -140,15 +146,27 @@ fn sweep_jobs<R: Threads + Sync, S: SnapBackend, H: SweepGate>(
     );
 }
 
-/// Sweeps each shard by its plan, on up to `workers` threads. These alone take memory.
-pub(crate) fn sweep_beside<R: Threads + Sync, S: SnapBackend, H: SweepGate>(
+/// Sweeps each shard by its plan, blobs and ingests, and runs the task, by this number of workers.
+/// Threads alone take memory.
+pub(crate) fn sweep_beside<
+    R: Threads + Sync,
+    S: SnapBackend,
+    B: BlobBackend,
+    I: IngestBackend,
+    H: SweepGate,
+    F: FnMut() + Send,
+>(
     rt: &R,
     alloc: Global,
     shards: Vec<(ShortName, S)>,
     lanes: Vec<ShardPlan>,
     room: JobRoom<S>,
+    backends: &mut Backends<S, B, I>,
+    plan: &Plan,
+    fates: &mut Fates,
     workers: usize,
     gate: &H,
+    beside: &mut F,
 ) -> (Vec<(ShortName, S)>, Vec<ShardPlan>)
     requires workers { 0 < workers }
     requires lanes { length lanes.items ≡ length shards.items }
@@ -160,12 +178,30 @@ pub(crate) fn sweep_beside<R: Threads + Sync, S: SnapBackend, H: SweepGate>(
     requires ready { (i : ℕ) (d : _) (e : _) → i < length shards.items
         → IsReady (shown S.contents S.fails (slice_index_or shards.items i d))
         (slice_index_or lanes.items i e) }
+    requires blobs { AreHeldOnce bytes_eq plan.now.report.backend.blobs
+        (B.contents backends.old.blobs) }
+    requires ingests { AreHeldOnce is_number plan.now.report.backend.ingests
+        (I.contents backends.old.ingests) }
+    requires fates { AreFatesOf plan.now.report.backend fates.old }
+    requires beside { F.pre beside.old }
     ensures length { (length result.0.items ≡ length shards.items)
         × (length result.1.items ≡ length lanes.items) }
     ensures each { (i : ℕ) (d : _) (e : _) → i < length shards.items
         → SweepsLane (shown S.contents S.fails (slice_index_or shards.items i d))
         (slice_index_or lanes.items i e) (slice_index_or result.1.items i e)
         (shown S.contents S.fails (slice_index_or result.0.items i d)) }
+    ensures blobs { SweepsEach bytes_eq plan.now.report.backend.blobs
+        (B.contents backends.old.blobs) (B.contents backends.new.blobs)
+        (removed_of plan.now.report.backend fates.new).blobs
+        (failed_of plan.now.report.backend fates.new).blobs (B.fails backends.old.blobs)
+        (B.fails backends.new.blobs) }
+    ensures ingests { SweepsEach is_number plan.now.report.backend.ingests
+        (I.contents backends.old.ingests) (I.contents backends.new.ingests)
+        (removed_of plan.now.report.backend fates.new).ingests
+        (failed_of plan.now.report.backend fates.new).ingests (I.fails backends.old.ingests)
+        (I.fails backends.new.ingests) }
+    ensures of { AreFatesOf plan.now.report.backend fates.new }
+    ensures beside { F.step beside.old tt beside.new }
 {
     let JobRoom {
         mut jobs,
@@ -173,7 +209,9 @@ pub(crate) fn sweep_beside<R: Threads + Sync, S: SnapBackend, H: SweepGate>(
         lanes: mut lanes_left,
     } = room;
     join_jobs(shards, lanes, &mut jobs);
-    sweep_jobs(rt, alloc, &mut jobs, workers, gate);
+    sweep_tasks(
+        rt, alloc, &mut jobs, backends, plan, fates, workers, gate, beside,
+    );
     part_jobs(jobs, &mut shards_left, &mut lanes_left);
     (shards_left, lanes_left)
 }

@@ -1,6 +1,6 @@
 use Rattle.std.proofs.Common.{rules, ◌≡◌, ◌∙◌, sym, ap, refl, subst, map, bytes_eq}
 use Rattle.back_model.specs.Shown.{shown}
-use Rattle.backend_sweep.specs.Fated.{removed_of, failed_of}
+use Rattle.backend_sweep.specs.Fated.{AllFates, removed_of, failed_of}
 use Rattle.backend_sweep.specs.Shards.{is_number}
 use Rattle.backend_sweep.specs.Singles.{AreHeldOnce}
 use Rattle.backend_sweep.specs.Lanes.{lane_for, fate_of}
@@ -8,7 +8,7 @@ use Rattle.backend_sweep.specs.Parts.{StandBySnapshotter}
 use Rattle.backend_sweep.proofs.Allowed.{may_sweep}
 use Rattle.backend_sweep.proofs.Fated.{removed_by, failed_by}
 use Rattle.backend_sweep.proofs.NamesStand.{names_stand}
-use Rattle.backend_sweep.proofs.Placed.{sweeps_from}
+use Rattle.backend_sweep.proofs.Placed.{sweeps_from, sweeps_to}
 use Rattle.backend_sweep.proofs.Backs.{held_blobs, held_ingests, ready, news_apart, swept_by, count_by}
 use Rattle.backend_sweep.proofs.backends.sweep_shards.Goals as goal
 
@@ -16,62 +16,68 @@ use Rattle.backend_sweep.proofs.backends.sweep_shards.Goals as goal
 pub lanes_and_room-requires-after_bounds : goal.lanes_and_room-requires-after_bounds
 lanes_and_room-requires-after_bounds g c κs within =
     let named : c.deref-2.result.now ≡ c.args.plan.now.report.backend.snapshots = search rules in
-    subst StandBySnapshotter (sym named) (names_stand _ _ (may_sweep _ _ c.requires))
+    subst StandBySnapshotter (sym named) (names_stand _ _ (may_sweep _ _ c.requires.planned))
 
 pub sweep_beside-shards-requires-clause-ready : goal.sweep_beside-shards-requires-clause-ready
 sweep_beside-shards-requires-clause-ready g c κs within =
     let named : c.deref-2.result.now ≡ c.args.plan.now.report.backend.snapshots = search rules in
-    ready g.S.SnapBackend.contents g.S.SnapBackend.fails c.args.backends.now.shards _ _ c.args.plan.now.report.backend (may_sweep _ _ c.requires) c.take_shards-shards.ensures.order c.take_shards-shards.result.items c.in-Ok.made.0.items c.take_shards-shards.ensures.taken
+    ready g.S.SnapBackend.contents g.S.SnapBackend.fails c.args.backends.now.shards _ _ c.args.plan.now.report.backend (may_sweep _ _ c.requires.planned) c.take_shards-shards.ensures.order c.take_shards-shards.result.items c.in-Ok.made.0.items c.take_shards-shards.ensures.taken
     (c.in-Ok.ensures.lanes ∙ (λ i. map (λ x. lane_for (named i) x.0) (c.deref.ensures.value i)))
+
+pub sweep_beside-shards-requires-clause-blobs : goal.sweep_beside-shards-requires-clause-blobs
+sweep_beside-shards-requires-clause-blobs g c κs within =
+    let back_is : c.take_shards-shards.new.self.blobs ≡ c.args.backends.now.blobs = ap (λ b. b.blobs) c.take_shards-shards.ensures.none in
+    subst (λ b. AreHeldOnce bytes_eq c.args.plan.now.report.backend.blobs (g.B.BlobBackend.contents b)) (sym back_is) (held_blobs _ _ _ c.args.plan.now.report.backend (may_sweep _ _ c.requires.planned))
+
+pub sweep_beside-shards-requires-clause-ingests : goal.sweep_beside-shards-requires-clause-ingests
+sweep_beside-shards-requires-clause-ingests g c κs within =
+    let back_is : c.take_shards-shards.new.self.ingests ≡ c.args.backends.now.ingests = ap (λ b. b.ingests) c.take_shards-shards.ensures.none in
+    subst (λ b. AreHeldOnce is_number c.args.plan.now.report.backend.ingests (g.I.IngestBackend.contents b)) (sym back_is) (held_ingests _ _ _ c.args.plan.now.report.backend (may_sweep _ _ c.requires.planned))
 
 -- the shards that are left are apart
 pub put_shards-requires-2-after_bounds : goal.put_shards-requires-2-after_bounds
 put_shards-requires-2-after_bounds g c κs within =
     let named : c.deref-2.result.now ≡ c.args.plan.now.report.backend.snapshots = search rules in
-    news_apart g.S.SnapBackend.contents g.S.SnapBackend.fails c.args.backends.now.shards _ _ c.args.plan.now.report.backend (may_sweep _ _ c.requires) c.take_shards-shards.ensures.order c.take_shards-shards.result.items c.in-Ok.made.0.items c.take_shards-shards.ensures.taken
+    news_apart g.S.SnapBackend.contents g.S.SnapBackend.fails c.args.backends.now.shards _ _ c.args.plan.now.report.backend (may_sweep _ _ c.requires.planned) c.take_shards-shards.ensures.order c.take_shards-shards.result.items c.in-Ok.made.0.items c.take_shards-shards.ensures.taken
     (c.in-Ok.ensures.lanes ∙ (λ i. map (λ x. lane_for (named i) x.0) (c.deref.ensures.value i)))
     c.sweep_beside-shards.result.0.items c.sweep_beside-shards.result.1.items c.sweep_beside-shards.ensures.length.0 c.sweep_beside-shards.ensures.length.1 c.sweep_beside-shards.ensures.each
-
-pub finish-requires-clause-blobs : goal.finish-requires-clause-blobs
-finish-requires-clause-blobs g c κs within =
-    let back_is : c.put_shards-2.new.self.blobs ≡ c.args.backends.now.blobs = search rules in
-    subst (λ b. AreHeldOnce bytes_eq c.args.plan.now.report.backend.blobs (g.B.BlobBackend.contents b)) (sym back_is) (held_blobs _ _ _ c.args.plan.now.report.backend (may_sweep _ _ c.requires))
-
-pub finish-requires-clause-ingests : goal.finish-requires-clause-ingests
-finish-requires-clause-ingests g c κs within =
-    let back_is : c.put_shards-2.new.self.ingests ≡ c.args.backends.now.ingests = search rules in
-    subst (λ b. AreHeldOnce is_number c.args.plan.now.report.backend.ingests (g.I.IngestBackend.contents b)) (sym back_is) (held_ingests _ _ _ c.args.plan.now.report.backend (may_sweep _ _ c.requires))
 
 pub returns-clause-ok : goal.returns-clause-ok
 returns-clause-ok g c =
     let names = c.args.plan.now.report.backend in
-    let fates = c.finish.result in
+    let fates : AllFates = c.set_snapshots.new.fates in
+    let back = c.put_shards-2.new.self in
     let named : c.deref-2.result.now ≡ c.args.plan.now.report.backend.snapshots = search rules in
-    let blobs_are : c.put_shards-2.new.self.blobs ≡ c.args.backends.now.blobs = search rules in
-    let ingests_are : c.put_shards-2.new.self.ingests ≡ c.args.backends.now.ingests = search rules in
-    let news_are : c.finish.new.backends.shards ≡ map (shown g.S.SnapBackend.contents g.S.SnapBackend.fails) c.sweep_beside-shards.result.0.items = c.finish.ensures.shards ∙ ap (λ b. b.shards) c.put_shards-2.ensures in
-    let set : fates.snapshots ≡ map (fate_of c.sweep_beside-shards.result.1.items) names.snapshots = c.finish.ensures.snapshots ∙ (λ i. map (fate_of (c.deref-3.ensures.value i)) names.snapshots) in
-    swept_by g.S.SnapBackend.contents g.S.SnapBackend.fails c.args.backends.now.shards _ _ c.args.plan.now.report.backend (may_sweep _ _ c.requires) c.take_shards-shards.ensures.order c.take_shards-shards.result.items c.in-Ok.made.0.items c.take_shards-shards.ensures.taken
+    let blobs_are : c.take_shards-shards.new.self.blobs ≡ c.args.backends.now.blobs = ap (λ b. b.blobs) c.take_shards-shards.ensures.none in
+    let ingests_are : c.take_shards-shards.new.self.ingests ≡ c.args.backends.now.ingests = ap (λ b. b.ingests) c.take_shards-shards.ensures.none in
+    let news_are : back.shards ≡ map (shown g.S.SnapBackend.contents g.S.SnapBackend.fails) c.sweep_beside-shards.result.0.items = ap (λ b. b.shards) c.put_shards-2.ensures in
+    let set : fates.snapshots ≡ map (fate_of c.sweep_beside-shards.result.1.items) names.snapshots = ap (λ f. f.snapshots) c.set_snapshots.ensures.set ∙ (λ i. map (fate_of (c.deref-3.ensures.value i)) names.snapshots) in
+    swept_by g.S.SnapBackend.contents g.S.SnapBackend.fails c.args.backends.now.shards _ _ c.args.plan.now.report.backend (may_sweep _ _ c.requires.planned) c.take_shards-shards.ensures.order c.take_shards-shards.result.items c.in-Ok.made.0.items c.take_shards-shards.ensures.taken
     (c.in-Ok.ensures.lanes ∙ (λ i. map (λ x. lane_for (named i) x.0) (c.deref.ensures.value i)))
     c.sweep_beside-shards.result.0.items c.sweep_beside-shards.result.1.items c.sweep_beside-shards.ensures.length.0 c.sweep_beside-shards.ensures.length.1 c.sweep_beside-shards.ensures.each
-    (g.B.BlobBackend.contents c.finish.new.backends.blobs) (g.I.IngestBackend.contents c.finish.new.backends.ingests) (removed_of names fates) (failed_of names fates) _ _ _ _
-    (sweeps_from bytes_eq g.B.BlobBackend.contents g.B.BlobBackend.fails _ _ _ _ _ _ _ blobs_are refl c.finish.ensures.blobs)
-    (sweeps_from is_number g.I.IngestBackend.contents g.I.IngestBackend.fails _ _ _ _ _ _ _ ingests_are refl c.finish.ensures.ingests)
-    (removed_by c.sweep_beside-shards.result.1.items names.snapshots fates.snapshots set) (failed_by c.sweep_beside-shards.result.1.items names.snapshots fates.snapshots set) c.finish.new.backends.shards news_are
+    (g.B.BlobBackend.contents back.blobs) (g.I.IngestBackend.contents back.ingests) (removed_of names fates) (failed_of names fates) _ _ _ _
+    (sweeps_to bytes_eq g.B.BlobBackend.contents g.B.BlobBackend.fails _ _ _ _ _ _ _ _ (ap (λ b. b.blobs) c.put_shards-2.ensures) (ap (λ f. (removed_of names f).blobs) c.set_snapshots.ensures.set) (ap (λ f. (failed_of names f).blobs) c.set_snapshots.ensures.set)
+    (sweeps_from bytes_eq g.B.BlobBackend.contents g.B.BlobBackend.fails _ _ _ _ _ _ _ blobs_are refl c.sweep_beside-shards.ensures.blobs))
+    (sweeps_to is_number g.I.IngestBackend.contents g.I.IngestBackend.fails _ _ _ _ _ _ _ _ (ap (λ b. b.ingests) c.put_shards-2.ensures) (ap (λ f. (removed_of names f).ingests) c.set_snapshots.ensures.set) (ap (λ f. (failed_of names f).ingests) c.set_snapshots.ensures.set)
+    (sweeps_from is_number g.I.IngestBackend.contents g.I.IngestBackend.fails _ _ _ _ _ _ _ ingests_are refl c.sweep_beside-shards.ensures.ingests))
+    (removed_by c.sweep_beside-shards.result.1.items names.snapshots fates.snapshots set) (failed_by c.sweep_beside-shards.result.1.items names.snapshots fates.snapshots set) back.shards news_are
 
 pub returns-clause-count : goal.returns-clause-count
 returns-clause-count g c =
     let names = c.args.plan.now.report.backend in
-    let fates = c.finish.result in
+    let fates : AllFates = c.set_snapshots.new.fates in
+    let back = c.put_shards-2.new.self in
     let named : c.deref-2.result.now ≡ c.args.plan.now.report.backend.snapshots = search rules in
-    let blobs_are : c.put_shards-2.new.self.blobs ≡ c.args.backends.now.blobs = search rules in
-    let ingests_are : c.put_shards-2.new.self.ingests ≡ c.args.backends.now.ingests = search rules in
-    let news_are : c.finish.new.backends.shards ≡ map (shown g.S.SnapBackend.contents g.S.SnapBackend.fails) c.sweep_beside-shards.result.0.items = c.finish.ensures.shards ∙ ap (λ b. b.shards) c.put_shards-2.ensures in
-    let set : fates.snapshots ≡ map (fate_of c.sweep_beside-shards.result.1.items) names.snapshots = c.finish.ensures.snapshots ∙ (λ i. map (fate_of (c.deref-3.ensures.value i)) names.snapshots) in
-    count_by g.S.SnapBackend.contents g.S.SnapBackend.fails c.args.backends.now.shards _ _ c.args.plan.now.report.backend (may_sweep _ _ c.requires) c.take_shards-shards.ensures.order c.take_shards-shards.result.items c.in-Ok.made.0.items c.take_shards-shards.ensures.taken
+    let blobs_are : c.take_shards-shards.new.self.blobs ≡ c.args.backends.now.blobs = ap (λ b. b.blobs) c.take_shards-shards.ensures.none in
+    let ingests_are : c.take_shards-shards.new.self.ingests ≡ c.args.backends.now.ingests = ap (λ b. b.ingests) c.take_shards-shards.ensures.none in
+    let news_are : back.shards ≡ map (shown g.S.SnapBackend.contents g.S.SnapBackend.fails) c.sweep_beside-shards.result.0.items = ap (λ b. b.shards) c.put_shards-2.ensures in
+    let set : fates.snapshots ≡ map (fate_of c.sweep_beside-shards.result.1.items) names.snapshots = ap (λ f. f.snapshots) c.set_snapshots.ensures.set ∙ (λ i. map (fate_of (c.deref-3.ensures.value i)) names.snapshots) in
+    count_by g.S.SnapBackend.contents g.S.SnapBackend.fails c.args.backends.now.shards _ _ c.args.plan.now.report.backend (may_sweep _ _ c.requires.planned) c.take_shards-shards.ensures.order c.take_shards-shards.result.items c.in-Ok.made.0.items c.take_shards-shards.ensures.taken
     (c.in-Ok.ensures.lanes ∙ (λ i. map (λ x. lane_for (named i) x.0) (c.deref.ensures.value i)))
     c.sweep_beside-shards.result.0.items c.sweep_beside-shards.result.1.items c.sweep_beside-shards.ensures.length.0 c.sweep_beside-shards.ensures.length.1 c.sweep_beside-shards.ensures.each
-    (g.B.BlobBackend.contents c.finish.new.backends.blobs) (g.I.IngestBackend.contents c.finish.new.backends.ingests) (removed_of names fates) (failed_of names fates) _ _ _ _
-    (sweeps_from bytes_eq g.B.BlobBackend.contents g.B.BlobBackend.fails _ _ _ _ _ _ _ blobs_are refl c.finish.ensures.blobs)
-    (sweeps_from is_number g.I.IngestBackend.contents g.I.IngestBackend.fails _ _ _ _ _ _ _ ingests_are refl c.finish.ensures.ingests)
-    (removed_by c.sweep_beside-shards.result.1.items names.snapshots fates.snapshots set) (failed_by c.sweep_beside-shards.result.1.items names.snapshots fates.snapshots set) c.finish.new.backends.shards news_are
+    (g.B.BlobBackend.contents back.blobs) (g.I.IngestBackend.contents back.ingests) (removed_of names fates) (failed_of names fates) _ _ _ _
+    (sweeps_to bytes_eq g.B.BlobBackend.contents g.B.BlobBackend.fails _ _ _ _ _ _ _ _ (ap (λ b. b.blobs) c.put_shards-2.ensures) (ap (λ f. (removed_of names f).blobs) c.set_snapshots.ensures.set) (ap (λ f. (failed_of names f).blobs) c.set_snapshots.ensures.set)
+    (sweeps_from bytes_eq g.B.BlobBackend.contents g.B.BlobBackend.fails _ _ _ _ _ _ _ blobs_are refl c.sweep_beside-shards.ensures.blobs))
+    (sweeps_to is_number g.I.IngestBackend.contents g.I.IngestBackend.fails _ _ _ _ _ _ _ _ (ap (λ b. b.ingests) c.put_shards-2.ensures) (ap (λ f. (removed_of names f).ingests) c.set_snapshots.ensures.set) (ap (λ f. (failed_of names f).ingests) c.set_snapshots.ensures.set)
+    (sweeps_from is_number g.I.IngestBackend.contents g.I.IngestBackend.fails _ _ _ _ _ _ _ ingests_are refl c.sweep_beside-shards.ensures.ingests))
+    (removed_by c.sweep_beside-shards.result.1.items names.snapshots fates.snapshots set) (failed_by c.sweep_beside-shards.result.1.items names.snapshots fates.snapshots set) back.shards news_are

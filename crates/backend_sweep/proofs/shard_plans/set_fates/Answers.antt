@@ -1,4 +1,4 @@
-use Rattle.std.proofs.Common.{rules, ◌≡◌, ◌∙◌, ap, length, ◌<◌}
+use Rattle.std.proofs.Common.{rules, ◌∙◌, ap, length, ◌<◌}
 use Rattle.std.specs.Prelude.{Option}
 use Rattle.backend_sweep.specs.Lanes.{Laned, fate_in, fate_of}
 use Rattle.backend_sweep.proofs.Fated.{set_more}

@@ -1,11 +1,12 @@
 use Rattle.std.proofs.Common.{inl, ◌≡◌, ◌∙◌, sym, subst, refl, length}
-use Rattle.std.specs.Prelude.{Result, Ok, Err, None}
+use Rattle.std.specs.Prelude.{Result, Ok, Err, None, OnErr}
 use Rattle.std.specs.Result.{IsErrAnd}
 use Rattle.meta_types.specs.declared.fault.Fault.{Fault}
 use Rattle.meta_types.specs.declared.fault.Fault.TheVariants.{OutOfMemory}
 use Rattle.steal_mark.specs.Refusing.{RefusesThreads}
 use Rattle.meta_types.specs.Rows.{Records, BackLists, State}
 use Rattle.meta_types.specs.Reports.{Report, Collects}
+use Rattle.meta_types.specs.Sound.{IsSound}
 use Rattle.meta_types.proofs.SoundAfter.{a_collected_store_is_sound}
 use Rattle.collection.proofs.SweptPlans.{a_swept_plan_is_a_collection}
 use Rattle.backend_sweep.specs.Fated.{AllFates}
@@ -17,8 +18,8 @@ use Rattle.collection.proofs.Wholes.{fits, stays, rows_swept}
 use Rattle.collection.proofs.collect_store.collect_came.Goals as goal
 
 -- the plan is one of a sound store
-pub sweep_shards-requires-after_bounds : goal.sweep_shards-requires-after_bounds
-sweep_shards-requires-after_bounds g c κs within =
+pub sweep_all-requires-clause-planned : goal.sweep_all-requires-clause-planned
+sweep_all-requires-clause-planned g c κs within =
     let came : Records = came_in c.args.came.now in
     let held : BackLists = held_in c.args.backends.now.shards (g.B.BlobBackend.contents c.args.backends.now.blobs) (g.I.IngestBackend.contents c.args.backends.now.ingests) in
     let n = length came.tables.namespaces in
@@ -55,16 +56,38 @@ returns-in_err-fates-clause-fault g c =
     swept_fails AllFates c.args.workers passed.result _ c.requires.workers passed.ensures.1
     c.in_err-fates.ensures.fault
 
-pub sweep-requires-clause-rows : goal.sweep-requires-clause-rows
-sweep-requires-clause-rows g c =
+-- and leaves rows and backends as they were
+on_err : {A : Type 0} (result : Result Report Fault) → A → OnErr result A
+on_err (Ok report) h = tt
+on_err (Err fault) h = h
+
+pub returns-in_err-fates-clause-came_err : goal.returns-in_err-fates-clause-came_err
+returns-in_err-fates-clause-came_err g c =
+    let came = c.args.came.now in
+    let e = c.in_err-fates.ensures in
+    on_err c.from_residual-in_err-fates.result
+    (λ i. record { tables = e.tables_err i; leases = e.leases_err i; next = came.next; profile = came.profile })
+
+pub returns-in_err-fates-clause-sound : goal.returns-in_err-fates-clause-sound
+returns-in_err-fates-clause-sound g c =
+    let came = c.args.came.now in
+    let e = c.in_err-fates.ensures in
+    let new = c.sweep_all.new.backends in
+    let kept : IsSound (store_in (in_order came) new.shards (g.B.BlobBackend.contents new.blobs) (g.I.IngestBackend.contents new.ingests)) =
+    subst (λ b. IsSound (store_in (in_order came) b.shards (g.B.BlobBackend.contents b.blobs) (g.I.IngestBackend.contents b.ingests))) (sym e.backends_err) c.requires.sound in
+    subst (λ r. IsSound (store_in (in_order r) new.shards (g.B.BlobBackend.contents new.blobs) (g.I.IngestBackend.contents new.ingests)))
+    (λ i. record { tables = sym e.tables_err i; leases = sym e.leases_err i; next = came.next; profile = came.profile }) kept
+
+pub sweep_all-requires-clause-rows : goal.sweep_all-requires-clause-rows
+sweep_all-requires-clause-rows g c κs within =
     let came : Records = came_in c.args.came.now in
     let held : BackLists = held_in c.args.backends.now.shards (g.B.BlobBackend.contents c.args.backends.now.blobs) (g.I.IngestBackend.contents c.args.backends.now.ingests) in
     let n = length came.tables.namespaces in
     let p = c.in_ok-plan.ensures.ok in
     fits came n held c.args.at.0 c.in_ok-plan.plan p
 
-pub sweep-requires-clause-numbered : goal.sweep-requires-clause-numbered
-sweep-requires-clause-numbered g c =
+pub sweep_all-requires-clause-numbered : goal.sweep_all-requires-clause-numbered
+sweep_all-requires-clause-numbered g c κs within =
     let came : Records = came_in c.args.came.now in
     let held : BackLists = held_in c.args.backends.now.shards (g.B.BlobBackend.contents c.args.backends.now.blobs) (g.I.IngestBackend.contents c.args.backends.now.ingests) in
     let n = length came.tables.namespaces in
@@ -81,9 +104,9 @@ returns-clause-ok g c =
     let state : State = store_in (in_order c.args.came.now) c.args.backends.now.shards (g.B.BlobBackend.contents c.args.backends.now.blobs) (g.I.IngestBackend.contents c.args.backends.now.ingests) in
     let plan = c.in_ok-plan.plan in
     let at = c.args.at.0 in
-    let back : BackLists = held_in c.sweep_shards.new.backends.shards (g.B.BlobBackend.contents c.sweep_shards.new.backends.blobs) (g.I.IngestBackend.contents c.sweep_shards.new.backends.ingests) in
-    let records : Records = records_in (in_order (record { tables = c.sweep.new.tables; leases = c.sweep.new.leases; next = came.next; profile = came.profile })) in
-    let rows = rows_swept came plan c.sweep.new.tables c.sweep.new.leases c.sweep.ensures.tables c.sweep.ensures.leases in
+    let back : BackLists = held_in c.sweep_all.new.backends.shards (g.B.BlobBackend.contents c.sweep_all.new.backends.blobs) (g.I.IngestBackend.contents c.sweep_all.new.backends.ingests) in
+    let records : Records = records_in (in_order (record { tables = c.sweep_all.new.tables; leases = c.sweep_all.new.leases; next = came.next; profile = came.profile })) in
+    let rows = rows_swept came plan c.sweep_all.new.tables c.sweep_all.new.leases c.in_ok-fates.ensures.tables c.in_ok-fates.ensures.leases in
     subst (λ (r : Report). Collects state at r.failed r (record { records = records; backends = back }))
     (sym c.reports_of.ensures)
     (a_swept_plan_is_a_collection came held at plan c.in_ok-fates.fates records back p rows
