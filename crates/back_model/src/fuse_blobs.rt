@@ -2,6 +2,7 @@
 ghost use Rattle.std.specs.Prelude.{◌≡◌, ◌+◌, ◌↔◌, Err, OnOk, OnErr, not, IsTrue};
 ghost use Rattle.std.specs.Prelude.{true, false};
 ghost use Rattle.meta_types.specs.Changes.{put_blob};
+ghost use Rattle.row_tables.specs.Arrived.{one_text, sorted};
 ghost use Rattle.back_model.specs.Objects.{has_blob, without_blob};
 ghost use Rattle.back_model.specs.Answers.{Makes, Removes, make_fails, remove_fails};
 ghost use Rattle.back_model.specs.Fuses.{armed_for, is_failed, after_call};
@@ -32,7 +33,9 @@ impl FuseBlobs {
 }
 
 impl BlobBackend for FuseBlobs {
-    ghost contents = { λ b. b.inner };
+    ghost contents = { λ b. sorted one_text b.inner };
+
+    ghost came = { λ b. b.inner };
 
     ghost fails = { λ b. b.fuse.fails };
 
@@ -44,12 +47,14 @@ impl BlobBackend for FuseBlobs {
     }
 
     fn make(&mut self, alloc: Global, digest: &Digest) -> Result<(), MakeFault>
-        ensures fault { Makes result (has_blob digest.now self.old.inner) (true) }
-        ensures ok { OnOk result (self.new.inner ≡ put_blob digest.now self.old.inner) }
-        ensures err { OnErr result (self.new.inner ≡ self.old.inner) }
+        ensures fault { Makes result (has_blob digest.now (sorted one_text self.old.inner)) (true) }
+        ensures ok { OnOk result (sorted one_text self.new.inner
+            ≡ put_blob digest.now (sorted one_text self.old.inner)) }
+        ensures err { OnErr result (sorted one_text self.new.inner
+            ≡ sorted one_text self.old.inner) }
         ensures fails { self.new.fuse.fails ≡ self.old.fuse.fails + make_fails result }
-        ensures fuse { self.new.fuse
-            ≡ after_call (has_blob digest.now self.old.inner) self.old.fuse }
+        ensures fuse { self.new.fuse ≡ after_call (has_blob digest.now
+            (sorted one_text self.old.inner)) self.old.fuse }
     {
         let is_refused = self.inner.holds(digest);
         if self.fuse.fails_call(is_refused) {
@@ -59,12 +64,14 @@ impl BlobBackend for FuseBlobs {
     }
 
     fn remove(&mut self, digest: &Digest) -> Result<(), RemoveFault>
-        ensures fault { Removes result (has_blob digest.now self.old.inner) (false) }
-        ensures ok { OnOk result (self.new.inner ≡ without_blob digest.now self.old.inner) }
-        ensures err { OnErr result (self.new.inner ≡ self.old.inner) }
+        ensures fault { Removes result (has_blob digest.now (sorted one_text self.old.inner)) (false) }
+        ensures ok { OnOk result (sorted one_text self.new.inner
+            ≡ without_blob digest.now (sorted one_text self.old.inner)) }
+        ensures err { OnErr result (sorted one_text self.new.inner
+            ≡ sorted one_text self.old.inner) }
         ensures fails { self.new.fuse.fails ≡ self.old.fuse.fails + remove_fails result }
-        ensures fuse { self.new.fuse
-            ≡ after_call (not (has_blob digest.now self.old.inner)) self.old.fuse }
+        ensures fuse { self.new.fuse ≡ after_call (not (has_blob digest.now
+            (sorted one_text self.old.inner))) self.old.fuse }
     {
         let is_refused = !self.inner.holds(digest);
         if self.fuse.fails_call(is_refused) {
@@ -79,6 +86,10 @@ impl BlobBackend for FuseBlobs {
 
     fn digests(&self) -> &RowTable<Digest, Digest> {
         self.inner.digests()
+    }
+
+    fn retain(&mut self, _marks: &[bool]) -> bool {
+        false
     }
 
     fn failures(&self) -> u64 {

@@ -1,4 +1,6 @@
 //! A model of blobs, kept in memory.
+ghost use Rattle.row_tables.specs.Arrived.{one_text, sorted};
+
 use crate::faults::{MakeFault, RemoveFault};
 use crate::traits::BlobBackend;
 use meta_types::{Digest, Fault};
@@ -15,15 +17,16 @@ pub struct MemBlobs {
 impl Model for MemBlobs {
     ghost use Rattle.std.specs.Prelude.{List};
     ghost use Rattle.meta_types.specs.Text.{Text};
-    ghost use Rattle.row_tables.specs.Arrived.{one_text, sorted};
 
     ghost Value = { List Text };
 
-    ghost view = { λ b. sorted one_text b.digests };
+    ghost view = { λ b. b.digests };
 }
 
 impl BlobBackend for MemBlobs {
-    ghost contents = { λ b. b };
+    ghost contents = { λ b. sorted one_text b };
+
+    ghost came = { λ b. b };
 
     ghost fails = { λ _. 0 };
 
@@ -66,6 +69,11 @@ impl BlobBackend for MemBlobs {
 
     fn digests(&self) -> &RowTable<Digest, Digest> {
         &self.digests
+    }
+
+    fn retain(&mut self, marks: &[bool]) -> bool {
+        self.digests.retain(marks);
+        true
     }
 
     fn failures(&self) -> u64 {

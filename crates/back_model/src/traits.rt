@@ -1,5 +1,5 @@
 //! What a backend promises, whichever device it has.
-ghost use Rattle.std.specs.Prelude.{◌≡◌, ◌+◌, ℕ, List, [], IfOk, OnOk, OnErr, IfSome, Some, None, true, false};
+ghost use Rattle.std.specs.Prelude.{◌≡◌, ◌+◌, ℕ, Bool, List, [], IfOk, OnOk, OnErr, IfSome, Some, None, IsTrue, true, false, length, map, filter};
 ghost use Rattle.std.specs.FinMap as finmap;
 ghost use Rattle.meta_types.specs.Text.{Text};
 ghost use Rattle.meta_types.specs.Changes.{put_blob};
@@ -67,6 +67,9 @@ pub trait BlobBackend: Send + Drop {
     /// The digests, in their order.
     ghost contents: { Self → List Text };
 
+    /// The digests, in the order in which they are lent.
+    ghost came: { Self → List Text };
+
     /// How often its device has failed.
     ghost fails: { Self → ℕ };
 
@@ -96,7 +99,18 @@ pub trait BlobBackend: Send + Drop {
 
     /// Lends the digests in the order in which they are held, each found by its hash.
     fn digests(&self) -> &RowTable<Digest, Digest>
-        ensures { sorted one_text result.now ≡ contents self.now };
+        ensures came { result.now ≡ came self.now }
+        ensures order { sorted one_text result.now ≡ contents self.now };
+
+    /// Keeps the blobs whose mark is set, in the order of `digests`, and removes all others in one
+    /// pass. Where its device may fail it answers false and changes nothing: each blob takes a call
+    /// of its own then.
+    fn retain(&mut self, marks: &[bool]) -> bool
+        requires { length marks.now ≡ length (came self.old) }
+        ensures kept { IsTrue result → (stays : Text → Bool) → marks.now ≡ map stays
+            (came self.old) → contents self.new ≡ filter stays (contents self.old) }
+        ensures same { result ≡ false → contents self.new ≡ contents self.old }
+        ensures fails { fails self.new ≡ fails self.old };
 
     /// How often its device has failed.
     fn failures(&self) -> u64

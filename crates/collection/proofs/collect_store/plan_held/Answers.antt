@@ -11,7 +11,7 @@ pub returns-clause-ok : goal.returns-clause-ok
 returns-clause-ok g c =
     plan_by (came_in c.args.came.now) (length c.args.came.now.tables.namespaces) _ (held_in c.args.backends.now.shards (g.B.BlobBackend.contents c.args.backends.now.blobs) (g.I.IngestBackend.contents c.args.backends.now.ingests)) c.args.at.0 c.in_ok-plan.plan
     (λ i. record {
-      blobs = (c.digests.ensures ∙ ap g.B.BlobBackend.contents c.blobs.ensures) i;
+      blobs = (c.digests.ensures.order ∙ ap g.B.BlobBackend.contents c.blobs.ensures) i;
       snapshots = (ap (map listed_snap) c.deref.ensures.value ∙ c.in_ok-snapshots.ensures.ok) i;
       ingests = (c.deref-2.ensures.value ∙ c.in_ok-ingests.ensures.ok ∙ ap g.I.IngestBackend.contents c.ingests.ensures) i;
     })

@@ -41,7 +41,7 @@ returns-clause-ok g c =
     after_removal state c.args.ns c.args.object c.of-row.result c.of-row.ensures
     _ c.args.at.0 c.impact_lent.result c.impact_lent.ensures.ok
     (λ i. record {
-      blobs = (c.digests.ensures ∙ ap g.B.BlobBackend.contents c.blobs.ensures) i;
+      blobs = (c.digests.ensures.order ∙ ap g.B.BlobBackend.contents c.blobs.ensures) i;
       snapshots = (ap (map listed_snap) c.deref.ensures.value ∙ c.in_ok-snapshots.ensures.ok) i;
       ingests = (c.deref-2.ensures.value ∙ c.in_ok-ingests.ensures.ok
           ∙ ap g.I.IngestBackend.contents c.ingests.ensures) i;

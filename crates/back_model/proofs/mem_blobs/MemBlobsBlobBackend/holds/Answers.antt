@@ -1,4 +1,4 @@
-use Rattle.std.proofs.Common.{◌∙◌, refl, subst}
+use Rattle.std.proofs.Common.{◌∙◌, refl, subst, ap}
 use Rattle.row_tables.specs.Arrived.{one_text, sorted}
 use Rattle.back_model.specs.Objects.{AreOrderedBlobs}
 use Rattle.back_model.proofs.Digests.{held_is, ordered}
@@ -6,8 +6,8 @@ use Rattle.back_model.proofs.mem_blobs.MemBlobsBlobBackend.holds.Goals as goal
 
 -- one has the digest where it is held
 pub returns-clause-holds : goal.returns-clause-holds
-returns-clause-holds c = c.has.ensures ∙ held_is c.args.digest.now c.args.digest.now c.self.inside.digests c.args.self.now refl c.self.view_is
+returns-clause-holds c = c.has.ensures ∙ held_is c.args.digest.now c.args.digest.now c.self.inside.digests (sorted one_text c.args.self.now) refl (ap (sorted one_text) c.self.view_is)
 
 -- the table's order is that of the bytes
 pub returns-clause-order : goal.returns-clause-order
-returns-clause-order c = subst AreOrderedBlobs c.self.view_is (ordered (sorted one_text c.self.inside.digests) c.rows-digests.ensures.order)
+returns-clause-order c = subst AreOrderedBlobs (ap (sorted one_text) c.self.view_is) (ordered (sorted one_text c.self.inside.digests) c.rows-digests.ensures.order)
