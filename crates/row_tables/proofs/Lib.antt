@@ -18,3 +18,4 @@ pub mod NamespacesCame
 pub mod Retained
 pub mod RowCounts
 pub mod SnapshotterRows
+pub mod SweptNamespaces

@@ -19,6 +19,7 @@ use Rattle.meta_types.proofs.Members.{later}
 use Rattle.row_tables.specs.Arrived.{Becomes, sorted, kept}
 use Rattle.row_tables.specs.Came.{listed, in_names, AreCame}
 use Rattle.row_tables.specs.Namespaces.{joined, group_key, all_rows, AreGroups, IsHome}
+use Rattle.row_tables.proofs.Entries.{on_err}
 use Rattle.row_tables.proofs.FirstPosition.{skipped, within_first, none_passes}
 use Rattle.row_tables.proofs.ListedNamespaces.{all_in, all_out, listed_at, listed_get, listed_set, listed_has, listed_gap, listed_insert}
 use Rattle.row_tables.proofs.JoinedLists.{joined_at, added_back, not_it, all_cons}
@@ -182,22 +183,34 @@ module _ {K Row : Type 0} (texts_of : K → Key) (name_of : Row → K) (ns_of : 
   pub came_nowhere : (ns : Text) (t : Key) (gs : List (Text × List Row)) → has_row group_key (ns ∷ []) gs ≡ false → AreCame key name ns_of gs → position (λ row. is_key (ns ∷ t) (key row)) (all_rows gs) ≡ None
   came_nowhere ns t gs none are = none_passes (λ row. is_key (ns ∷ t) (key row)) (all_rows gs) (passed_by ns t gs none (own_out gs are.listed.own))
 
+  pub none_on_err : {A B : Type 0} (ns : Text) {gs seen : List (Text × List Row)} → AreCame key name ns_of gs → seen ≡ gs → has_row group_key (ns ∷ []) seen ≡ false
+      → (r : Result A B) → OnErr r ((t : Key) → has_row key (ns ∷ t) (sorted key (all_rows gs)) ≡ false)
+  none_on_err ns {gs} are lent none r =
+      on_err r ((t : Key) → has_row key (ns ∷ t) (sorted key (all_rows gs)) ≡ false)
+      (λ t. ap is_some (came_none ns t gs (ap (has_row group_key (ns ∷ [])) (sym lent) ∙ none) are))
+
   -- ---- a namespace more
 
-  module _ (ns : Text) (i : ℕ) (gs new : List (Text × List Row)) (are : AreCame key name ns_of gs) (none : has_row group_key (ns ∷ []) gs ≡ false)
-      (place : i ≡ position_or_len (λ group. is_before (ns ∷ []) (group_key group)) gs) (is : new ≡ insert gs i (ns, [])) where
-    made : new ≡ add_row group_key (ns, []) gs
-    made = is ∙ ap (λ k. insert gs k (ns, [])) place ∙ sym (put_at_place (λ (a b : Text × List Row). is_before (group_key a) (group_key b)) (ns, []) gs)
+  -- the namespace stands at the place, and all rows are as they were
+  pub record Opens (ns : Text) (i : ℕ) (gs new : List (Text × List Row)) : Type 0 where
+    pub home : IsHome ns i new
+    pub same : all_rows new ≡ all_rows gs
+    pub groups : AreCame key name ns_of new
 
-    pub came_same_rows : all_rows new ≡ all_rows gs
-    came_same_rows = ap all_rows made ∙ opened_rows ns gs
-
-    pub came_opened : AreCame key name ns_of new
-    came_opened = record {
-      order = ap (are_in_order group_key) made ∙ in_order_added group_key (ns, []) gs are.order none;
-      listed = opened_groups texts_of name_of ns_of ns i (listed name gs) (listed name new) are.listed (listed_has name (ns ∷ []) gs ∙ none)
-          (place ∙ sym (listed_gap name ns gs)) (ap (listed name) is ∙ listed_insert name gs i (ns, []));
-    }
-
-    pub came_home : IsHome ns i new
-    came_home = ([], ap (λ (l : List (Text × List Row)). slice_get l i) is ∙ there_now gs i (ns, []) (let w = place_within (λ (group : Text × List Row). is_before (ns ∷ []) (group_key group)) gs in omega (arith, w, place)))
+  pub came_opened : {ns : Text} {i : ℕ} {gs seen new : List (Text × List Row)} {group : Text × List Row} → AreCame key name ns_of gs → seen ≡ gs → has_row group_key (ns ∷ []) seen ≡ false
+      → i ≡ position_or_len (λ group. is_before (ns ∷ []) (group_key group)) seen → group ≡ (ns, []) → new ≡ insert gs i group → Opens ns i gs new
+  came_opened {ns} {i} {gs} {new = new} are lent absent gap empty put =
+      let is : new ≡ insert gs i (ns, []) = put ∙ ap (insert gs i) empty in
+      let none : has_row group_key (ns ∷ []) gs ≡ false = ap (has_row group_key (ns ∷ [])) (sym lent) ∙ absent in
+      let place : i ≡ position_or_len (λ (group : Text × List Row). is_before (ns ∷ []) (group_key group)) gs = gap ∙ ap (position_or_len (λ (group : Text × List Row). is_before (ns ∷ []) (group_key group))) lent in
+      let made : new ≡ add_row group_key (ns, []) gs = is ∙ ap (λ k. insert gs k (ns, [])) place ∙ sym (put_at_place (λ (a b : Text × List Row). is_before (group_key a) (group_key b)) (ns, []) gs) in
+      let within = place_within (λ (group : Text × List Row). is_before (ns ∷ []) (group_key group)) gs in
+      record {
+        home = ([], ap (λ (l : List (Text × List Row)). slice_get l i) is ∙ there_now gs i (ns, []) (omega (arith, within, place)));
+        same = ap all_rows made ∙ opened_rows ns gs;
+        groups = record {
+          order = ap (are_in_order group_key) made ∙ in_order_added group_key (ns, []) gs are.order none;
+          listed = opened_groups texts_of name_of ns_of ns i (listed name gs) (listed name new) are.listed (listed_has name (ns ∷ []) gs ∙ none)
+              (place ∙ sym (listed_gap name ns gs)) (ap (listed name) is ∙ listed_insert name gs i (ns, []));
+        };
+      }
