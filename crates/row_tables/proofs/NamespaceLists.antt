@@ -19,7 +19,7 @@ use Rattle.meta_types.specs.Rows.{namespace_key}
 use Rattle.meta_types.proofs.ListSearches.{found_is, row_is_found, no_none, some_is}
 use Rattle.meta_types.proofs.KeepsSound.{in_order_changed}
 use Rattle.meta_types.proofs.Searched.{are_in_order-map}
-use Rattle.row_tables.specs.Namespaces.{group_key, all_rows, IsHome}
+use Rattle.row_tables.specs.Namespaces.{group_key, all_rows}
 
 pub place_within : {X : Type 0} (p : X → Bool) (xs : List X) → position_or_len p xs ≤ length xs
 place_within p xs = prefix_len-le-length (λ x. not (p x)) xs
@@ -79,6 +79,29 @@ module _ {Row : Type 0} (key_of : Row → Key) where
       let is : key ≡ key_of row = keys_same key (key_of row) (found_is (λ (x : Row). is_key key (key_of x)) rows row (sym (row_is_found key_of key rows) ∙ found)).1 in
       ap (are_in_order key_of) (instead_there key after rows) ∙ in_order_changed key_of key (instead key after) (λ x. instead_keeps key row after x is same) rows o
 
+module _ {X : Type 0} where
+  -- ---- what a search of the namespaces tells
+
+  abbrev pub name_key : Text × X → Key
+  name_key group = namespace_key group.0
+
+  home_at : (ns : Text) (gs : List (Text × X)) (i : ℕ) → Some i ≡ position (λ group. is_key (namespace_key ns) (name_key group)) gs → (rows : X) × (slice_get gs i ≡ Some (ns, rows))
+  home_at ns [] i at = no_none i (sym at)
+  home_at ns (g ∷ gs) i at =
+      let found = position-Some (λ (group : Text × X). is_key (namespace_key ns) (name_key group)) (g ∷ gs) i g (sym at) in
+      let there = get_or (g ∷ gs) i g in
+      let parts = and_parts (bytes_eq ns there.0) true found.1 in
+      (there.1, slice_get-get_or (g ∷ gs) i g found.0 ∙ ap (λ m. Some (m, there.1)) (sym ((bytes_decides ns there.0).0 parts.0)))
+
+  pub home_found : (ns : Text) (gs : List (Text × X)) (found : Result ℕ ℕ) → IfOk found (λ place. Some place ≡ position (λ group. is_key (namespace_key ns) (name_key group)) gs)
+      → IfOk found (λ place. (rows : X) × (slice_get gs place ≡ Some (ns, rows)))
+  home_found ns gs (Ok i) at = home_at ns gs i at
+  home_found ns gs (Err i) at = tt
+
+  pub none_found : (key : Key) (gs : List (Text × X)) (found : Result ℕ ℕ) → is_ok found ≡ has_row name_key key gs → IfErr found (λ place. has_row name_key key gs ≡ false)
+  none_found key gs (Ok i) there = tt
+  none_found key gs (Err i) there = sym there
+
 module _ {Row : Type 0} where
   -- ---- lists of groups
 
@@ -99,13 +122,6 @@ module _ {Row : Type 0} where
 
   pub order_of_names : (gs hs : List (Text × List Row)) → map (λ group. group.0) gs ≡ map (λ group. group.0) hs → are_in_order group_key gs ≡ are_in_order group_key hs
   order_of_names gs hs same = sym (are_in_order-map (λ (group : Text × List Row). group.0) namespace_key gs) ∙ ap (are_in_order namespace_key) same ∙ are_in_order-map (λ (group : Text × List Row). group.0) namespace_key hs
-
-  pub home_at : (ns : Text) (gs : List (Text × List Row)) (i : ℕ) → Some i ≡ position (λ group. is_key (ns ∷ []) (group_key group)) gs → IsHome ns i gs
-  home_at ns gs i at =
-      let found = position-Some (λ (group : Text × List Row). is_key (ns ∷ []) (group_key group)) gs i (ns, []) (sym at) in
-      let g = get_or gs i (ns, []) in
-      let parts = and_parts (bytes_eq ns g.0) true found.1 in
-      (g.1, slice_get-get_or gs i (ns, []) found.0 ∙ ap (λ m. Some (m, g.1)) (sym ((bytes_decides ns g.0).0 parts.0)))
 
   -- the rows of one namespace more
   pub rows_append : (gs hs : List (Text × List Row)) → all_rows (gs ++ hs) ≡ all_rows gs ++ all_rows hs
@@ -132,15 +148,6 @@ module _ {Row : Type 0} where
   names_kept [] i g new is same = refl
   names_kept (h ∷ gs) zero g new is same = ap (λ m. m ∷ map (λ (group : Text × List Row). group.0) gs) (same ∙ ap (λ (x : Text × List Row). x.0) is)
   names_kept (h ∷ gs) (suc i) g new is same = ap (λ rest. h.0 ∷ rest) (names_kept gs i g new is same)
-
-  -- what a search of the namespaces tells
-  pub home_found : (ns : Text) (gs : List (Text × List Row)) (found : Result ℕ ℕ) → IfOk found (λ place. Some place ≡ position (λ group. is_key (ns ∷ []) (group_key group)) gs) → IfOk found (λ place. IsHome ns place gs)
-  home_found ns gs (Ok i) at = home_at ns gs i at
-  home_found ns gs (Err i) at = tt
-
-  pub none_found : (key : Key) (gs : List (Text × List Row)) (found : Result ℕ ℕ) → is_ok found ≡ has_row group_key key gs → IfErr found (λ place. has_row group_key key gs ≡ false)
-  none_found key gs (Ok i) there = tt
-  none_found key gs (Err i) there = sym there
 
   -- a namespace more has no row
   pub opened_rows : (ns : Text) (gs : List (Text × List Row)) → all_rows (add_row group_key (ns, []) gs) ≡ all_rows gs

@@ -1,49 +1,16 @@
-//! Look-ups: a namespace, a row in it, and the place of a row among all.
-ghost use Rattle.std.specs.Prelude.{◌≡◌, ◌<◌, ◌≤◌, ◌^◌, ◌∷◌, [], false, IfOk, IfErr, IsTrue, IfSome, IfNone, length, take, drop, filter, bytes_eq, option_copied};
-ghost use Rattle.std.specs.List.{position, position_or_len, list_any, list_all};
-ghost use Rattle.std.specs.Cmp.Lexicographic.{slice_cmp};
-ghost use Rattle.meta_types.specs.Text.{text_cmp};
-ghost use Rattle.meta_types.specs.Keys.{is_key, are_in_order, is_before, row_at, has_row};
+//! Look-ups: a row of a namespace, and the place of a row among all.
+ghost use Rattle.std.specs.Prelude.{◌≡◌, ◌<◌, ◌≤◌, ◌^◌, ◌∷◌, [], IfSome, IfNone, length, take, drop, filter, bytes_eq, option_copied};
+ghost use Rattle.std.specs.List.{position, list_any, list_all};
+ghost use Rattle.meta_types.specs.Keys.{is_key, row_at, has_row};
 ghost use Rattle.row_tables.specs.Arrived.{sorted, by_name};
-ghost use Rattle.row_tables.specs.Namespaces.{full_key, group_key, all_rows, IsHome};
+ghost use Rattle.row_tables.specs.Namespaces.{full_key, all_rows};
 ghost use Rattle.row_tables.specs.Came.{AreCame};
 
+use crate::homes::search;
 use crate::named::Named;
 use crate::row::{GroupedRow, Test};
 use crate::row_table::RowTable;
 use meta_types::ShortName;
-use std::cmp::Ordering;
-
-fn compare<K: Named, R: GroupedRow<K>>(
-    group: &(ShortName, RowTable<K, R>),
-    ns: &ShortName,
-) -> Ordering
-    ensures { result ≡ slice_cmp text_cmp (group_key group.now) (ns.now ∷ []) }
-{
-    match group.0.text().cmp(ns.text()) {
-        Ordering::Less => Ordering::Less,
-        Ordering::Equal => Ordering::Equal,
-        Ordering::Greater => Ordering::Greater,
-    }
-}
-
-/// Where the namespace is, or where it would go.
-pub(crate) fn search<K: Named, R: GroupedRow<K>>(
-    groups: &[(ShortName, RowTable<K, R>)],
-    ns: &ShortName,
-) -> Result<usize, usize>
-    requires { IsTrue (are_in_order group_key groups.now) }
-    ensures found { IfOk result (λ place. IsHome ns.now place groups.now) }
-    ensures absent { IfErr result (λ place. place
-        ≡ position_or_len (λ group. is_before (ns.now ∷ []) (group_key group)) groups.now) }
-    ensures none { IfErr result (λ place. has_row group_key (ns.now ∷ []) groups.now ≡ false) }
-{
-    groups.binary_search_by(
-        |group: &(ShortName, RowTable<K, R>)| -> Ordering
-            ensures { result ≡ slice_cmp text_cmp (group_key group.now) (ns.entry.now ∷ []) }
-        { compare(group, ns) },
-    )
-}
 
 /// How many rows the namespaces before a place have.
 pub(crate) fn first_of<K: Named, R: GroupedRow<K>>(

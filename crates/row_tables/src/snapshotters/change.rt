@@ -7,9 +7,9 @@ ghost use Rattle.row_tables.specs.Namespaces.{full_key, layered_key, all_rows, I
 ghost use Rattle.row_tables.specs.Came.{AreCame};
 
 use crate::arrived_by_namespace::ArrivedByNamespace;
+use crate::homes::search;
 use crate::named::Named;
 use crate::row::{Change, SnapshotterRow};
-use crate::snapshotters::find::search;
 use meta_types::{Fault, ShortName};
 use std::alloc::Global;
 

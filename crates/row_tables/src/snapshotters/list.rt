@@ -6,9 +6,9 @@ ghost use Rattle.row_tables.specs.Namespaces.{full_key, layered_key, all_rows};
 ghost use Rattle.row_tables.specs.Came.{AreCame, listed};
 
 use crate::arrived_by_namespace::ArrivedByNamespace;
+use crate::homes::search;
 use crate::named::Named;
 use crate::row::SnapshotterRow;
-use crate::snapshotters::find::search;
 use meta_types::{Fault, ShortName};
 use std::alloc::Global;
 
