@@ -145,21 +145,25 @@ module _ {Row : Type 0} (ns_of : Row → Text) where
         ∙ ap (λ l. all_rows gs ++ l) (none_kept rest) ∙ append-nil (all_rows gs)) ∙ so.rows
 
 module _ {K Row : Type 0} (texts_of : K → Key) (name_of : Row → K) (ns_of : Row → Text) where
-  pub retains_none : {marks : List Bool} {gs : List (Text × List Row)} → length marks ≡ length (all_rows gs) → AreCame (key texts_of name_of ns_of) (name texts_of name_of ns_of) ns_of gs → Retains ns_of marks gs gs 0 marks
+  abbrev full : Row → Key
+  full row = key texts_of name_of ns_of row
+
+  abbrev Came : List (Text × List Row) → Type 0
+  Came gs = AreCame full (name texts_of name_of ns_of) ns_of gs
+
+  pub retains_none : {marks : List Bool} {gs : List (Text × List Row)} → length marks ≡ length (all_rows gs) → Came gs → Retains ns_of marks gs gs 0 marks
   retains_none {marks} {gs} len came = record { len = len; rows = refl; names = refl; own = came_own texts_of name_of ns_of gs came }
 
   -- each namespace has its own rows still
-  pub retains_came : {marks : List Bool} {old gs : List (Text × List Row)} {i : ℕ} {rest : List Bool} → Retains ns_of marks old gs i rest → length gs ≤ i
-      → AreCame (key texts_of name_of ns_of) (name texts_of name_of ns_of) ns_of old → AreCame (key texts_of name_of ns_of) (name texts_of name_of ns_of) ns_of gs
+  pub retains_came : {marks : List Bool} {old gs : List (Text × List Row)} {i : ℕ} {rest : List Bool} → Retains ns_of marks old gs i rest → length gs ≤ i → Came old → Came gs
   retains_came {marks} {old} {gs} so past came =
-      let key_of = key texts_of name_of ns_of in
       are_came texts_of name_of ns_of gs (order_of_names gs old so.names ∙ came.order) so.own
-      (subst (IsDistinct (same_key key_of)) (sym (retains_all ns_of so past)) (kept_apart key_of marks (all_rows old) (came_apart texts_of name_of ns_of old came)))
+      (subst (IsDistinct (same_key full)) (sym (retains_all ns_of so past)) (kept_apart full marks (all_rows old) (came_apart texts_of name_of ns_of old came)))
 
-  module _ (marks : List Bool) {gs new : List (Text × List Row)} {rows : List Row} (view : all_rows gs ≡ rows) (left : all_rows new ≡ kept marks (all_rows gs)) (came : AreCame (key texts_of name_of ns_of) (name texts_of name_of ns_of) ns_of new) where
+  module _ (marks : List Bool) {gs new : List (Text × List Row)} {rows : List Row} (view : all_rows gs ≡ rows) (left : all_rows new ≡ kept marks (all_rows gs)) (came : Came new) where
     -- as many stay as are marked
-    pub swept_counted : {old count : ℕ} → HaveCame (key texts_of name_of ns_of) (name texts_of name_of ns_of) ns_of gs old → length marks ≡ length rows → count ≡ count_by (λ mark. mark) marks
-        → HaveCame (key texts_of name_of ns_of) (name texts_of name_of ns_of) ns_of new count
+    pub swept_counted : {old count : ℕ} → HaveCame full (name texts_of name_of ns_of) ns_of gs old → length marks ≡ length rows → count ≡ count_by (λ mark. mark) marks
+        → HaveCame full (name texts_of name_of ns_of) ns_of new count
     swept_counted {old} {count} have len counted =
         let marked = length_marked marks (all_rows gs) (len ∙ ap length (sym view)) in
         let less = kept_less marks (all_rows gs) in
@@ -170,9 +174,8 @@ module _ {K Row : Type 0} (texts_of : K → Key) (name_of : Row → K) (ns_of : 
         }
 
     -- in the order of their keys, those stay that the test lets stay
-    pub swept_sorted : AreCame (key texts_of name_of ns_of) (name texts_of name_of ns_of) ns_of gs → (stays : Row → Bool) → marks ≡ map stays rows → sorted (key texts_of name_of ns_of) (all_rows new) ≡ filter stays (sorted (key texts_of name_of ns_of) rows)
+    pub swept_sorted : Came gs → (stays : Row → Bool) → marks ≡ map stays rows → sorted full (all_rows new) ≡ filter stays (sorted full rows)
     swept_sorted old stays by =
-        let key_of = key texts_of name_of ns_of in
-        kept_stays key_of stays rows (all_rows new) marks
-        (subst (IsDistinct (same_key key_of)) view (came_apart texts_of name_of ns_of gs old)) (came_apart texts_of name_of ns_of new came)
+        kept_stays full stays rows (all_rows new) marks
+        (subst (IsDistinct (same_key full)) view (came_apart texts_of name_of ns_of gs old)) (came_apart texts_of name_of ns_of new came)
         (left ∙ ap (kept marks) view) by
