@@ -13,3 +13,4 @@ pub mod Stores
 pub mod Orders
 pub mod NumberPlaces
 pub mod NodesAt
+pub mod RowsApart

@@ -4,4 +4,5 @@ pub mod Built
 pub mod Marked
 pub mod Numbers
 pub mod Stored
+pub mod Lent
 pub mod Laws

@@ -1,0 +1,110 @@
+//! The rows of a store, listed as they came.
+ghost use Rattle.std.specs.Prelude.{◌≡◌, None, IfOk};
+ghost use Rattle.meta_types.specs.Faults.{Refuses};
+ghost use Rattle.gc_graph.specs.Built.{AreApart};
+ghost use Rattle.gc_graph.specs.Lent.{lent_in};
+ghost use Rattle.gc_graph.specs.Stored.{records_of, AreLent};
+
+use crate::rows::{RowPlaces, StoreRows};
+use lease_book::Lease;
+use meta_types::{ContainerRow, ContentRow, Fault, ImageRow, IngestRow, Name, SnapRow};
+use object_tables::ArrivedRows;
+use row_tables::ArrivedByNamespace;
+use std::alloc::Global;
+use std::marker::Model;
+
+/// A list of the rows of each kind, and their tables: contracts see the records. No row is copied.
+#[derive(Drop)]
+pub struct ListedRows<'a> {
+    images: Vec<&'a ImageRow>,
+    containers: Vec<&'a ContainerRow>,
+    leases: Vec<&'a Lease>,
+    ingests: Vec<&'a IngestRow>,
+    content: Vec<&'a ContentRow>,
+    snapshots: Vec<&'a SnapRow>,
+    places: RowPlaces<'a>,
+    profile: u8,
+}
+
+impl<'a> Model for ListedRows<'a> {
+    ghost use Rattle.std.specs.Prelude.{[], map};
+    ghost use Rattle.meta_types.specs.Rows.{Records};
+    ghost use Rattle.gc_graph.specs.Lent.{HaveRows};
+
+    ghost Value = { Records };
+
+    ghost view = { λ l. record {
+      tables = record {
+        namespaces = [];
+        images = map (λ row. row.now) l.images.items;
+        containers = map (λ row. row.now) l.containers.items;
+        content = map (λ row. row.now) l.content.items;
+        ingests = map (λ row. row.now) l.ingests.items;
+        snapshots = map (λ row. row.now) l.snapshots.items;
+      };
+      leases = map (λ row. row.now) l.leases.items;
+      next = 1;
+      profile = l.profile;
+    } };
+
+    ghost invariant = { λ l. HaveRows l.places
+        (map (λ row. row.now) l.ingests.items)
+        (map (λ row. row.now) l.content.items)
+        (map (λ row. row.now) l.snapshots.items) };
+}
+
+impl<'a> ListedRows<'a> {
+    /// Lists rows as they came; none is sorted. The profile is 2 where images expire, else 1.
+    pub fn new(
+        alloc: Global,
+        came: &ArrivedRows<'a>,
+        leases: &'a ArrivedByNamespace<Name, Lease>,
+        profile: u8,
+    ) -> Result<ListedRows<'a>, Fault>
+        ensures fault { Refuses result None }
+        ensures ok { IfOk result (λ listed. listed ≡ lent_in came.now leases.now profile) }
+    {
+        let images = came.images.list_came(alloc)?;
+        let containers = came.containers.list_came(alloc)?;
+        let held = leases.list_came(alloc)?;
+        let ingests = came.ingests.list_came(alloc)?;
+        let content = came.content.list_came(alloc)?;
+        let snapshots = came.snapshots.list_came(alloc)?;
+        Ok(ListedRows {
+            images,
+            containers,
+            leases: held,
+            ingests,
+            content,
+            snapshots,
+            places: RowPlaces {
+                ingests: came.ingests,
+                content: came.content,
+                snapshots: came.snapshots,
+            },
+            profile,
+        })
+    }
+
+    /// Lends the lists and the tables. No key stands twice in them.
+    pub fn rows(&self) -> StoreRows<'_>
+        ensures records { records_of result ≡ self.now }
+        ensures apart { AreApart (records_of result) }
+        ensures lent { AreLent result }
+    {
+        // The clauses of `len` say that no key stands twice.
+        let _ = self.places.ingests.len();
+        let _ = self.places.content.len();
+        let _ = self.places.snapshots.len();
+        StoreRows {
+            images: &self.images,
+            containers: &self.containers,
+            leases: &self.leases,
+            ingests: &self.ingests,
+            content: &self.content,
+            snapshots: &self.snapshots,
+            places: self.places,
+            profile: self.profile,
+        }
+    }
+}
