@@ -1,5 +1,5 @@
 -- How many numbers there are, and the graph at a moment.
-use Rattle.std.proofs.Common.{◌≡◌, ℕ, ◌+◌, ◌<◌, ◌≤◌, false, List, ◌++◌, map, length, filter, get_or, refl, ap, ◌∙◌, inl, inr, arith, ℤ, nat_lt, Bor}
+use Rattle.std.proofs.Common.{◌≡◌, ℕ, ◌<◌, ◌≤◌, false, List, ◌++◌, map, length, filter, get_or, refl, ap, ◌∙◌, inl, inr, arith, ℤ, nat_lt, Bor}
 use Rattle.std.specs.Prelude.{All}
 use Rattle.std.specs.List.{flat_map}
 use Rattle.std.proofs.lemmas.Bool.Decides.{nat_tests}

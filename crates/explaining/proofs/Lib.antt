@@ -14,5 +14,4 @@ pub mod RowsThere
 pub mod Puts
 pub mod Folds
 pub mod Counted
-pub mod Apart
 pub mod Chains

@@ -1,5 +1,5 @@
 -- An explanation doesn't see the order of rows, the namespaces or the next number.
-use Rattle.std.proofs.Common.{◌≡◌, ℕ, Bool, List, [], ◌∷◌, ◌++◌, length, map, sym, ap, ◌∙◌, subst, inl, inr, ℤ}
+use Rattle.std.proofs.Common.{◌≡◌, ℕ, Bool, List, [], ◌∷◌, length, map, sym, ap, ◌∙◌, subst, inl, inr, ℤ}
 use Rattle.std.specs.Prelude.{Contains, ◌↔◌, IsTrue, ◌+◌, ◌*◌, nat_lt}
 use Rattle.std.specs.List.Sorted.{IsPermutation}
 use Rattle.std.proofs.lemmas.List.Sorted.{IsPermutation-append, IsPermutation-map, IsPermutation-sym, Contains-permutation}
@@ -16,6 +16,7 @@ use Rattle.meta_types.specs.declared.explanation.PathStep.{PathStep}
 use Rattle.row_tables.specs.Arrived.{sorted}
 use Rattle.row_tables.proofs.KeysOnce.{same_members}
 use Rattle.row_tables.proofs.Arrivals.{length_sorted}
+use Rattle.explaining.specs.Asked.{AreInOrder}
 
 path_as : (a b : Records) (at : ℤ) → a.profile ≡ b.profile → ((t : Thing) → Contains (things a) t → Contains (things b) t) → (last : Thing) (path : List Thing) → IsPath a at last path → IsPath b at last path
 path_as a b at p same last [] h = (same last h.0, subst (λ (n : ℕ). IsTrue (is_root n at last)) p h.1)
@@ -69,16 +70,7 @@ module _ (a b : Records) (p : a.profile ≡ b.profile) (same : (t : Thing) → C
 
 -- ---- records in the order of keys
 
--- the rows of the second are those of the first in the order of their keys
-pub record AreSorted (came records : Records) : Type 0 where
-  pub images : sorted image_key came.tables.images ≡ records.tables.images
-  pub containers : sorted container_key came.tables.containers ≡ records.tables.containers
-  pub leases : sorted lease_key came.leases ≡ records.leases
-  pub ingests : sorted ingest_key came.tables.ingests ≡ records.tables.ingests
-  pub content : sorted content_key came.tables.content ≡ records.tables.content
-  pub snapshots : sorted snap_key came.tables.snapshots ≡ records.tables.snapshots
-
-module _ (came records : Records) (s : AreSorted came records) where
+module _ (came records : Records) (s : AreInOrder came records) where
   moved : {Row : Type 0} (key_of : Row → Key) (thing : Row → Thing) (rows after : List Row) → sorted key_of rows ≡ after → IsPermutation (map thing rows) (map thing after)
   moved key_of thing rows after e = subst (λ l. IsPermutation (map thing rows) (map thing l)) e (IsPermutation-map thing rows (sorted key_of rows) (same_members key_of rows))
 
@@ -111,23 +103,3 @@ module _ (came records : Records) (s : AreSorted came records) where
       let n = sym (length_sorted snap_key came.tables.snapshots) ∙ ap length s.snapshots in
       let g = sym (length_sorted ingest_key came.tables.ingests) ∙ ap length s.ingests in
       λ i. nat_lt MAX_NODES (2 * (c i + n i) + g i)
-
--- ---- the same rows
-
--- the tables of rows are the same, whatever the namespaces and the next number are
-pub record AreSame (a b : Records) : Type 0 where
-  pub images : a.tables.images ≡ b.tables.images
-  pub containers : a.tables.containers ≡ b.tables.containers
-  pub leases : a.leases ≡ b.leases
-  pub ingests : a.tables.ingests ≡ b.tables.ingests
-  pub content : a.tables.content ≡ b.tables.content
-  pub snapshots : a.tables.snapshots ≡ b.tables.snapshots
-
-pub as_things : (a b : Records) → AreSame a b → (t : Thing) → Contains (things a) t ↔ Contains (things b) t
-as_things a b s t =
-    let e : things a ≡ things b = λ i. map image (s.images i) ++ map container (s.containers i) ++ map lease (s.leases i) ++ map ingest (s.ingests i)
-    ++ in_both_modes content (s.content i) ++ in_both_modes snapshot (s.snapshots i) in
-    (subst (λ (l : List Thing). Contains l t) e, subst (λ (l : List Thing). Contains l t) (sym e))
-
-pub large_as : (a b : Records) → AreSame a b → is_too_large a ≡ is_too_large b
-large_as a b s = λ i. nat_lt MAX_NODES (2 * (length (s.content i) + length (s.snapshots i)) + length (s.ingests i))

@@ -1,26 +1,20 @@
 -- The records that a question is asked of. Ours, unless a source stands beside.
-use Rattle.std.specs.Prelude.{ℕ, List, []}
-use Rattle.meta_types.specs.Rows.{Records, LeaseRow}
-use Rattle.object_tables.specs.declared.arrived.ArrivedRows.{ArrivedRows}
+use Rattle.std.specs.Prelude.{◌≡◌}
+use Rattle.meta_types.specs.Rows.{Records, image_key, container_key, content_key, ingest_key, snap_key, lease_key}
+use Rattle.row_tables.specs.Arrived.{sorted}
 use Rattle.request_core.specs.declared.state.Records.{Records as Kept}
 
 -- the records, as the definitions have them
 abbrev pub records_in : Kept → Records
 records_in r = record { tables = r.tables; leases = r.leases; next = r.next; profile = r.profile }
 
--- rows that are lent: the namespaces and the next backend number lead no
--- path anywhere, and are left out
-abbrev pub lent_in : ArrivedRows → List LeaseRow → ℕ → Records
-lent_in rows leases profile = record {
-  tables = record {
-    namespaces = [];
-    images = rows.images.now;
-    containers = rows.containers.now;
-    content = rows.content.now;
-    ingests = rows.ingests.now;
-    snapshots = rows.snapshots.now;
-  };
-  leases = leases;
-  next = 1;
-  profile = profile;
-}
+-- the rows of the second are those of the first in the order of their keys; the namespaces and the
+-- next backend number lead no path anywhere
+pub record AreInOrder (came records : Records) : Type 0 where
+  pub images : sorted image_key came.tables.images ≡ records.tables.images
+  pub containers : sorted container_key came.tables.containers ≡ records.tables.containers
+  pub leases : sorted lease_key came.leases ≡ records.leases
+  pub ingests : sorted ingest_key came.tables.ingests ≡ records.tables.ingests
+  pub content : sorted content_key came.tables.content ≡ records.tables.content
+  pub snapshots : sorted snap_key came.tables.snapshots ≡ records.tables.snapshots
+  pub profile : came.profile ≡ records.profile

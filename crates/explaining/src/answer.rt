@@ -1,20 +1,17 @@
 //! The explanation of a row of a store.
-ghost use Rattle.std.specs.Prelude.{◌≡◌, None, IfOk, false};
+ghost use Rattle.std.specs.Prelude.{◌≡◌, None, IfOk};
 ghost use Rattle.std.specs.List.{list_any};
 ghost use Rattle.meta_types.specs.Faults.{Refuses};
 ghost use Rattle.meta_types.specs.Limits.{is_too_large};
 ghost use Rattle.meta_types.specs.Paths.{things};
 ghost use Rattle.meta_types.specs.Explanations.{is_asked, explain_fault, IsExplanation};
 ghost use Rattle.meta_types.specs.declared.object.Object.TheVariants.{Held};
-ghost use Rattle.explaining.specs.Asked.{records_in, lent_in};
+ghost use Rattle.explaining.specs.Asked.{records_in, AreInOrder};
 
 use crate::explain_rows::explain_rows;
-use gc_graph::{RowPlaces, StoreRows};
-use lease_book::Lease;
-use meta_types::{Explanation, Fault, Instant, MAX_NODES, Name, Object, Resource, ShortName};
-use object_tables::ArrivedRows;
+use gc_graph::ListedRows;
+use meta_types::{Explanation, Fault, Instant, MAX_NODES, Object, Resource, ShortName};
 use request_core::Records;
-use row_tables::ArrivedByNamespace;
 use std::alloc::Global;
 use std::thread::Threads;
 
@@ -55,48 +52,15 @@ fn is_too_large(records: &Records) -> bool
     most < 2 * (counts.content + counts.snapshots) + counts.ingests
 }
 
-// What keeps a row, from rows as they came.
-fn explain_came(
-    rt: &(impl Threads + Sync),
-    alloc: Global,
-    came: &ArrivedRows<'_>,
-    leases: &ArrivedByNamespace<Name, Lease>,
-    profile: u8,
-    ns: &ShortName,
-    object: &Object,
-    at: Instant,
-) -> Result<Explanation, Fault>
-    requires few { is_too_large (lent_in came.now leases.now profile) ≡ false }
+// The rows of records, listed as they came.
+fn list_rows(alloc: Global, records: &Records) -> Result<ListedRows<'_>, Fault>
     ensures fault { Refuses result None }
-    ensures ok { IfOk result (λ e. IsExplanation (lent_in came.now leases.now profile) at.0
-        (is_asked ns.now object.now) e.kept e.path.items) }
+    ensures ok { IfOk result (λ listed. AreInOrder listed (records_in records.now)) }
 {
-    // The clauses of `len` say that no key stands twice.
-    let _ = came.ingests.len();
-    let _ = came.content.len();
-    let _ = came.snapshots.len();
-    let images = came.images.list_came(alloc)?;
-    let containers = came.containers.list_came(alloc)?;
-    let held = leases.list_came(alloc)?;
-    let ingests = came.ingests.list_came(alloc)?;
-    let content = came.content.list_came(alloc)?;
-    let snapshots = came.snapshots.list_came(alloc)?;
-    let rows = StoreRows {
-        images: &images,
-        containers: &containers,
-        leases: &held,
-        ingests: &ingests,
-        content: &content,
-        snapshots: &snapshots,
-        places: RowPlaces {
-            ingests: came.ingests,
-            content: came.content,
-            snapshots: came.snapshots,
-        },
-        profile,
-    };
-    let explanation = explain_rows(rt, alloc, &rows, ns, object, at)?;
-    Ok(explanation)
+    let came = records.tables.came();
+    let leases = records.leases.came();
+    let listed = ListedRows::new(alloc, &came, leases, records.profile)?;
+    Ok(listed)
 }
 
 /// What keeps a row at a moment: of all shortest paths of references that lead to it the first; and
@@ -120,8 +84,8 @@ pub fn explain<R: Threads + Sync>(
     if is_too_large(records) {
         return Err(Fault::FailedPrecondition);
     }
-    let came = records.tables.came();
-    let leases = records.leases.came();
-    let explanation = explain_came(rt, alloc, &came, leases, records.profile, ns, object, at)?;
+    let listed = list_rows(alloc, records)?;
+    let rows = listed.rows();
+    let explanation = explain_rows(rt, alloc, &rows, ns, object, at)?;
     Ok(explanation)
 }

@@ -96,30 +96,6 @@ fn nearest_path<'a>(
     Ok(path)
 }
 
-// The first of all shortest paths to what has a number, from the last thing back.
-fn numbered_path<'a>(
-    alloc: Global,
-    rows: &StoreRows<'a>,
-    book: &NodeBook<'_>,
-    graph: &Graph,
-    ns: &ShortName,
-    object: &Object,
-    made: Instant,
-    at: Instant,
-) -> Result<Vec<Found<'a>>, Fault>
-    requires built { IsBuilt (records_of rows.now) made.0 book.now graph.now }
-    requires small { IsSmall rows.now }
-    ensures fault { Refuses result None }
-    ensures ok { IfOk result (λ path. None ≡ first_root (records_of rows.now) at.0
-        (is_asked ns.now object.now) → Explains (records_of rows.now) at.0
-        (is_asked ns.now object.now) (map thing_of path.items)) }
-{
-    let starts = find_starts(alloc, book, rows, at)?;
-    let depths = depths_of(alloc, rows, book, graph, &starts, made, at)?;
-    let path = nearest_path(alloc, rows, book, graph, ns, object, &starts, at, &depths)?;
-    Ok(path)
-}
-
 // The first of all shortest paths to the asked row, from the last thing back; no thing where
 // no path leads there.
 fn first_path<'a>(
@@ -143,7 +119,9 @@ fn first_path<'a>(
         path.push(root)?;
         return Ok(path);
     }
-    let path = numbered_path(alloc, rows, book, graph, ns, object, made, at)?;
+    let starts = find_starts(alloc, book, rows, at)?;
+    let depths = depths_of(alloc, rows, book, graph, &starts, made, at)?;
+    let path = nearest_path(alloc, rows, book, graph, ns, object, &starts, at, &depths)?;
     Ok(path)
 }
 
