@@ -5,6 +5,7 @@ pub mod Gone
 pub mod Counted
 pub mod Owning
 pub mod OwnedBlobs
+pub mod Unnamed
 pub mod Searched
 pub mod FirstPlace
 pub mod Halved

@@ -1,6 +1,7 @@
 pub mod Masks
 pub mod Stays
 pub mod Owned
+pub mod BlobMarks
 pub mod Depths
 pub mod SnapshotPlaces
 pub mod Backed

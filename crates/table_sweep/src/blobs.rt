@@ -4,6 +4,7 @@ ghost use Rattle.meta_types.specs.Text.{Text, text_cmp};
 ghost use Rattle.meta_types.specs.Faults.{Refuses};
 ghost use Rattle.object_tables.specs.Calls.{kept};
 ghost use Rattle.row_tables.specs.Arrived.{one_text, sorted};
+ghost use Rattle.table_sweep.specs.BlobMarks.{AreBlobMarks};
 ghost use Rattle.table_sweep.specs.Masks.{gone};
 ghost use Rattle.table_sweep.specs.Owned.{owns_blob};
 
@@ -97,21 +98,23 @@ fn digests_in_order(digests: Vec<Digest>) -> Result<Vec<Digest>, Fault>
     Ok(digests)
 }
 
-// The blobs that no row that stays owns: only these are sorted.
+// The blobs that no row that stays owns, and a mark for each place of one that stays. Only what goes
+// is sorted.
 pub(crate) fn blobs_gone(
     alloc: Global,
     rows: &[&ContentRow],
     mask: &[bool],
     blobs: &RowTable<Digest, Digest>,
-) -> Result<Vec<Digest>, Fault>
+) -> Result<(Vec<Digest>, Vec<bool>), Fault>
     requires { length mask.now ≡ length rows.now }
     ensures fault { Refuses result None }
-    ensures ok { IfOk result (λ v. v.items ≡ filter (λ digest. not
+    ensures ok { IfOk result (λ made. made.0.items ≡ filter (λ digest. not
         (owns_blob (map (λ row. row.now) (kept mask.now rows.now)) digest))
         (sorted one_text blobs.now)) }
+    ensures marks { IfOk result (λ made. AreBlobMarks made.0.items blobs.now made.1.items) }
 {
     let owned = owned_blobs(alloc, rows, mask, blobs)?;
     let gone = unowned(alloc, blobs.rows(), &owned)?;
     let digests = digests_in_order(gone)?;
-    Ok(digests)
+    Ok((digests, owned))
 }

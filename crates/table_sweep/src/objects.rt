@@ -4,6 +4,7 @@ ghost use Rattle.std.specs.List.{flat_map};
 ghost use Rattle.meta_types.specs.Faults.{Refuses};
 ghost use Rattle.meta_types.specs.Backends.{no_objects, removed_objects};
 ghost use Rattle.gc_graph.specs.Stored.{records_of};
+ghost use Rattle.table_sweep.specs.BlobMarks.{AreBlobMarks};
 ghost use Rattle.table_sweep.specs.Stays.{FitRows};
 ghost use Rattle.table_sweep.specs.Depths.{depth_in, key_at, key_of};
 ghost use Rattle.table_sweep.specs.Owned.{object_of, object_cmp, begun_goes, snap_goes};
@@ -107,28 +108,30 @@ fn keys_gone(alloc: Global, owners: &[&SnapRow], snapshots: &[BackSnap]) -> Resu
     Ok(keys)
 }
 
-// The objects that no row owns of those that stay.
+// The objects that no row owns of those that stay, and which blobs stay, by their places.
 pub(crate) fn objects_of(
     alloc: Global,
     rows: &StoreRows<'_>,
     masks: &Masks,
     back: &BackRows<'_>,
-) -> Result<Objects, Fault>
+) -> Result<(Objects, Vec<bool>), Fault>
     requires { FitRows (records_of rows.now).tables (records_of rows.now).leases masks.now }
     ensures fault { Refuses result None }
-    ensures ok { IfOk result (λ objects. objects ≡ removed_objects
+    ensures ok { IfOk result (λ made. made.0 ≡ removed_objects
         (left_by (records_of rows.now) masks.now) no_objects (lists_of back.now)) }
+    ensures blobs { IfOk result (λ made. AreBlobMarks made.0.blobs back.now.blobs.now made.1.items) }
 {
-    let blobs = blobs_gone(alloc, rows.content, &masks.content, back.blobs)?;
+    let (blobs, marks) = blobs_gone(alloc, rows.content, &masks.content, back.blobs)?;
     let owned = begun_owners(alloc, rows.ingests, &masks.ingests)?;
     let ingests = ingests_gone(alloc, &owned, back.ingests)?;
     let owners = snapshot_owners(alloc, rows.snapshots, &masks.snapshots)?;
     let keys = keys_gone(alloc, &owners, back.snapshots)?;
     let keys = in_order(keys)?;
     let snapshots = names_of(alloc, &keys)?;
-    Ok(Objects {
+    let objects = Objects {
         blobs,
         ingests,
         snapshots,
-    })
+    };
+    Ok((objects, marks))
 }

@@ -6,6 +6,7 @@ ghost use Rattle.gc_graph.specs.Marked.{reached_by};
 ghost use Rattle.gc_graph.specs.Stored.{records_of, IsSmall};
 ghost use Rattle.gc_graph.specs.Targets.{nodes_of};
 ghost use Rattle.table_sweep.specs.Backed.{lists_of};
+ghost use Rattle.table_sweep.specs.BlobMarks.{AreBlobMarks};
 ghost use Rattle.table_sweep.specs.InKeyOrder.{records_in_key_order};
 ghost use Rattle.table_sweep.specs.Stays.{AreMasks};
 ghost use Rattle.table_sweep.specs.Plans.{dry_report_of};
@@ -21,10 +22,12 @@ use mark_core::Marks;
 use meta_types::{Fault, Instant};
 use std::alloc::Global;
 
-/// Which rows stay, by their places as they came, and the report of a dry run.
+/// Which rows stay, by their places as they came; which blobs stay, by their places as they were
+/// lent; and the report of a dry run.
 #[derive(Drop)]
 pub struct Plan {
     pub masks: Masks,
+    pub blobs: Vec<bool>,
     pub report: Report,
 }
 
@@ -64,10 +67,12 @@ pub fn plan_of(
     ensures ok { IfOk result (λ plan. plan.report
         ≡ dry_report_of (records_in_key_order (records_of rows.now)) namespaces
         (lists_of back.now) at.0 (reached_by rows.now.profile book.now marks.now at.0)) }
+    ensures blobs { IfOk result (λ plan. AreBlobMarks plan.report.backend.blobs back.now.blobs.now
+        plan.blobs.items) }
 {
     let masks = masks_of(alloc, rows, book, marks, at)?;
     let removed = removed_of(alloc, rows, &masks)?;
-    let backend = objects_of(alloc, rows, &masks, back)?;
+    let (backend, blobs) = objects_of(alloc, rows, &masks, back)?;
     let kept = kept_of(rows, &masks, namespaces);
     let scanned = count_marked(marks, count_nodes(rows)) as u64;
     let Ignored {
@@ -87,5 +92,9 @@ pub fn plan_of(
         removed,
         scanned,
     };
-    Ok(Plan { masks, report })
+    Ok(Plan {
+        masks,
+        blobs,
+        report,
+    })
 }

@@ -6,6 +6,7 @@ use Rattle.meta_types.specs.declared.rows.ContentRow.{ContentRow}
 use Rattle.table_sweep.specs.Masks.{gone}
 use Rattle.table_sweep.specs.Owned.{owns_blob}
 use Rattle.table_sweep.proofs.OwnedBlobs.{gone_sorted}
+use Rattle.table_sweep.proofs.Unnamed.{marks_tell}
 use Rattle.table_sweep.proofs.blobs.blobs_gone.Goals as goal
 
 -- each blob has a mark
@@ -17,3 +18,9 @@ returns-clause-ok c =
     let rows : List ContentRow = map (λ (row : Bor ContentRow). row.now) (kept c.args.mask.now c.args.rows.now) in
     c.in_ok-digests.ensures.ok ∙ ap (sorted one_text) (c.in_ok-gone.ensures.ok ∙ (λ i. gone (c.deref.ensures.value i) (c.rows.ensures.rows i)))
     ∙ gone_sorted (owns_blob rows) c.args.blobs.now c.in_ok-owned.owned.items c.rows.ensures.distinct c.in_ok-owned.ensures.ok
+
+-- and what is marked stays beside them
+pub returns-clause-marks : goal.returns-clause-marks
+returns-clause-marks c =
+    let rows : List ContentRow = map (λ (row : Bor ContentRow). row.now) (kept c.args.mask.now c.args.rows.now) in
+    marks_tell (owns_blob rows) c.args.blobs.now c.in_ok-digests.digests.items c.in_ok-owned.owned.items c.in_ok-owned.ensures.ok (returns-clause-ok c)

@@ -37,3 +37,6 @@ returns-clause-ok c =
     ∙ ap (λ (l : List (Bor SnapRow)). flat_map (λ s. if snap_goes (map (λ (row : Bor SnapRow). row.now) l) s then key_of back.snapshots.now s ∷ [] else []) back.snapshots.now) c.deref-5.ensures.value))
     ∙ snapshots_are tables owners all_snaps back.snapshots.now in
     λ i. record { blobs = blobs i; ingests = ingests i; snapshots = snapshots i }
+
+pub returns-clause-blobs : goal.returns-clause-blobs
+returns-clause-blobs c = c.in_ok-blobs.ensures.marks

@@ -58,3 +58,6 @@ returns-clause-ok c =
       removed = removed i;
       scanned = scanned i;
     }
+
+pub returns-clause-blobs : goal.returns-clause-blobs
+returns-clause-blobs c = c.in_ok-backend.ensures.blobs
