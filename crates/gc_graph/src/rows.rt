@@ -1,6 +1,9 @@
 //! The rows of a store, lent for its graph, and the tables in which they are found.
 
+mod listed;
+
 use lease_book::Lease;
+pub use listed::ListedRows;
 use meta_types::{ContainerRow, ContentRow, Digest, ImageRow, IngestRow, Name, SnapRow};
 use row_tables::{ArrivedByNamespace, ArrivedBySnapshotter};
 

@@ -5,7 +5,6 @@ mod arrived_by_namespace;
 mod arrived_by_snapshotter;
 mod by_namespace;
 mod by_snapshotter;
-mod homes;
 mod listing;
 mod marks;
 mod named;

@@ -2,5 +2,6 @@
 //! are found by halving.
 pub(crate) mod change;
 pub(crate) mod find;
+pub(crate) mod homes;
 pub(crate) mod keep;
 pub(crate) mod list;

@@ -6,8 +6,8 @@ ghost use Rattle.row_tables.specs.Arrived.{sorted, by_name};
 ghost use Rattle.row_tables.specs.Namespaces.{full_key, all_rows};
 ghost use Rattle.row_tables.specs.Came.{AreCame};
 
-use crate::homes::search;
 use crate::named::Named;
+use crate::namespaces::homes::search;
 use crate::row::{GroupedRow, Test};
 use crate::row_table::RowTable;
 use meta_types::ShortName;

@@ -5,9 +5,9 @@ ghost use Rattle.row_tables.specs.Arrived.{sorted, by_name};
 ghost use Rattle.row_tables.specs.Namespaces.{full_key, all_rows};
 ghost use Rattle.row_tables.specs.Came.{AreCame, listed};
 
-use crate::homes::search;
 use crate::listing::{borrow_rows, in_key_order};
 use crate::named::Named;
+use crate::namespaces::homes::search;
 use crate::row::GroupedRow;
 use crate::row_table::RowTable;
 use meta_types::{Fault, ShortName};

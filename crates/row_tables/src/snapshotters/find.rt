@@ -7,8 +7,8 @@ ghost use Rattle.row_tables.specs.Namespaces.{full_key, layered_key, all_rows};
 ghost use Rattle.row_tables.specs.Came.{AreCame};
 
 use crate::arrived_by_namespace::ArrivedByNamespace;
-use crate::homes::search;
 use crate::named::Named;
+use crate::namespaces::homes::search;
 use crate::row::{SnapshotterRow, Test};
 use meta_types::ShortName;
 

@@ -6,8 +6,8 @@ ghost use Rattle.row_tables.specs.Namespaces.{full_key, layered_key, all_rows};
 ghost use Rattle.row_tables.specs.Came.{AreCame, listed};
 
 use crate::arrived_by_namespace::ArrivedByNamespace;
-use crate::homes::search;
 use crate::named::Named;
+use crate::namespaces::homes::search;
 use crate::row::SnapshotterRow;
 use meta_types::{Fault, ShortName};
 use std::alloc::Global;

@@ -3,7 +3,7 @@ use Rattle.meta_types.specs.declared.rows.ContentRow.{ContentRow}
 use Rattle.meta_types.specs.declared.rows.IngestRow.{IngestRow}
 use Rattle.meta_types.specs.declared.rows.SnapRow.{SnapRow}
 use Rattle.gc_graph.proofs.RowsApart.{apart_from}
-use Rattle.gc_graph.proofs.listed.ListedRows.rows.Goals as goal
+use Rattle.gc_graph.proofs.rows.listed.ListedRows.rows.Goals as goal
 
 -- no key stands twice in the tables, whose rows are listed
 pub returns-clause-apart : goal.returns-clause-apart
