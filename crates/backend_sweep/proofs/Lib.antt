@@ -18,6 +18,7 @@ pub mod Backs
 pub mod Allowed
 pub mod Placed
 pub mod Fated
+pub mod OnePass
 pub mod OnePart
 pub mod NamesStand
 pub mod LastLane

@@ -4,6 +4,7 @@ ghost use Rattle.meta_types.specs.Faults.{Refuses, unless};
 ghost use Rattle.meta_types.specs.Limits.{is_worker_count};
 ghost use Rattle.meta_types.specs.declared.fault.Fault.TheVariants.{InvalidArgument};
 ghost use Rattle.back_model.specs.Shown.{all_failures};
+ghost use Rattle.table_sweep.specs.BlobMarks.{AreBlobMarks};
 ghost use Rattle.backend_sweep.specs.Planned.{IsPlanned};
 ghost use Rattle.backend_sweep.specs.Fated.{AreFatesOf, failed_of};
 ghost use Rattle.backend_sweep.specs.Lanes.{fate_of};
@@ -31,14 +32,17 @@ fn set_snapshots(lanes: &[ShardPlan], plan: &Plan, fates: &mut Fates)
     set_fates(lanes, &plan.report.backend.snapshots, &mut fates.snapshots);
 }
 
-/// Removes what the plan names, on the calling thread. Nothing is removed where it is refused.
+/// Removes what the plan names, on the calling thread; the plan's marks of blobs are of their order
+/// as the backend lends them. Nothing is removed where it is refused.
 pub fn sweep_plain<S: SnapBackend, B: BlobBackend, I: IngestBackend>(
     alloc: Global,
     backends: &mut Backends<S, B, I>,
     plan: &Plan,
 ) -> Result<Fates, Fault>
-    requires { IsPlanned (held_in backends.old.shards (B.contents backends.old.blobs)
+    requires planned { IsPlanned (held_in backends.old.shards (B.contents backends.old.blobs)
         (I.contents backends.old.ingests)) plan.now }
+    requires marks { AreBlobMarks plan.now.report.backend.blobs (B.came backends.old.blobs)
+        plan.now.blobs.items }
     ensures fault { Refuses result None }
     ensures ok { IfOk result (SweepsNames plan.now.report.backend
         (held_in backends.old.shards (B.contents backends.old.blobs)
@@ -70,7 +74,8 @@ pub fn sweep_plain<S: SnapBackend, B: BlobBackend, I: IngestBackend>(
 
 /// Removes the objects that the plan names, and runs a task beside, which is to remove the plan's
 /// rows. Each shard is a task of the workers, and so are the blobs, and the task. Ingests go last.
-/// Nothing is removed, and the task isn't run, where it is refused.
+/// The plan's marks of blobs are of their order as the backend lends them. Nothing is removed, and
+/// the task isn't run, where it is refused.
 pub fn sweep_shards<
     R: Threads + Sync,
     S: SnapBackend,
@@ -89,6 +94,8 @@ pub fn sweep_shards<
 ) -> Result<Fates, Fault>
     requires planned { IsPlanned (held_in backends.old.shards (B.contents backends.old.blobs)
         (I.contents backends.old.ingests)) plan.now }
+    requires marks { AreBlobMarks plan.now.report.backend.blobs (B.came backends.old.blobs)
+        plan.now.blobs.items }
     requires beside { F.pre beside.old }
     ensures fault { Refuses result (unless (is_worker_count workers) InvalidArgument) }
     ensures ok { IfOk result (SweepsNames plan.now.report.backend

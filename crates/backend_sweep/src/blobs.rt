@@ -1,15 +1,16 @@
 //! The sweep of blobs.
-ghost use Rattle.std.specs.Prelude.{◌≡◌, length, bytes_eq};
+ghost use Rattle.std.specs.Prelude.{◌≡◌, length, map, bytes_eq};
+ghost use Rattle.table_sweep.specs.BlobMarks.{AreBlobMarks};
 ghost use Rattle.backend_sweep.specs.Fated.{names_with, was_removed, has_failed};
 ghost use Rattle.backend_sweep.specs.Singles.{AreHeldOnce, SweepsEach};
+ghost use Rattle.backend_sweep.specs.declared.fates.Fate.TheVariants.{Removed};
 
 use crate::fates::Fate;
 use back_model::BlobBackend;
 use meta_types::Digest;
 
-/// Removes the blobs, and sets what became of each; one that the device fails stays. It takes no
-/// memory.
-pub(crate) fn sweep_blobs<B: BlobBackend>(backend: &mut B, names: &[Digest], fates: &mut [Fate])
+// Removes the blobs one by one, and sets what became of each; one that the device fails stays.
+fn remove_each<B: BlobBackend>(backend: &mut B, names: &[Digest], fates: &mut [Fate])
     requires names { AreHeldOnce bytes_eq names.now (B.contents backend.old) }
     requires fates { length fates.old ≡ length names.now }
     ensures swept { SweepsEach bytes_eq names.now (B.contents backend.old) (B.contents backend.new)
@@ -23,4 +24,38 @@ pub(crate) fn sweep_blobs<B: BlobBackend>(backend: &mut B, names: &[Digest], fat
             Err(_) => fates[i] = Fate::Failed,
         }
     }
+}
+
+// Sets that all of these went.
+fn set_removed(names: &[Digest], fates: &mut [Fate])
+    requires { length fates.old ≡ length names.now }
+    ensures { fates.new ≡ map (λ _. Removed) names.now }
+{
+    for i in 0..names.len() {
+        fates[i] = Fate::Removed;
+    }
+}
+
+/// Removes the blobs, and sets what became of each; one that the device fails stays. The marks say
+/// of all blobs which stay, so a backend that can't fail leaves these in one pass. It takes no
+/// memory.
+pub(crate) fn sweep_blobs<B: BlobBackend>(
+    backend: &mut B,
+    names: &[Digest],
+    marks: &[bool],
+    fates: &mut [Fate],
+)
+    requires names { AreHeldOnce bytes_eq names.now (B.contents backend.old) }
+    requires marks { AreBlobMarks names.now (B.came backend.old) marks.now }
+    requires fates { length fates.old ≡ length names.now }
+    ensures swept { SweepsEach bytes_eq names.now (B.contents backend.old) (B.contents backend.new)
+        (names_with was_removed names.now fates.new) (names_with has_failed names.now fates.new)
+        (B.fails backend.old) (B.fails backend.new) }
+    ensures fates { length fates.new ≡ length names.now }
+{
+    if backend.retain(marks) {
+        set_removed(names, fates);
+        return;
+    }
+    remove_each(backend, names, fates);
 }

@@ -3,6 +3,7 @@ ghost use Rattle.std.specs.Prelude.{◌≡◌, ◌<◌, ◌≤◌, ℕ, [], leng
 ghost use Rattle.std.specs.Vec.{vec_capacity};
 ghost use Rattle.meta_types.specs.Faults.{Refuses};
 ghost use Rattle.back_model.specs.Shown.{shown};
+ghost use Rattle.table_sweep.specs.BlobMarks.{AreBlobMarks};
 ghost use Rattle.backend_sweep.specs.Fated.{AreFatesOf, removed_of, failed_of};
 ghost use Rattle.backend_sweep.specs.Lanes.{lane_for, IsReady, SweepsLane};
 ghost use Rattle.backend_sweep.specs.Parts.{StandBySnapshotter};
@@ -180,6 +181,8 @@ pub(crate) fn sweep_beside<
         (slice_index_or lanes.items i e) }
     requires blobs { AreHeldOnce bytes_eq plan.now.report.backend.blobs
         (B.contents backends.old.blobs) }
+    requires marks { AreBlobMarks plan.now.report.backend.blobs (B.came backends.old.blobs)
+        plan.now.blobs.items }
     requires ingests { AreHeldOnce is_number plan.now.report.backend.ingests
         (I.contents backends.old.ingests) }
     requires fates { AreFatesOf plan.now.report.backend fates.old }

@@ -2,6 +2,7 @@
 ghost use Rattle.std.specs.Prelude.{◌≡◌, ◌<◌, ℕ, length, All, bytes_eq, slice_index_or};
 ghost use Rattle.std.specs.Thread.{IsSync, IsSend};
 ghost use Rattle.back_model.specs.Shown.{shown};
+ghost use Rattle.table_sweep.specs.BlobMarks.{AreBlobMarks};
 ghost use Rattle.backend_sweep.specs.Fated.{AreFatesOf, names_with, was_removed, has_failed, removed_of, failed_of};
 ghost use Rattle.backend_sweep.specs.Lanes.{IsReady, SweepsLane};
 ghost use Rattle.backend_sweep.specs.Shards.{is_number};
@@ -68,6 +69,8 @@ pub(crate) fn sweep_singles<S: SnapBackend, B: BlobBackend, I: IngestBackend>(
 )
     requires blobs { AreHeldOnce bytes_eq plan.now.report.backend.blobs
         (B.contents backends.old.blobs) }
+    requires marks { AreBlobMarks plan.now.report.backend.blobs (B.came backends.old.blobs)
+        plan.now.blobs.items }
     requires ingests { AreHeldOnce is_number plan.now.report.backend.ingests
         (I.contents backends.old.ingests) }
     requires fates { AreFatesOf plan.now.report.backend fates.old }
@@ -85,7 +88,8 @@ pub(crate) fn sweep_singles<S: SnapBackend, B: BlobBackend, I: IngestBackend>(
     ensures shards { backends.new.shards ≡ backends.old.shards }
 {
     let objects = &plan.report.backend;
-    sweep_blobs(backends.blobs_mut(), &objects.blobs, &mut fates.blobs);
+    let set = &mut fates.blobs;
+    sweep_blobs(backends.blobs_mut(), &objects.blobs, &plan.blobs, set);
     sweep_ingests(backends.ingests_mut(), &objects.ingests, &mut fates.ingests);
 }
 
@@ -95,11 +99,13 @@ fn sweep_rest<R: Threads + Sync, B: BlobBackend, F: FnMut() + Send>(
     rt: &R,
     at_once: bool,
     names: &[Digest],
+    marks: &[bool],
     backend: &mut B,
     fates: &mut [Fate],
     beside: &mut F,
 )
     requires names { AreHeldOnce bytes_eq names.now (B.contents backend.old) }
+    requires marks { AreBlobMarks names.now (B.came backend.old) marks.now }
     requires fates { length fates.old ≡ length names.now }
     requires beside { F.pre beside.old }
     ensures swept { SweepsEach bytes_eq names.now (B.contents backend.old) (B.contents backend.new)
@@ -114,6 +120,7 @@ fn sweep_rest<R: Threads + Sync, B: BlobBackend, F: FnMut() + Send>(
         beside,
         &mut ||
             requires { AreHeldOnce bytes_eq names.now (B.contents backend.now)
+                × AreBlobMarks names.now (B.came backend.now) marks.now
                 × (length fates.now ≡ length names.now) }
             ensures swept { SweepsEach bytes_eq names.entry.now (B.contents backend.entry.now)
                 (B.contents backend.exit.now)
@@ -121,7 +128,7 @@ fn sweep_rest<R: Threads + Sync, B: BlobBackend, F: FnMut() + Send>(
                 (names_with has_failed names.entry.now fates.exit.now)
                 (B.fails backend.entry.now) (B.fails backend.exit.now) }
             ensures fates { length fates.exit.now ≡ length names.entry.now }
-        { sweep_blobs(backend, names, fates) },
+        { sweep_blobs(backend, names, marks, fates) },
     );
 }
 
@@ -142,6 +149,7 @@ fn sweep_at_once<
     split: bool,
     jobs: &mut [ShardJob<S>],
     names: &[Digest],
+    marks: &[bool],
     backend: &mut B,
     fates: &mut [Fate],
     beside: &mut F,
@@ -149,6 +157,7 @@ fn sweep_at_once<
     requires workers { 0 < workers }
     requires ready { All (λ job. IsReady (shown S.contents S.fails job.entry) job.lane) jobs.old }
     requires names { AreHeldOnce bytes_eq names.now (B.contents backend.old) }
+    requires marks { AreBlobMarks names.now (B.came backend.old) marks.now }
     requires fates { length fates.old ≡ length names.now }
     requires beside { F.pre beside.old }
     ensures length { length jobs.new ≡ length jobs.old }
@@ -177,6 +186,7 @@ fn sweep_at_once<
         &mut ||
             requires { IsSync R.row × IsSend F.row × F.pre beside.now
                 × AreHeldOnce bytes_eq names.now (B.contents backend.now)
+                × AreBlobMarks names.now (B.came backend.now) marks.now
                 × (length fates.now ≡ length names.now) }
             ensures swept { SweepsEach bytes_eq names.entry.now (B.contents backend.entry.now)
                 (B.contents backend.exit.now)
@@ -185,7 +195,7 @@ fn sweep_at_once<
                 (B.fails backend.entry.now) (B.fails backend.exit.now) }
             ensures fates { length fates.exit.now ≡ length names.entry.now }
             ensures beside { F.step beside.entry.now tt beside.exit.now }
-        { sweep_rest(rt, split, names, backend, fates, beside) },
+        { sweep_rest(rt, split, names, marks, backend, fates, beside) },
     );
 }
 
@@ -214,6 +224,8 @@ pub(crate) fn sweep_tasks<
     requires ready { All (λ job. IsReady (shown S.contents S.fails job.entry) job.lane) jobs.old }
     requires blobs { AreHeldOnce bytes_eq plan.now.report.backend.blobs
         (B.contents backends.old.blobs) }
+    requires marks { AreBlobMarks plan.now.report.backend.blobs (B.came backends.old.blobs)
+        plan.now.blobs.items }
     requires ingests { AreHeldOnce is_number plan.now.report.backend.ingests
         (I.contents backends.old.ingests) }
     requires fates { AreFatesOf plan.now.report.backend fates.old }
@@ -250,6 +262,7 @@ pub(crate) fn sweep_tasks<
         split,
         jobs,
         &plan.report.backend.blobs,
+        &plan.blobs,
         backends.blobs_mut(),
         &mut fates.blobs,
         beside,

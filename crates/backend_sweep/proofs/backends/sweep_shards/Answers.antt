@@ -1,5 +1,6 @@
 use Rattle.std.proofs.Common.{rules, ◌≡◌, ◌∙◌, sym, ap, refl, subst, map, bytes_eq}
 use Rattle.back_model.specs.Shown.{shown}
+use Rattle.table_sweep.specs.BlobMarks.{AreBlobMarks}
 use Rattle.backend_sweep.specs.Fated.{AllFates, removed_of, failed_of}
 use Rattle.backend_sweep.specs.Shards.{is_number}
 use Rattle.backend_sweep.specs.Singles.{AreHeldOnce}
@@ -28,6 +29,12 @@ pub sweep_beside-shards-requires-clause-blobs : goal.sweep_beside-shards-require
 sweep_beside-shards-requires-clause-blobs g c κs within =
     let back_is : c.take_shards-shards.new.self.blobs ≡ c.args.backends.now.blobs = ap (λ b. b.blobs) c.take_shards-shards.ensures.none in
     subst (λ b. AreHeldOnce bytes_eq c.args.plan.now.report.backend.blobs (g.B.BlobBackend.contents b)) (sym back_is) (held_blobs _ _ _ c.args.plan.now.report.backend (may_sweep _ _ c.requires.planned))
+
+-- and taking the shards leaves the blobs' places
+pub sweep_beside-shards-requires-clause-marks : goal.sweep_beside-shards-requires-clause-marks
+sweep_beside-shards-requires-clause-marks g c κs within =
+    let back_is : c.take_shards-shards.new.self.blobs ≡ c.args.backends.now.blobs = ap (λ b. b.blobs) c.take_shards-shards.ensures.none in
+    subst (λ b. AreBlobMarks c.args.plan.now.report.backend.blobs (g.B.BlobBackend.came b) c.args.plan.now.blobs.items) (sym back_is) c.requires.marks
 
 pub sweep_beside-shards-requires-clause-ingests : goal.sweep_beside-shards-requires-clause-ingests
 sweep_beside-shards-requires-clause-ingests g c κs within =

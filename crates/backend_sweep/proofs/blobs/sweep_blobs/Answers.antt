@@ -1,39 +1,30 @@
-use Rattle.std.proofs.Common.{rules, ◌≡◌, ◌∙◌, sym, refl, ◌++◌, ◌∷◌, [], bytes_eq, length, take, drop, slice_set, ◌<◌, ◌+◌, subst, append-nil}
-use Rattle.std.proofs.lemmas.Slice.Eq.{bytes_eq-Decides}
-use Rattle.backend_sweep.specs.Singles.{SweepsEach}
-use Rattle.backend_sweep.proofs.SweptLists.{begun, more_removed, more_failed}
-use Rattle.backend_sweep.specs.Fated.{names_with, was_removed, has_failed}
-use Rattle.backend_sweep.specs.declared.fates.Fate.TheVariants as F
-use Rattle.backend_sweep.proofs.Fated.{one_more, took_at, whole_at}
-use Rattle.backend_sweep.proofs.blobs.sweep_blobs.Goals.{in-Ok, in-Err}
+use Rattle.std.proofs.Common.{◌≡◌, ◌∙◌, sym, ap, subst, length, bytes_eq, List}
+use Rattle.std.proofs.lemmas.List.{length-map}
+use Rattle.meta_types.specs.Text.{Text}
+use Rattle.table_sweep.specs.BlobMarks.{is_unnamed}
+use Rattle.backend_sweep.specs.Singles.{AreHeldOnce}
+use Rattle.backend_sweep.proofs.OnePass.{all_went, same_before}
 use Rattle.backend_sweep.proofs.blobs.sweep_blobs.Goals as goal
 
-pub loop-i-init : goal.loop-i-init
-loop-i-init g c = record {
-  swept = begun bytes_eq (λ x y. (bytes_eq-Decides x y).0) (λ x y. (bytes_eq-Decides x y).1) _ _ _ _ refl refl;
-  same = c.requires.fates;
-}
+-- there is a mark for each blob
+pub retain-requires : goal.retain-requires
+retain-requires g c =
+    ap length c.requires.marks ∙ length-map (g.B.BlobBackend.came c.args.backend.now) (is_unnamed c.args.names.now)
 
-pub loop-i-preserved : goal.loop-i-preserved
-loop-i-preserved g c =
-    let i = c.loop-i.invariant in
-    let n = c.index-names-i.result in
-    let names = c.args.names.now in
-    let done = take c.loop-i.i names in
-    let took : take (c.loop-i.i + 1) names ≡ done ++ n ∷ [] = took_at names c.loop-i.i n c.index-names-i.is (search rules) in
-    let whole : done ++ n ∷ drop (c.loop-i.i + 1) names ≡ names = whole_at names c.loop-i.i n took in
-    let here : c.loop-i.i < length c.loop-i.fates = search rules in
-    elim c.match-remove.branch [
-      | in-Ok w ↦ rw w.fates-is (record {
-        swept = subst (λ d. SweepsEach bytes_eq d (g.B.BlobBackend.contents c.args.backend.now) (g.B.BlobBackend.contents c.remove.new.self) (names_with was_removed (take (c.loop-i.i + 1) names) (take (c.loop-i.i + 1) (slice_set c.loop-i.fates c.loop-i.i F.Removed))) (names_with has_failed (take (c.loop-i.i + 1) names) (take (c.loop-i.i + 1) (slice_set c.loop-i.fates c.loop-i.i F.Removed))) (g.B.BlobBackend.fails c.args.backend.now) (g.B.BlobBackend.fails c.remove.new.self)) (sym took)
-            (subst (λ l. SweepsEach bytes_eq (done ++ n ∷ []) (g.B.BlobBackend.contents c.args.backend.now) (g.B.BlobBackend.contents c.remove.new.self) (names_with was_removed (take (c.loop-i.i + 1) names) (take (c.loop-i.i + 1) (slice_set c.loop-i.fates c.loop-i.i F.Removed))) l (g.B.BlobBackend.fails c.args.backend.now) (g.B.BlobBackend.fails c.remove.new.self)) (sym (one_more has_failed names c.loop-i.fates c.loop-i.i n F.Removed took here i.same ∙ append-nil _))
-            (more_removed bytes_eq (λ x y. (bytes_eq-Decides x y).0) (λ x y. (bytes_eq-Decides x y).1) names _ c.requires.names done (drop (c.loop-i.i + 1) names) n whole _ _ _ _ _ _ _ _ i.swept (one_more was_removed names c.loop-i.fates c.loop-i.i n F.Removed took here i.same) w.in-Ok.ensures.ok w.in-Ok.ensures.fails));
-        same = search rules;
-      })
-      | in-Err w ↦ rw w.fates-is (record {
-        swept = subst (λ d. SweepsEach bytes_eq d (g.B.BlobBackend.contents c.args.backend.now) (g.B.BlobBackend.contents c.remove.new.self) (names_with was_removed (take (c.loop-i.i + 1) names) (take (c.loop-i.i + 1) (slice_set c.loop-i.fates c.loop-i.i F.Failed))) (names_with has_failed (take (c.loop-i.i + 1) names) (take (c.loop-i.i + 1) (slice_set c.loop-i.fates c.loop-i.i F.Failed))) (g.B.BlobBackend.fails c.args.backend.now) (g.B.BlobBackend.fails c.remove.new.self)) (sym took)
-            (subst (λ l. SweepsEach bytes_eq (done ++ n ∷ []) (g.B.BlobBackend.contents c.args.backend.now) (g.B.BlobBackend.contents c.remove.new.self) l (names_with has_failed (take (c.loop-i.i + 1) names) (take (c.loop-i.i + 1) (slice_set c.loop-i.fates c.loop-i.i F.Failed))) (g.B.BlobBackend.fails c.args.backend.now) (g.B.BlobBackend.fails c.remove.new.self)) (sym (one_more was_removed names c.loop-i.fates c.loop-i.i n F.Failed took here i.same ∙ append-nil _))
-            (more_failed bytes_eq (λ x y. (bytes_eq-Decides x y).0) (λ x y. (bytes_eq-Decides x y).1) names _ c.requires.names done (drop (c.loop-i.i + 1) names) n whole _ _ _ _ _ _ _ _ w.in-Err.field-0 i.swept (one_more has_failed names c.loop-i.fates c.loop-i.i n F.Failed took here i.same) w.in-Err.ensures.fault w.in-Err.ensures.err w.in-Err.ensures.fails));
-        same = search rules;
-      })
-    ]
+-- in one pass all went that are named
+pub returns-then-retain-clause-swept : goal.returns-then-retain-clause-swept
+returns-then-retain-clause-swept g c =
+    all_went bytes_eq c.args.names.now _ _ c.set_removed.new.fates _ _ c.set_removed.ensures
+    (c.retain.ensures.kept c.if-retain.true (is_unnamed c.args.names.now) c.requires.marks) c.retain.ensures.fails
+
+pub returns-then-retain-clause-fates : goal.returns-then-retain-clause-fates
+returns-then-retain-clause-fates g c = ap length c.set_removed.ensures ∙ length-map c.args.names.now _
+
+-- where nothing was changed, each is still there
+pub remove_each-requires-clause-names : goal.remove_each-requires-clause-names
+remove_each-requires-clause-names g c κs within =
+    subst (λ (held : List Text). AreHeldOnce bytes_eq c.args.names.now held) (sym (c.retain.ensures.same c.if-retain.false)) c.requires.names
+
+pub returns-clause-swept : goal.returns-clause-swept
+returns-clause-swept g c =
+    same_before bytes_eq c.args.names.now _ _ _ _ _ _ _ _ (c.retain.ensures.same c.if-retain.false) c.retain.ensures.fails c.remove_each.ensures.swept

@@ -1,7 +1,7 @@
 use Rattle.std.proofs.Common.{◌≡◌, length, take, bytes_eq}
 use Rattle.backend_sweep.specs.Singles.{SweepsEach}
 use Rattle.backend_sweep.specs.Fated.{names_with, was_removed, has_failed}
-use Rattle.backend_sweep.proofs.blobs.sweep_blobs.Given as goal
+use Rattle.backend_sweep.proofs.blobs.remove_each.Given as goal
 
 -- the names so far are swept, as the fates so far say
 abbrev pub invariant-loop-i : goal.invariant-loop-i
