@@ -1,29 +1,18 @@
 -- What is said of the rows that were read holds of the records that they were read from: namespaces
 -- and the next number lead no path anywhere.
-use Rattle.std.proofs.Common.{inl, ◌≡◌, ◌≢◌, ◌+◌, ℕ, Bool, true, false, not, List, [], ◌∷◌, length, refl, sym, ap, ◌∙◌, subst, arith, ℤ}
-use Rattle.std.specs.Prelude.{All, AllPairs, Contains, IsTrue, Option, None, Result, Ok, Err, OnErr, ◌*◌, nat_lt}
-use Rattle.std.specs.List.{IsDistinct, AllByRecursion}
-use Rattle.std.proofs.lemmas.List.Elements.{All-nil}
-use Rattle.std.proofs.lemmas.List.Kept.{AllPairs-cons}
+use Rattle.std.proofs.Common.{inl, ◌≡◌, ◌+◌, ℕ, Bool, true, false, not, List, [], ◌∷◌, length, refl, sym, ap, ◌∙◌, subst, ℤ}
+use Rattle.std.specs.Prelude.{Contains, IsTrue, None, Result, Ok, Err, OnErr, ◌*◌, nat_lt}
 use Rattle.std.specs.Result.{IsErrAnd}
-use Rattle.meta_types.specs.Keys.{Key, is_key}
 use Rattle.meta_types.specs.Limits.{is_worker_count, is_too_large}
 use Rattle.meta_types.specs.declared.limits.TheConstants.{MAX_NODES}
-use Rattle.row_tables.specs.Arrived.{same_key, keys_equiv}
-use Rattle.row_tables.proofs.JoinedLists.{all_cons}
 use Rattle.table_sweep.specs.InKeyOrder.{records_in_key_order}
 use Rattle.table_sweep.proofs.CameRecords.{as_large}
 use Rattle.meta_types.specs.Reports.{Report}
-use Rattle.meta_types.specs.Steps.{collect_fault}
 use Rattle.meta_types.specs.declared.fault.Fault.{Fault}
 use Rattle.meta_types.specs.declared.fault.Fault.TheVariants.{InvalidArgument, OutOfMemory}
 use Rattle.steal_mark.specs.Refusing.{RefusesThreads}
 use Rattle.meta_types.specs.Faults.{least_of, Refuses, unless}
-use Rattle.meta_types.specs.Rows.{Records, BackLists, content_key, ingest_key, snap_key}
-use Rattle.meta_types.specs.declared.rows.ContentRow.{ContentRow}
-use Rattle.meta_types.specs.declared.rows.IngestRow.{IngestRow}
-use Rattle.meta_types.specs.declared.rows.SnapRow.{SnapRow}
-use Rattle.gc_graph.specs.Built.{AreApart}
+use Rattle.meta_types.specs.Rows.{Records, BackLists}
 use Rattle.meta_types.specs.Paths.{Thing, things, is_root, IsPath, TellsReached}
 use Rattle.table_sweep.specs.declared.planning.Plan.{Plan}
 use Rattle.table_sweep.specs.Plans.{dry_report_of, IsPlanOfRows}
@@ -45,30 +34,6 @@ tells_as a b at reached t p h = record {
         (λ r. (let q = e.0 r in (q.0, path_as a b at t p thing q.0 q.1))),
         (λ q. e.1 (q.0, path_as b a at (sym t) (sym p) thing q.0 q.1)),
       );
-}
-
--- ---- keys
-
-other_keys : {Row : Type 0} (key_of : Row → Key) (row : Row) (rows : List Row) → AllByRecursion (λ other. same_key key_of row other ≡ false) rows → All (λ other. key_of row ≢ key_of other) rows
-other_keys key_of row [] apart = All-nil (λ other. key_of row ≢ key_of other)
-other_keys key_of row (next ∷ rows) apart =
-    all_cons (λ other. key_of row ≢ key_of other) next rows
-    (λ e. absurd (cc (sym (keys_equiv.refl (key_of row)) ∙ ap (is_key (key_of row)) e ∙ apart.0)))
-    (other_keys key_of row rows apart.1)
-
--- of distinct rows no two have one key
-keys_apart : {Row : Type 0} (key_of : Row → Key) (rows : List Row) → IsDistinct (same_key key_of) rows → AllPairs (λ a b. key_of a ≢ key_of b) rows
-unfolding IsDistinct
-keys_apart key_of [] d = λ i j e lt within. absurd (omega (arith, within))
-keys_apart key_of (row ∷ rows) d = AllPairs-cons (λ a b. key_of a ≢ key_of b) row rows (other_keys key_of row rows d.0) (keys_apart key_of rows d.1)
-
--- rows that are lent of tables as they came have keys of their own
-pub apart_from : (a b : Records) → a.tables.content ≡ b.tables.content → a.tables.ingests ≡ b.tables.ingests → a.tables.snapshots ≡ b.tables.snapshots
-    → IsDistinct (same_key content_key) b.tables.content → IsDistinct (same_key ingest_key) b.tables.ingests → IsDistinct (same_key snap_key) b.tables.snapshots → AreApart a
-apart_from a b content ingests snapshots c g s = record {
-  content = subst (λ (rows : List ContentRow). AllPairs (λ (x y : ContentRow). content_key x ≢ content_key y) rows) (sym content) (keys_apart content_key b.tables.content c);
-  ingests = subst (λ (rows : List IngestRow). AllPairs (λ (x y : IngestRow). ingest_key x ≢ ingest_key y) rows) (sym ingests) (keys_apart ingest_key b.tables.ingests g);
-  snapshots = subst (λ (rows : List SnapRow). AllPairs (λ (x y : SnapRow). snap_key x ≢ snap_key y) rows) (sym snapshots) (keys_apart snap_key b.tables.snapshots s);
 }
 
 -- ---- records that agree but for namespaces and the next number
@@ -152,9 +117,8 @@ pub large_as : (a b : Records) → a.tables.content ≡ b.tables.content → a.t
 large_as a b content ingests snapshots = λ i. nat_lt MAX_NODES (2 * (length (content i) + length (snapshots i)) + length (ingests i))
 
 -- rows in order are as many as those that came
-pub large_came : (a came : Records) → a.tables.content ≡ came.tables.content → a.tables.ingests ≡ came.tables.ingests → a.tables.snapshots ≡ came.tables.snapshots
-    → is_too_large (records_in_key_order came) ≡ false → is_too_large a ≡ false
-large_came a came content ingests snapshots few = large_as a came content ingests snapshots ∙ sym (as_large came) ∙ few
+pub large_came : (rows came : Records) → rows ≡ came → is_too_large (records_in_key_order came) ≡ false → is_too_large rows ≡ false
+large_came rows came e few = ap is_too_large e ∙ sym (as_large came) ∙ few
 
 -- ---- checks
 

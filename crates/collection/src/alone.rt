@@ -5,20 +5,15 @@ ghost use Rattle.meta_types.specs.Limits.{is_too_large};
 ghost use Rattle.meta_types.specs.Reports.{Plans};
 ghost use Rattle.gc_graph.specs.Built.{AreApart};
 ghost use Rattle.gc_graph.specs.Stored.{records_of, AreLent};
-ghost use Rattle.collection.specs.Arrived.{lent_in};
 ghost use Rattle.collection.specs.Stores.{records_in};
 ghost use Rattle.table_sweep.specs.Backed.{lists_of};
-ghost use Rattle.table_sweep.specs.InKeyOrder.{records_in_key_order};
 ghost use Rattle.table_sweep.specs.Plans.{IsPlanOfRows, IsPlanOf};
 
-use gc_graph::{RowPlaces, StoreRows, build};
+use gc_graph::{ListedRows, StoreRows, build};
 use gc_report::Report;
-use lease_book::Lease;
 use mark_core::mark_plain;
-use meta_types::{Fault, Instant, Name};
-use object_tables::ArrivedRows;
+use meta_types::{Fault, Instant};
 use request_core::Records;
-use row_tables::ArrivedByNamespace;
 use std::alloc::Global;
 use std::thread::Threads;
 use table_sweep::{BackRows, Plan, plan_of};
@@ -45,50 +40,6 @@ fn plan_rows<R: Threads + Sync>(
     Ok(plan)
 }
 
-fn plan_came<R: Threads + Sync>(
-    rt: &R,
-    alloc: Global,
-    came: &ArrivedRows<'_>,
-    leases: &ArrivedByNamespace<Name, Lease>,
-    profile: u8,
-    namespaces: u64,
-    back: &BackRows<'_>,
-    at: Instant,
-) -> Result<Plan, Fault>
-    requires { is_too_large (records_in_key_order (lent_in came.now leases.now profile))
-        ≡ false }
-    ensures fault { Refuses result None }
-    ensures ok { IfOk result (λ plan. IsPlanOfRows (lent_in came.now leases.now profile) namespaces
-        (lists_of back.now) at.0 plan) }
-{
-    // The clauses of `len` say that no key stands twice.
-    let _ = came.ingests.len();
-    let _ = came.content.len();
-    let _ = came.snapshots.len();
-    let images = came.images.list_came(alloc)?;
-    let containers = came.containers.list_came(alloc)?;
-    let held = leases.list_came(alloc)?;
-    let ingests = came.ingests.list_came(alloc)?;
-    let content = came.content.list_came(alloc)?;
-    let snapshots = came.snapshots.list_came(alloc)?;
-    let rows = StoreRows {
-        images: &images,
-        containers: &containers,
-        leases: &held,
-        ingests: &ingests,
-        content: &content,
-        snapshots: &snapshots,
-        places: RowPlaces {
-            ingests: came.ingests,
-            content: came.content,
-            snapshots: came.snapshots,
-        },
-        profile,
-    };
-    let plan = plan_rows(rt, alloc, &rows, namespaces, back, at)?;
-    Ok(plan)
-}
-
 fn plan_alone<R: Threads + Sync>(
     rt: &R,
     alloc: Global,
@@ -104,16 +55,9 @@ fn plan_alone<R: Threads + Sync>(
     let came = records.tables.came();
     let leases = records.leases.came();
     let namespaces = records.tables.count_ns();
-    let plan = plan_came(
-        rt,
-        alloc,
-        &came,
-        leases,
-        records.profile,
-        namespaces,
-        back,
-        at,
-    )?;
+    let listed = ListedRows::new(alloc, &came, leases, records.profile)?;
+    let rows = listed.rows();
+    let plan = plan_rows(rt, alloc, &rows, namespaces, back, at)?;
     Ok(plan)
 }
 

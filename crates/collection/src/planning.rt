@@ -4,9 +4,9 @@ ghost use Rattle.meta_types.specs.Limits.{is_worker_count, is_too_large};
 ghost use Rattle.meta_types.specs.Sound.{AreTables};
 ghost use Rattle.meta_types.specs.Steps.{collect_fault};
 ghost use Rattle.gc_graph.specs.Built.{AreApart};
+ghost use Rattle.gc_graph.specs.Lent.{lent_in};
 ghost use Rattle.gc_graph.specs.Stored.{records_of, AreLent};
 ghost use Rattle.steal_mark.specs.Refusing.{RefusesThreads};
-ghost use Rattle.collection.specs.Arrived.{lent_in};
 ghost use Rattle.collection.specs.Stores.{records_in};
 ghost use Rattle.table_sweep.specs.Backed.{lists_of};
 ghost use Rattle.table_sweep.specs.InKeyOrder.{records_in_key_order};
@@ -14,7 +14,7 @@ ghost use Rattle.table_sweep.specs.Plans.{IsPlanOfRows};
 ghost use Rattle.backend_sweep.specs.Planned.{IsPlanOf};
 
 use crate::checks::check;
-use gc_graph::{RowPlaces, StoreRows, build};
+use gc_graph::{ListedRows, StoreRows, build};
 use lease_book::Lease;
 use meta_types::{Fault, Instant, Name};
 use object_tables::ArrivedRows;
@@ -70,30 +70,8 @@ pub(crate) fn plan_came<R: Threads + Wait + Sync, G: Gate>(
     ensures ok { IfOk result (λ plan. IsPlanOfRows (lent_in came.now leases.now profile) namespaces
         (lists_of back.now) at.0 plan) }
 {
-    // The clauses of `len` say that no key stands twice.
-    let _ = came.ingests.len();
-    let _ = came.content.len();
-    let _ = came.snapshots.len();
-    let images = came.images.list_came(alloc)?;
-    let containers = came.containers.list_came(alloc)?;
-    let held = leases.list_came(alloc)?;
-    let ingests = came.ingests.list_came(alloc)?;
-    let content = came.content.list_came(alloc)?;
-    let snapshots = came.snapshots.list_came(alloc)?;
-    let rows = StoreRows {
-        images: &images,
-        containers: &containers,
-        leases: &held,
-        ingests: &ingests,
-        content: &content,
-        snapshots: &snapshots,
-        places: RowPlaces {
-            ingests: came.ingests,
-            content: came.content,
-            snapshots: came.snapshots,
-        },
-        profile,
-    };
+    let listed = ListedRows::new(alloc, came, leases, profile)?;
+    let rows = listed.rows();
     let plan = plan_rows(rt, alloc, &rows, namespaces, back, at, workers, gate)?;
     Ok(plan)
 }

@@ -1,12 +1,14 @@
-use Rattle.std.proofs.Common.{◌∙◌, refl, length}
+use Rattle.std.proofs.Common.{◌∙◌, refl, subst, length}
 use Rattle.meta_types.specs.Rows.{Records}
+use Rattle.gc_graph.specs.Lent.{lent_in}
+use Rattle.table_sweep.specs.Backed.{lists_of}
 use Rattle.table_sweep.specs.InKeyOrder.{records_in_key_order}
-use Rattle.collection.specs.Arrived.{lent_in}
+use Rattle.table_sweep.specs.Plans.{IsPlanOfRows}
 use Rattle.collection.specs.Stores.{records_in}
-use Rattle.collection.proofs.Bridges.{plan_of_lent, large_as}
+use Rattle.collection.proofs.Bridges.{plan_of_lent, large_as, large_came}
 use Rattle.collection.proofs.alone.plan_alone.Goals as goal
 
--- rows that are lent as they came are the records' in order
+-- rows that are listed as they came are the records' in order
 pub returns-clause-ok : goal.returns-clause-ok
 returns-clause-ok g c =
     let kept = c.args.records.now in
@@ -23,13 +25,15 @@ returns-clause-ok g c =
       profile = refl;
     })
     c.count_ns-namespaces.ensures
-    c.in_ok-plan.ensures.ok
+    (subst (λ (rows : Records). IsPlanOfRows rows c.count_ns-namespaces.result (lists_of c.args.back.now) c.args.at.0 c.in_ok-plan.plan)
+    (c.rows-rows.ensures.records ∙ c.in_ok-listed.ensures.ok) c.in_ok-plan.ensures.ok)
 
 -- as many rows came as there are in order
-pub plan_came-requires-after_bounds : goal.plan_came-requires-after_bounds
-plan_came-requires-after_bounds g c κs within =
+pub plan_rows-requires-clause-few : goal.plan_rows-requires-clause-few
+plan_rows-requires-clause-few g c κs within =
     let kept = c.args.records.now in
     let lent : Records = lent_in c.came-came.result c.came-leases.result.now kept.profile in
-    large_as (records_in_key_order lent) (records_in kept)
+    large_came _ lent (c.rows-rows.ensures.records ∙ c.in_ok-listed.ensures.ok)
+    (large_as (records_in_key_order lent) (records_in kept)
     c.came-came.ensures.content c.came-came.ensures.ingests c.came-came.ensures.snapshots
-    ∙ c.requires
+    ∙ c.requires)

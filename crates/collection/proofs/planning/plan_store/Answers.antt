@@ -1,7 +1,7 @@
 use Rattle.std.proofs.Common.{◌≡◌, ◌∙◌, refl, length}
 use Rattle.meta_types.specs.Limits.{is_worker_count, is_too_large}
 use Rattle.table_sweep.specs.InKeyOrder.{records_in_key_order}
-use Rattle.collection.specs.Arrived.{lent_in}
+use Rattle.gc_graph.specs.Lent.{lent_in}
 use Rattle.collection.specs.Stores.{records_in}
 use Rattle.collection.proofs.Bridges.{plan_of_lent, large_as, no_fault}
 use Rattle.collection.proofs.planning.plan_store.Goals as goal

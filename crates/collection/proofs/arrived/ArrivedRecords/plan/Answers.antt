@@ -2,7 +2,8 @@ use Rattle.std.proofs.Common.{◌≡◌, ◌∙◌, refl, ap, length}
 use Rattle.meta_types.specs.Rows.{content_key, ingest_key, snap_key}
 use Rattle.row_tables.specs.Arrived.{sorted}
 use Rattle.table_sweep.specs.InKeyOrder.{records_in_key_order}
-use Rattle.collection.specs.Arrived.{lent_in, came_in, in_order}
+use Rattle.gc_graph.specs.Lent.{lent_in}
+use Rattle.collection.specs.Arrived.{came_in, in_order}
 use Rattle.collection.specs.Stores.{records_in}
 use Rattle.collection.proofs.Bridges.{plan_as, large_as}
 use Rattle.collection.proofs.arrived.ArrivedRecords.plan.Goals as goal
