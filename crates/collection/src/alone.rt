@@ -76,6 +76,10 @@ pub(crate) fn dry_alone<R: Threads + Sync>(
       backends = lists_of back.now;
     }) at.0 report) }
 {
-    let Plan { masks: _, report } = plan_alone(rt, alloc, records, back, at)?;
+    let Plan {
+        masks: _,
+        blobs: _,
+        report,
+    } = plan_alone(rt, alloc, records, back, at)?;
     Ok(report)
 }

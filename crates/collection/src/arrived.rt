@@ -6,6 +6,7 @@ ghost use Rattle.table_sweep.specs.Plans.{IsPlanOfRows};
 ghost use Rattle.collection.specs.Arrived.{in_order, came_in};
 ghost use Rattle.collection.specs.Stores.{records_in};
 ghost use Rattle.table_sweep.specs.Backed.{lists_of};
+ghost use Rattle.table_sweep.specs.BlobMarks.{AreBlobMarks};
 
 use crate::planning::plan_came;
 use lease_book::{Lease, Leases};
@@ -46,6 +47,8 @@ impl ArrivedRecords {
         ensures fault { RefusesThreads result None }
         ensures ok { IfOk result (λ plan. IsPlanOfRows (came_in self.now)
             (length self.now.tables.namespaces) (lists_of back.now) at.0 plan) }
+        ensures blobs { IfOk result (λ plan. AreBlobMarks plan.report.backend.blobs
+            back.now.blobs.now plan.blobs.items) }
     {
         let came = self.tables.rows();
         let namespaces = self.tables.count_ns();

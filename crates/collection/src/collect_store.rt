@@ -12,6 +12,7 @@ ghost use Rattle.back_model.specs.Shown.{all_failures};
 ghost use Rattle.row_tables.specs.Arrived.{sorted};
 ghost use Rattle.object_tables.specs.InKeyOrder.{in_key_order};
 ghost use Rattle.steal_mark.specs.Refusing.{RefusesThreads};
+ghost use Rattle.table_sweep.specs.BlobMarks.{AreBlobMarks};
 ghost use Rattle.table_sweep.specs.InKeyOrder.{records_in_key_order};
 ghost use Rattle.table_sweep.specs.Plans.{IsPlanOfRows};
 ghost use Rattle.table_sweep.specs.Stays.{AreMasks, FitRows, StayNumbered, Collection};
@@ -57,6 +58,8 @@ fn plan_held<R: Threads + Wait + Sync, S: SnapBackend, B: BlobBackend, I: Ingest
     ensures ok { IfOk result (λ plan. IsPlanOfRows (came_in came.now)
         (length came.now.tables.namespaces) (held_in backends.now.shards
         (B.contents backends.now.blobs) (I.contents backends.now.ingests)) at.0 plan) }
+    ensures blobs { IfOk result (λ plan. AreBlobMarks plan.report.backend.blobs
+        (B.came backends.now.blobs) plan.blobs.items) }
 {
     let snapshots = backends.snaps(alloc)?;
     let ingests = backends.ingests().numbers(alloc)?;
@@ -83,6 +86,8 @@ fn sweep_all<R: Threads + Sync, S: SnapBackend, B: BlobBackend, I: IngestBackend
 ) -> Result<Fates, Fault>
     requires planned { IsPlanned (held_in backends.old.shards (B.contents backends.old.blobs)
         (I.contents backends.old.ingests)) plan.now }
+    requires marks { AreBlobMarks plan.now.report.backend.blobs (B.came backends.old.blobs)
+        plan.now.blobs.items }
     requires rows { FitRows tables.old leases.old plan.now.masks }
     requires numbered { StayNumbered tables.old plan.now.masks }
     ensures fault { Refuses result (unless (is_worker_count workers) InvalidArgument) }

@@ -38,7 +38,11 @@ fn dry_lent<R: Threads + Wait + Sync, G: Gate>(
       backends = lists_of back.now;
     }) at.0 report) }
 {
-    let Plan { masks: _, report } = plan_store(rt, alloc, records, back, at, workers, gate)?;
+    let Plan {
+        masks: _,
+        blobs: _,
+        report,
+    } = plan_store(rt, alloc, records, back, at, workers, gate)?;
     Ok(report)
 }
 

@@ -9,6 +9,7 @@ ghost use Rattle.gc_graph.specs.Stored.{records_of, AreLent};
 ghost use Rattle.steal_mark.specs.Refusing.{RefusesThreads};
 ghost use Rattle.collection.specs.Stores.{records_in};
 ghost use Rattle.table_sweep.specs.Backed.{lists_of};
+ghost use Rattle.table_sweep.specs.BlobMarks.{AreBlobMarks};
 ghost use Rattle.table_sweep.specs.InKeyOrder.{records_in_key_order};
 ghost use Rattle.table_sweep.specs.Plans.{IsPlanOfRows};
 ghost use Rattle.backend_sweep.specs.Planned.{IsPlanOf};
@@ -43,6 +44,8 @@ fn plan_rows<R: Threads + Wait + Sync, G: Gate>(
     ensures fault { RefusesThreads result None }
     ensures ok { IfOk result (λ plan. IsPlanOfRows (records_of rows.now) namespaces
         (lists_of back.now) at.0 plan) }
+    ensures blobs { IfOk result (λ plan. AreBlobMarks plan.report.backend.blobs back.now.blobs.now
+        plan.blobs.items) }
 {
     let (book, graph, ignored) = build(rt, alloc, rows, at, workers)?;
     let (marks, _lists) = mark_workers(rt, alloc, &graph, workers, gate)?;
@@ -69,6 +72,8 @@ pub(crate) fn plan_came<R: Threads + Wait + Sync, G: Gate>(
     ensures fault { RefusesThreads result None }
     ensures ok { IfOk result (λ plan. IsPlanOfRows (lent_in came.now leases.now profile) namespaces
         (lists_of back.now) at.0 plan) }
+    ensures blobs { IfOk result (λ plan. AreBlobMarks plan.report.backend.blobs back.now.blobs.now
+        plan.blobs.items) }
 {
     let listed = ListedRows::new(alloc, came, leases, profile)?;
     let rows = listed.rows();
@@ -90,6 +95,8 @@ pub fn plan_store<R: Threads + Wait + Sync, G: Gate>(
     ensures fault { RefusesThreads result (collect_fault (records_in records.now) workers) }
     ensures ok { IfOk result (λ plan. IsPlanOf (records_in records.now)
         (length records.now.tables.namespaces) (lists_of back.now) at.0 plan) }
+    ensures blobs { IfOk result (λ plan. AreBlobMarks plan.report.backend.blobs back.now.blobs.now
+        plan.blobs.items) }
 {
     check(records, workers)?;
     let came = records.tables.came();

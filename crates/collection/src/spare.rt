@@ -113,6 +113,10 @@ pub(crate) fn reports_of<K: Keeps>(
     requires spares { AreSpare K.KEPT plan.report spares }
     ensures { result ≡ reported plan.report fates }
 {
-    let Plan { masks: _, report } = plan;
+    let Plan {
+        masks: _,
+        blobs: _,
+        report,
+    } = plan;
     with_copies(report, &fates, rooms, spares)
 }

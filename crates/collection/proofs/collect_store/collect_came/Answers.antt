@@ -78,6 +78,10 @@ returns-in_err-fates-clause-sound g c =
     subst (λ r. IsSound (store_in (in_order r) new.shards (g.B.BlobBackend.contents new.blobs) (g.I.IngestBackend.contents new.ingests)))
     (λ i. record { tables = sym e.tables_err i; leases = sym e.leases_err i; next = came.next; profile = came.profile }) kept
 
+-- nothing has changed since the blobs were lent
+pub sweep_all-requires-clause-marks : goal.sweep_all-requires-clause-marks
+sweep_all-requires-clause-marks g c κs within = c.in_ok-plan.ensures.blobs
+
 pub sweep_all-requires-clause-rows : goal.sweep_all-requires-clause-rows
 sweep_all-requires-clause-rows g c κs within =
     let came : Records = came_in c.args.came.now in

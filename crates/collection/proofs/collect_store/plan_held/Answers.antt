@@ -1,7 +1,9 @@
-use Rattle.std.proofs.Common.{◌≡◌, ◌∙◌, ap, map, length}
+use Rattle.std.proofs.Common.{◌≡◌, ◌∙◌, ap, map, length, subst, List}
+use Rattle.meta_types.specs.Text.{Text}
 use Rattle.back_model.specs.Shown.{listed_snap}
 use Rattle.backend_sweep.specs.Swept.{held_in}
 use Rattle.table_sweep.specs.Backed.{lists_of}
+use Rattle.table_sweep.specs.BlobMarks.{AreBlobMarks}
 use Rattle.collection.specs.Arrived.{came_in}
 use Rattle.collection.proofs.Wholes.{plan_by}
 use Rattle.collection.proofs.collect_store.plan_held.Goals as goal
@@ -16,3 +18,10 @@ returns-clause-ok g c =
       ingests = (c.deref-2.ensures.value ∙ c.in_ok-ingests.ensures.ok ∙ ap g.I.IngestBackend.contents c.ingests.ensures) i;
     })
     c.in_ok-plan.ensures.ok
+
+-- in the order in which it is lent
+pub returns-clause-blobs : goal.returns-clause-blobs
+returns-clause-blobs g c =
+    let plan = c.in_ok-plan.plan in
+    subst (λ (came : List Text). AreBlobMarks plan.report.backend.blobs came plan.blobs.items)
+    (c.digests.ensures.came ∙ ap g.B.BlobBackend.came c.blobs.ensures) c.in_ok-plan.ensures.blobs

@@ -15,3 +15,6 @@ returns-clause-ok g c =
 pub plan_rows-requires-clause-few : goal.plan_rows-requires-clause-few
 plan_rows-requires-clause-few g c κs within =
     large_came _ _ (c.rows-rows.ensures.records ∙ c.in_ok-listed.ensures.ok) c.requires.few
+
+pub returns-clause-blobs : goal.returns-clause-blobs
+returns-clause-blobs g c = c.in_ok-plan.ensures.blobs

@@ -22,3 +22,6 @@ returns-clause-ok g c =
       masks = c.in_ok-plan.ensures.masks;
       report_is = c.in_ok-plan.ensures.ok;
     }
+
+pub returns-clause-blobs : goal.returns-clause-blobs
+returns-clause-blobs g c = c.in_ok-plan.ensures.blobs

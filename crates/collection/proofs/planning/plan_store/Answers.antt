@@ -32,3 +32,6 @@ plan_came-requires-clause-few g c κs within =
     large_as (records_in_key_order (lent_in c.came-came.result c.came-leases.result.now c.args.records.now.profile)) (records_in c.args.records.now)
     c.came-came.ensures.content c.came-came.ensures.ingests c.came-came.ensures.snapshots
     ∙ (no_fault (is_worker_count c.args.workers) (is_too_large (records_in c.args.records.now)) c.in_ok-check.ensures).1
+
+pub returns-clause-blobs : goal.returns-clause-blobs
+returns-clause-blobs g c = c.in_ok-plan.ensures.blobs

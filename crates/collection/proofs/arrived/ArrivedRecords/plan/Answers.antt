@@ -29,3 +29,6 @@ plan_came-requires-clause-few g c κs within =
     large_as (records_in_key_order (lent_in c.rows-came.result c.args.self.now.leases c.args.self.now.profile)) (records_in (in_order c.args.self.now))
     (ap (sorted content_key) c.rows-came.ensures.content) (ap (sorted ingest_key) c.rows-came.ensures.ingests) (ap (sorted snap_key) c.rows-came.ensures.snapshots)
     ∙ c.requires.few
+
+pub returns-clause-blobs : goal.returns-clause-blobs
+returns-clause-blobs g c = c.in_ok-plan.ensures.blobs
