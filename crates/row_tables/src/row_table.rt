@@ -1,5 +1,5 @@
 //! Rows of one kind, as they came.
-ghost use Rattle.std.specs.Prelude.{◌≡◌, ◌<◌, ◌≤◌, ◌^◌, ◌++◌, ◌∷◌, [], Bool, map, filter, false, None, Some, IfOk, IfErr, IfSome, IfNone, OnOk, OnErr, IsTrue, length, is_some, option_copied};
+ghost use Rattle.std.specs.Prelude.{◌≡◌, ◌<◌, ◌≤◌, ◌^◌, ◌++◌, ◌∷◌, [], Bool, map, filter, false, None, Some, IfOk, IfErr, IfSome, IfNone, OnOk, OnErr, IsTrue, length, is_some, option_copied, slice_get, swap_remove};
 ghost use Rattle.std.specs.Bool.{OnFalse};
 ghost use Rattle.std.specs.List.{IsDistinct, list_all, position};
 ghost use Rattle.meta_types.specs.Keys.{is_key, are_in_order, row_at, has_row, add_row, remove_row, change_row};
@@ -160,7 +160,7 @@ impl<K: Named, R: NamedRow<K>> RowTable<K, R> {
             Some((place, _name, _row)) => place,
             None => return None,
         };
-        let (_name, row) = self.rows.swap_remove_index(place).unwrap();
+        let (_name, row) = take_at(&mut self.rows, place).unwrap();
         Some(row)
     }
 
@@ -269,4 +269,28 @@ fn retain_rows<K: Named, R: NamedRow<K>>(rows: &mut IndexMap<K, R>, marks: &[boo
         }
     }
     rows.truncate(next);
+    give_back(rows);
+}
+
+// Takes out a row by its place; the last takes it.
+fn take_at<K: Named, R: NamedRow<K>>(rows: &mut IndexMap<K, R>, place: usize) -> Option<(K, R)>
+    ensures entry { result ≡ slice_get rows.old.entries place }
+    ensures entries { IfSome result (λ entry. rows.new.entries
+        ≡ swap_remove rows.old.entries place entry) }
+    ensures unique { IsUnique K.eq rows.new }
+{
+    let taken = rows.swap_remove_index(place);
+    give_back(rows);
+    taken
+}
+
+// Gives back memory where less than a quarter of it is in use: half of what is left stays free, so
+// that tables which grow and shrink by turns rarely move.
+fn give_back<K: Named, R: NamedRow<K>>(rows: &mut IndexMap<K, R>)
+    ensures entries { rows.new.entries ≡ rows.old.entries }
+{
+    let len = rows.len();
+    if len < rows.capacity() / 4 {
+        rows.shrink_to(len * 2);
+    }
 }
