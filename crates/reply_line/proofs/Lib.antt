@@ -3,3 +3,5 @@ mod Printed
 mod StepTokens
 mod ConstantTexts
 mod ImpactTokens
+pub mod Putting
+mod ReportTexts

@@ -4,3 +4,5 @@ pub mod Fixed
 pub mod Foreseen
 pub mod Explained
 pub mod StepWriting
+pub mod Blocks
+pub mod ReportTexts

@@ -2,17 +2,21 @@
 #![tactic(auto)]
 
 mod answer;
+mod blocks;
 mod constants;
 mod explanation;
 mod impact;
 mod parts;
 mod reply;
+mod report_blocks;
 mod rows;
-mod text_room;
+mod writing;
 
 pub use answer::Answer;
+pub use blocks::BLOCK_ROOM;
 pub use constants::refusal_text;
 pub use explanation::explanation_text;
 pub use impact::impact_text;
 pub use reply::{lent_text, reply_text};
-pub use text_room::report_room;
+pub use report_blocks::write_report;
+pub use writing::write_bytes;

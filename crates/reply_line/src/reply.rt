@@ -12,7 +12,6 @@ use crate::answer::Answer;
 use crate::constants::{done_text, refusal_text};
 use crate::parts::write_resources;
 use crate::rows::write_row;
-use crate::text_room::room_for;
 use gc_report::{Report, write_list, write_member};
 use json::Writer;
 use meta_types::{Fault, Holdings, Listing, Reply, ReplyRow};
@@ -70,7 +69,7 @@ fn holdings_text(alloc: Global, holdings: &Holdings) -> Result<String, AllocErro
 fn report_text(alloc: Global, report: &Report) -> Result<String, AllocError>
     ensures { IfOk result (λ text. string_bytes text ≡ answer_text (reported report.now)) }
 {
-    let mut out = Writer::new(room_for(alloc, report)?);
+    let mut out = Writer::new(Vec::new(alloc));
     out.begin_object()?;
     write_member(&mut out, "ok", &true)?;
     write_member(&mut out, "report", report)?;

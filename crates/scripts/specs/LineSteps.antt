@@ -1,9 +1,6 @@
 -- What one line of a script is answered, and what it leaves. Ours, unless a source stands beside.
 use Rattle.std.specs.Prelude.{◌≡◌, ℕ, ◌==◌, List, [], ◌∷◌, ◌++◌, length, Bool, true, false, nat_lt, if◌then◌else◌, Option, Some, None, option_map}
-use Rattle.std.specs.Cow.{cow_str_bytes}
-use Rattle.std.specs.declared.borrow.CowStr.{CowStr}
 use Rattle.std.specs.Option.{option_map_or}
-use Rattle.std.specs.declared.alloc.Global.{Global}
 use Rattle.meta_types.specs.Time.{instant_of}
 use Rattle.meta_types.specs.Rows.{State}
 use Rattle.meta_types.specs.Steps.{Answer, refused, Event, requested, collect, remove_collect}
@@ -128,8 +125,3 @@ line_step state refusal line =
       with_line_feed (line_answer_text (answer_step state refusal line).0),
       (answer_step state refusal line).1,
     )
-
--- the bytes that a reply is written as, where there is one
-abbrev pub reply_bytes : Option (CowStr Global) → List ℕ
-reply_bytes None = []
-reply_bytes (Some text) = with_line_feed (cow_str_bytes text)

@@ -2,6 +2,7 @@
 use Rattle.std.specs.Prelude.{◌≡◌, ◌<◌, ℕ, List, ◌++◌, length, false, MatchBool, Option}
 use Rattle.std.specs.List.{list_any}
 use Rattle.std.specs.Io.KnownBytes.{Appends, Consumes, IsAtEnd}
+use Rattle.reply_line.specs.Blocks.{WritesFront}
 use Rattle.scripts.specs.LineSteps.{Refusal, line_step, IsTrueAt}
 use Rattle.meta_types.specs.Rows.{State, empty_store}
 use Rattle.scripts.specs.declared.line_buffer.LineBuffer.{LineBuffer}
@@ -37,10 +38,6 @@ pub record Advances (old_buffer : LineBuffer) (old_state : State) (buffer : Line
 pub record Breaks (buffer : LineBuffer) (state : State) (bytes : List ℕ) (held_old held : Option (List ℕ)) : Type 0 where
   pub begins : (taken written : List ℕ) → Progress taken written state buffer →
       (out : List ℕ) × Appends held_old held out × ((tail : List ℕ) → IsBeginning ((taken ++ bytes) ++ tail) (written ++ out))
-
--- The writer took the bytes but for the rest.
-abbrev pub WritesFront : Option (List ℕ) → Option (List ℕ) → List ℕ → List ℕ → Type 0
-WritesFront held_old held rest bytes = (front : List ℕ) × (front ++ rest ≡ bytes) × Appends held_old held front
 
 -- The reply to a line, as bytes.
 abbrev pub Answers : State → List ℕ → List ℕ → State → Type 0

@@ -10,10 +10,11 @@ ghost use Rattle.reply_line.specs.Replies.{answer_text};
 ghost use Rattle.reply_line.specs.Explained.{line_answer_text, told_of, told_text};
 ghost use Rattle.reply_line.specs.Foreseen.{impact_text};
 ghost use Rattle.scripts.specs.LineAnswers.{line_answer_of};
-ghost use Rattle.scripts.specs.LineSteps.{Refusal, line_step, reply_bytes, IsLineAnswer, IsTrueAt};
-ghost use Rattle.scripts.specs.Telling.{only_tells, IsSaid};
+ghost use Rattle.scripts.specs.LineSteps.{Refusal, line_step, IsLineAnswer, IsTrueAt};
+ghost use Rattle.scripts.specs.Telling.{only_tells, IsSaid, said_bytes, reply_bytes};
 
 use crate::line_answer::LineAnswer;
+use crate::said::Said;
 use crate::serving::do_asked;
 use gc_report::Impact;
 use meta_types::{Explanation, Fault, Reply};
@@ -114,7 +115,7 @@ fn text_of(alloc: Global, answer: &LineAnswer) -> Result<CowStr<'static, Global>
 }
 
 // The text of an answer. Where it can't be made for one that only tells, memory refuses the line.
-fn said(alloc: Global, answer: &LineAnswer) -> Result<CowStr<'static, Global>, Fault>
+fn said_text(alloc: Global, answer: &LineAnswer) -> Result<CowStr<'static, Global>, Fault>
     ensures fault { Refuses result None }
     ensures ok { IfOk result (λ text. IsSaid (line_answer_of answer.now) (cow_str_bytes text)) }
 {
@@ -127,9 +128,23 @@ fn said(alloc: Global, answer: &LineAnswer) -> Result<CowStr<'static, Global>, F
     Err(Fault::OutOfMemory)
 }
 
-/// Answers one line, without its line feed: nothing for an empty one. Where the text of a
-/// collection's report can't be made, its rows are gone all the same; the gate of its sweep sees
-/// to it that there was room.
+// What is written for an answer. A report needs no memory for its text.
+fn said(alloc: Global, answer: LineAnswer) -> Result<Said, Fault>
+    ensures fault { Refuses result None }
+    ensures ok { IfOk result (λ said. IsSaid (line_answer_of answer) (said_bytes said)) }
+{
+    match answer {
+        LineAnswer::Event(Answer::Reported(report)) => Ok(Said::Report(report)),
+        answer => {
+            let text = said_text(alloc, &answer);
+            drop(answer);
+            Ok(Said::Text(text?))
+        }
+    }
+}
+
+/// Answers one line, without its line feed: nothing for an empty one. What only tells is refused
+/// where memory for its text is.
 pub fn answer_line<L: Ledger, K: Keeps, R: Threads + Wait + Sync>(
     locked: &mut MemLocked<L, K>,
     rt: &R,
@@ -137,7 +152,7 @@ pub fn answer_line<L: Ledger, K: Keeps, R: Threads + Wait + Sync>(
     session: &mut Session<L>,
     line: &[u8],
     workers: usize,
-) -> Result<Option<CowStr<'static, Global>>, Fault>
+) -> Result<Option<Said>, Fault>
     requires opened { session.old.number < locked.old.opened }
     requires length { length line.now ≤ 65536 }
     requires workers { is_worker_count workers ≡ true }
@@ -154,14 +169,12 @@ pub fn answer_line<L: Ledger, K: Keeps, R: Threads + Wait + Sync>(
         return Ok(None);
     }
     let answer = line_outcome(locked, rt, alloc, session, line, workers);
-    let text = said(alloc, &answer);
-    drop(answer);
-    Ok(Some(text?))
+    Ok(Some(said(alloc, answer)?))
 }
 
 /// The reply to a line that is too long.
-pub fn too_long() -> CowStr<'static, Global>
-    ensures { cow_str_bytes result ≡ answer_text (refused too_long_fault) }
+pub fn too_long() -> Said
+    ensures { said_bytes result ≡ answer_text (refused too_long_fault) }
 {
-    CowStr::Borrowed(refusal_text(Fault::TooLong))
+    Said::Text(CowStr::Borrowed(refusal_text(Fault::TooLong)))
 }

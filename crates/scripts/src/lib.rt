@@ -7,11 +7,12 @@ mod line_answer;
 mod line_buffer;
 mod line_room;
 mod lines;
+mod said;
 mod script;
 mod script_store;
 mod serving;
-mod text_gate;
 mod writing;
 
 pub use answering::answer_line;
+pub use said::Said;
 pub use script::run_script;

@@ -6,18 +6,18 @@ ghost use Rattle.std.specs.Io.KnownBytes.{IsAtEnd, ReadConsumes};
 ghost use Rattle.meta_types.specs.Faults.{Refuses};
 ghost use Rattle.meta_types.specs.Limits.{is_worker_count};
 ghost use Rattle.scripts.specs.Lines.{is_line_feed};
-ghost use Rattle.scripts.specs.LineSteps.{reply_bytes};
+ghost use Rattle.scripts.specs.Telling.{reply_bytes};
 ghost use Rattle.scripts.specs.Output.{IsOutput, IsWholeOutput, IsBeginning, IsLateFault, IsStartedFault, IsRunFault, Exchanges};
 ghost use Rattle.scripts.specs.Progress.{IsLine, Answers, Advances, Breaks, Replies, BeginsReply, EndsWith, FollowsBlock, RunEnds};
 
 use crate::answering::too_long;
 use crate::line_buffer::LineBuffer;
 use crate::lines::cut_line;
+use crate::said::Said;
 use crate::script_store::ScriptStore;
-use crate::writing::{flush, write_line};
+use crate::writing::flush;
 use meta_types::{Fault, is_worker_count};
 use std::alloc::Global;
-use std::borrow::CowStr;
 use std::io::{Read, Write};
 use std::marker::Brand;
 use std::mem::ManuallyDrop;
@@ -34,7 +34,7 @@ fn buffered_reply<T: Threads + Wait + Sync, L: Ledger>(
     alloc: Global,
     store: &mut ScriptStore<L>,
     buffer: &LineBuffer,
-) -> Result<Option<CowStr<'static, Global>>, Fault>
+) -> Result<Option<Said>, Fault>
     ensures ok { IfOk result (λ reply. (line : List ℕ) →
         IsLine buffer.now line → Answers store.old line (reply_bytes reply) store.new) }
     ensures fault { Refuses result None }
@@ -61,7 +61,7 @@ fn write_reply<T: Threads + Wait + Sync, L: Ledger, W: Write>(
 {
     match buffered_reply(rt, alloc, store, buffer)? {
         None => Ok(()),
-        Some(text) => write_line(writer, text.as_str()),
+        Some(said) => store.write(alloc, writer, &said),
     }
 }
 

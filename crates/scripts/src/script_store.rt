@@ -1,15 +1,22 @@
 //! The store of a script, with its one session.
-ghost use Rattle.std.specs.Prelude.{◌≡◌, ◌≤◌, length, true, IfOk, OnErr, Option, None};
+ghost use Rattle.std.specs.Prelude.{◌≡◌, ◌≤◌, ℕ, List, length, true, IfOk, IfErr, OnOk, OnErr, Option, None};
+ghost use Rattle.std.specs.Io.KnownBytes.{Appends};
 ghost use Rattle.meta_types.specs.Faults.{Refuses};
 ghost use Rattle.meta_types.specs.Limits.{is_worker_count};
 ghost use Rattle.meta_types.specs.Rows.{empty_store};
-ghost use Rattle.scripts.specs.LineSteps.{Refusal, line_step, reply_bytes, IsTrueAt};
+ghost use Rattle.reply_line.specs.Blocks.{WritesFront};
+ghost use Rattle.scripts.specs.LineSteps.{Refusal, line_step, with_line_feed, IsTrueAt};
+ghost use Rattle.scripts.specs.Telling.{said_bytes, reply_bytes};
+ghost use Rattle.scripts.specs.Output.{IsLateFault};
 
 use crate::answering::answer_line;
+use crate::said::Said;
+use crate::writing::write_said;
 use meta_types::Fault;
+use reply_line::BLOCK_ROOM;
 use request_core::State;
 use std::alloc::Global;
-use std::borrow::CowStr;
+use std::io::Write;
 use std::marker::Model;
 use std::sync::Wait;
 use std::sync::ledger::{Blank, Ledger};
@@ -17,12 +24,14 @@ use std::thread::Threads;
 use store_front::{Locked, MemLocked, Session, Unkept};
 
 /// The store of a script, in memory, with its one session, and how many workers collect. It keeps
-/// no history, since nobody can ask for one.
+/// no history, since nobody can ask for one. The block has room for the text of a report while it
+/// is written.
 #[derive(Drop)]
 pub struct ScriptStore<L: Ledger> {
     locked: MemLocked<L, Unkept>,
     session: Session<L>,
     workers: usize,
+    block: Vec<u8>,
 }
 
 impl<L: Ledger> Model for ScriptStore<L> {
@@ -49,12 +58,14 @@ impl<L: Ledger> ScriptStore<L> {
         ensures fault { Refuses result None }
         ensures ok { IfOk result (λ store. store ≡ empty_store) }
     {
+        let block = Vec::with_capacity(alloc, BLOCK_ROOM)?;
         let mut locked = Locked::open_unkept(alloc, blank, State::empty(alloc));
         let session = locked.session(alloc)?;
         Ok(ScriptStore {
             locked,
             session,
             workers,
+            block,
         })
     }
 
@@ -64,7 +75,7 @@ impl<L: Ledger> ScriptStore<L> {
         rt: &R,
         alloc: Global,
         line: &[u8],
-    ) -> Result<Option<CowStr<'static, Global>>, Fault>
+    ) -> Result<Option<Said>, Fault>
         requires { length line.now ≤ 65536 }
         ensures fault { Refuses result None }
         ensures ok { IfOk result (λ reply. (refusal : Option Refusal)
@@ -81,5 +92,23 @@ impl<L: Ledger> ScriptStore<L> {
             line,
             self.workers,
         )
+    }
+
+    /// Writes what is said for a line, and a line feed.
+    pub fn write<W: Write>(
+        &mut self,
+        alloc: Global,
+        writer: &mut W,
+        said: &Said,
+    ) -> Result<(), Fault>
+        ensures same { self.new ≡ self.old }
+        ensures ok { OnOk result (Appends (W.contents writer.old) (W.contents writer.new)
+            (with_line_feed (said_bytes said.now))) }
+        ensures err { OnErr result ((rest : List ℕ)
+            × WritesFront (W.contents writer.old) (W.contents writer.new) rest
+            (with_line_feed (said_bytes said.now))) }
+        ensures fault { IfErr result IsLateFault }
+    {
+        write_said(writer, alloc, &mut self.block, said)
     }
 }

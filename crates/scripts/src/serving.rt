@@ -10,7 +10,7 @@ ghost use Rattle.scripts.specs.Served.{IsServed, IsRefused};
 
 use crate::line_answer::LineAnswer;
 use crate::line_room::room_beside;
-use crate::text_gate::TextGate;
+use backend_sweep::OpenSweepGate;
 use gc_labels::read_instant;
 use gc_report::{Impact, Report};
 use meta_types::{Explanation, Fault, Object, RawText, Removal, Reply, Request, ShortName};
@@ -71,7 +71,16 @@ fn collect<L: Ledger, K: Keeps, R: Threads + Wait + Sync>(
         return Err(Fault::InvalidArgument);
     };
     locked.never_failed();
-    let report = locked.collect(rt, alloc, session, at, dry, workers, &OpenGate, &TextGate);
+    let report = locked.collect(
+        rt,
+        alloc,
+        session,
+        at,
+        dry,
+        workers,
+        &OpenGate,
+        &OpenSweepGate,
+    );
     locked.never_failed();
     report
 }
@@ -99,7 +108,14 @@ fn remove<L: Ledger, K: Keeps, R: Threads + Wait + Sync>(
     };
     locked.never_failed();
     let report = locked.remove_collect(
-        rt, alloc, session, removal, at, workers, &OpenGate, &TextGate,
+        rt,
+        alloc,
+        session,
+        removal,
+        at,
+        workers,
+        &OpenGate,
+        &OpenSweepGate,
     );
     locked.never_failed();
     report

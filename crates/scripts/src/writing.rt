@@ -1,32 +1,19 @@
-//! Writing by a loop of its own: a writer that fails holds a beginning of what was meant.
+//! Writes replies: a writer that fails holds a beginning of what was meant.
 ghost use Rattle.std.specs.Prelude.{◌≡◌, ℕ, List, OnOk, OnErr, IfErr};
 ghost use Rattle.std.specs.Io.KnownBytes.{Appends, Keeps};
+ghost use Rattle.reply_line.specs.Blocks.{WritesFront};
 ghost use Rattle.scripts.specs.LineSteps.{with_line_feed};
-ghost use Rattle.scripts.specs.Progress.{WritesFront};
+ghost use Rattle.scripts.specs.Telling.{said_bytes};
+ghost use Rattle.scripts.specs.Output.{IsLateFault};
 
+use crate::said::Said;
 use meta_types::Fault;
+use reply_line::{write_bytes, write_report};
+use std::alloc::Global;
 use std::io::Write;
 
-// Writes the bytes, however few the writer takes at a time.
-fn write_bytes<W: Write>(writer: &mut W, bytes: &[u8]) -> Result<(), Fault>
-    ensures ok { OnOk result (Appends (W.contents writer.old) (W.contents writer.new) bytes.now) }
-    ensures err { OnErr result ((rest : List ℕ)
-        × WritesFront (W.contents writer.old) (W.contents writer.new) rest bytes.now) }
-    ensures fault { IfErr result (λ fault. fault ≡ Fault.WriteFailed) }
-{
-    let mut rest = bytes;
-    while !rest.is_empty() {
-        match writer.write(rest) {
-            Ok(0) => return Err(Fault::WriteFailed),
-            Ok(count) => rest = &rest[count..],
-            Err(_) => return Err(Fault::WriteFailed),
-        }
-    }
-    Ok(())
-}
-
-/// Writes a text and a line feed.
-pub fn write_line<W: Write>(writer: &mut W, text: &str) -> Result<(), Fault>
+// Writes a text and a line feed.
+fn write_line<W: Write>(writer: &mut W, text: &str) -> Result<(), Fault>
     ensures ok { OnOk result (Appends (W.contents writer.old) (W.contents writer.new)
         (with_line_feed text.now)) }
     ensures err { OnErr result ((rest : List ℕ)
@@ -36,6 +23,26 @@ pub fn write_line<W: Write>(writer: &mut W, text: &str) -> Result<(), Fault>
 {
     write_bytes(writer, text.as_bytes())?;
     write_bytes(writer, b"\n")
+}
+
+/// Writes what is said for a line, and a line feed. A report's text is made in the block.
+pub fn write_said<W: Write>(
+    writer: &mut W,
+    alloc: Global,
+    block: &mut Vec<u8>,
+    said: &Said,
+) -> Result<(), Fault>
+    ensures ok { OnOk result (Appends (W.contents writer.old) (W.contents writer.new)
+        (with_line_feed (said_bytes said.now))) }
+    ensures err { OnErr result ((rest : List ℕ)
+        × WritesFront (W.contents writer.old) (W.contents writer.new) rest
+        (with_line_feed (said_bytes said.now))) }
+    ensures fault { IfErr result IsLateFault }
+{
+    match said {
+        Said::Text(text) => write_line(writer, text.as_str()),
+        Said::Report(report) => write_report(writer, alloc, block, report),
+    }
 }
 
 /// Flushes the writer, so that whoever waits for a reply gets it.

@@ -16,8 +16,8 @@ returns-then-is_empty-clause-ok g c =
     )
 
 -- the text of the answer was refused
-pub returns-in_err-text-clause-err : goal.returns-in_err-text-clause-err
-returns-in_err-text-clause-err g c =
+pub returns-in_err-said-clause-err : goal.returns-in_err-said-clause-err
+returns-in_err-said-clause-err g c =
     let answer = c.line_outcome-answer.ensures.answer in
     holds_on_err c.from_residual.result (answer.0, sym (ap (λ step. step.1) (line_step-answer c.args.locked.now.store.state answer.0 c.args.line.now _ _ (sym c.if-is_empty.ensures) answer.1)))
 
@@ -26,4 +26,4 @@ pub returns-clause-ok : goal.returns-clause-ok
 returns-clause-ok g c =
     let answer = c.line_outcome-answer.ensures.answer in
     line_step-said c.args.locked.now.store.state c.args.line.now _ _ _ (sym c.if-is_empty.ensures)
-    answer c.in_ok-text.ensures.ok
+    answer c.in_ok-said.ensures.ok

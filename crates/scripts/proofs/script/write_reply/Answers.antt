@@ -1,7 +1,7 @@
 use Rattle.std.proofs.Common.{[], Some, refl}
-use Rattle.std.specs.Cow.{cow_str_bytes}
 use Rattle.std.proofs.lemmas.Result.{on_err_weaker}
 use Rattle.scripts.specs.LineSteps.{out_of_memory, line_step, with_line_feed}
+use Rattle.scripts.specs.Telling.{said_bytes}
 use Rattle.scripts.proofs.LineAnswers.{true_at_memory}
 use Rattle.scripts.proofs.Writers.{Appends-none, WritesFront-none, holds_on_err}
 use Rattle.scripts.proofs.script.write_reply.Goals as goal
@@ -17,11 +17,11 @@ returns-in_err-buffered_reply-clause-err g c = holds_on_err c.from_residual.resu
     ))
 
 pub returns-in-Some-clause-err : goal.returns-in-Some-clause-err
-returns-in-Some-clause-err g c = on_err_weaker c.write_line.result
+returns-in-Some-clause-err g c = on_err_weaker c.write.result
     (λ w. λ line is_line.
     let known = rw c.in-Some.is at (c.in_ok-buffered_reply.ensures.ok line is_line) in
-    (with_line_feed (cow_str_bytes c.in-Some.text), w.0, _, known, w.1))
-    (rw c.as_str.ensures.value at c.write_line.ensures.err)
+    (with_line_feed (said_bytes c.in-Some.said), w.0, _, known, w.1))
+    c.write.ensures.err
 
 -- an empty line has no reply
 pub returns-in-None-clause-ok : goal.returns-in-None-clause-ok
