@@ -6,7 +6,7 @@ ghost use Rattle.explaining.specs.Found.{thing_of};
 
 use crate::found::Found;
 use crate::reasons::namespace_of;
-use meta_types::Mode;
+use meta_types::{Digest, Mode};
 use std::cmp::Ordering;
 
 fn kind_place(thing: Found<'_>) -> u8
@@ -32,19 +32,6 @@ fn group_of<'a>(thing: Found<'a>) -> &'a str
         Found::Ingest(_) => "",
         Found::Content(_, _) => "",
         Found::Snapshot(_, row) => row.key.snapshotter.text(),
-    }
-}
-
-fn name_of<'a>(thing: Found<'a>) -> &'a str
-    ensures { result.now ≡ name_of (thing_of thing.entry) }
-{
-    match thing {
-        Found::Image(row) => row.name.text(),
-        Found::Container(row) => row.name.text(),
-        Found::Lease(row) => row.id().text(),
-        Found::Ingest(row) => row.name.text(),
-        Found::Content(_, row) => row.digest.text(),
-        Found::Snapshot(_, row) => row.key.name.text(),
     }
 }
 
@@ -74,6 +61,57 @@ fn text_before(a: &str, b: &str, rest: bool) -> bool
     }
 }
 
+// The same where the second text is the name of a thing.
+fn before_name(a: &str, b: Found<'_>, rest: bool) -> bool
+    ensures { (x y : Key) → rest ≡ is_before x y
+        → result ≡ is_before (a.now ∷ x) (name_of (thing_of b.entry) ∷ y) }
+{
+    match b {
+        Found::Image(row) => text_before(a, row.name.text(), rest),
+        Found::Container(row) => text_before(a, row.name.text(), rest),
+        Found::Lease(row) => text_before(a, row.id().text(), rest),
+        Found::Ingest(row) => text_before(a, row.name.text(), rest),
+        Found::Content(_, row) => {
+            let text = row.digest.text();
+            text_before(a, text.as_str(), rest)
+        }
+        Found::Snapshot(_, row) => text_before(a, row.key.name.text(), rest),
+    }
+}
+
+// The same where the first one is a digest: two are compared as they are kept.
+fn digest_before(a: &Digest, b: Found<'_>, rest: bool) -> bool
+    ensures { (x y : Key) → rest ≡ is_before x y
+        → result ≡ is_before (a.now ∷ x) (name_of (thing_of b.entry) ∷ y) }
+{
+    match b {
+        Found::Content(_, row) => match a.cmp(&row.digest) {
+            Ordering::Less => true,
+            Ordering::Equal => rest,
+            Ordering::Greater => false,
+        },
+        _ => {
+            let text = a.text();
+            before_name(text.as_str(), b, rest)
+        }
+    }
+}
+
+// The same of the names of two things.
+fn name_before(a: Found<'_>, b: Found<'_>, rest: bool) -> bool
+    ensures { (x y : Key) → rest ≡ is_before x y
+        → result ≡ is_before (name_of (thing_of a.entry) ∷ x) (name_of (thing_of b.entry) ∷ y) }
+{
+    match a {
+        Found::Image(row) => before_name(row.name.text(), b, rest),
+        Found::Container(row) => before_name(row.name.text(), b, rest),
+        Found::Lease(row) => before_name(row.id().text(), b, rest),
+        Found::Ingest(row) => before_name(row.name.text(), b, rest),
+        Found::Content(_, row) => digest_before(&row.digest, b, rest),
+        Found::Snapshot(_, row) => before_name(row.key.name.text(), b, rest),
+    }
+}
+
 // The same of keys that begin with a place.
 fn place_before(a: u8, b: u8, rest: bool) -> bool
     ensures { (x y : Key) → rest ≡ is_before x y
@@ -91,7 +129,7 @@ pub(crate) fn goes_before(a: Found<'_>, b: Found<'_>) -> bool
     ensures { result ≡ goes_before (thing_of a.entry) (thing_of b.entry) }
 {
     let modes = place_before(mode_place(a), mode_place(b), false);
-    let names = text_before(name_of(a), name_of(b), modes);
+    let names = name_before(a, b, modes);
     let groups = text_before(group_of(a), group_of(b), names);
     let namespaces = text_before(namespace_of(a), namespace_of(b), groups);
     place_before(kind_place(a), kind_place(b), namespaces)

@@ -1,5 +1,5 @@
 //! By what a thing references another.
-ghost use Rattle.std.specs.Prelude.{◌≡◌, option_map, map, false, None, IfOk};
+ghost use Rattle.std.specs.Prelude.{◌≡◌, option_map, map, false, None, IfOk, bytes_eq};
 ghost use Rattle.std.specs.List.{list_any};
 ghost use Rattle.std.specs.Option.{option_map_or};
 ghost use Rattle.meta_types.specs.Faults.{Refuses};
@@ -12,7 +12,7 @@ ghost use Rattle.explaining.specs.Reasons.{by_of};
 use crate::found::Found;
 use gc_labels::{content_ref, is_flat, snapshot_ref};
 use lease_book::Lease;
-use meta_types::{ContainerRow, Fault, IngestRow, Labels, Mode, Resource, SnapRow};
+use meta_types::{ContainerRow, Digest, Fault, IngestRow, Labels, Mode, Resource, SnapRow};
 use std::alloc::Global;
 
 /// By what a thing references another.
@@ -50,11 +50,11 @@ fn is_same_mode(a: Mode, b: Mode) -> bool
     }
 }
 
-fn is_content(digest: &str, mode: Mode, thing: Found<'_>) -> bool
+fn is_content(digest: &Digest, mode: Mode, thing: Found<'_>) -> bool
     ensures { result ≡ is_content digest.now mode (thing_of thing.entry) }
 {
     match thing {
-        Found::Content(m, row) => is_same_mode(mode, m) && row.digest.text() == digest,
+        Found::Content(m, row) => is_same_mode(mode, m) && row.digest == *digest,
         _ => false,
     }
 }
@@ -72,12 +72,19 @@ fn is_snapshot(snapshotter: &str, name: &str, mode: Mode, thing: Found<'_>) -> b
     }
 }
 
+fn is_text(text: &str, digest: &Digest) -> bool
+    ensures { result ≡ bytes_eq text.now digest.now }
+{
+    let written = digest.text();
+    text == written.as_str()
+}
+
 // Whether a label references a thing.
 fn is_ref(key: &str, value: &str, thing: Found<'_>) -> bool
     ensures { result ≡ is_ref (key.now, value.now) (thing_of thing.entry) }
 {
     match thing {
-        Found::Content(Mode::Full, row) => content_ref(key) && value == row.digest.text(),
+        Found::Content(Mode::Full, row) => content_ref(key) && is_text(value, &row.digest),
         Found::Snapshot(Mode::Full, row) => match snapshot_ref(key) {
             Some(s) => s == row.key.snapshotter.text() && value == row.key.name.text(),
             None => false,
@@ -112,7 +119,7 @@ pub(crate) fn is_resource(resource: &Resource, mode: Mode, thing: Found<'_>) -> 
     ensures { result ≡ is_resource resource.now mode (thing_of thing.entry) }
 {
     match resource {
-        Resource::Content(digest) => is_content(digest.text(), mode, thing),
+        Resource::Content(digest) => is_content(digest, mode, thing),
         Resource::Snapshot(snapshotter, name) => {
             is_snapshot(snapshotter.text(), name.text(), mode, thing)
         }
@@ -168,7 +175,7 @@ fn expects(row: &IngestRow, thing: Found<'_>) -> bool
         row.now.expected false }
 {
     match &row.expected {
-        Some(digest) => is_content(digest.text(), Mode::Full, thing),
+        Some(digest) => is_content(digest, Mode::Full, thing),
         None => false,
     }
 }
@@ -190,7 +197,7 @@ fn reason_in<'a>(alloc: Global, from: Found<'a>, to: Found<'_>) -> Result<Option
 {
     let why = match from {
         Found::Image(row) => {
-            if is_content(row.target.text(), Mode::Full, to) {
+            if is_content(&row.target, Mode::Full, to) {
                 Some(Why::Target)
             } else {
                 label_reason(&row.labels, to)

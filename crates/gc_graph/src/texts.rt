@@ -22,7 +22,7 @@ fn tell_content(rows: &[&ContentRow])
 {
     for row in rows {
         // The text's clause says that it is allowed; nothing else is wanted of it.
-        let _digest = row.digest.text();
+        let _length = row.digest.text_len();
     }
 }
 

@@ -1,14 +1,13 @@
 //! Values written as JSON, straight into a text.
 ghost use Rattle.std.specs.Prelude.{[], OnOk, if◌then◌else◌};
-ghost use Rattle.std.specs.Arc.{arc_str_bytes};
 ghost use Rattle.serde_json.specs.Data.{Data, boolean, string, array, item, no_items};
+ghost use Rattle.meta_types.specs.Listings.{listed_text};
 ghost use Rattle.gc_report.specs.Reports.{count_data, list_data};
 ghost use Rattle.gc_report.specs.Writing.{tokens_of, member_tokens, Adds};
 
 use json::Writer;
-use meta_types::{Digest, Name, ShortName};
+use meta_types::{Digest, Listed, Name, ShortName};
 use std::alloc::AllocError;
-use std::sync::ArcStr;
 
 /// What is written as one value.
 pub trait WriteJson {
@@ -39,7 +38,8 @@ impl WriteJson for Digest {
     ghost as_data = { string };
 
     fn write(&self, out: &mut Writer) -> Result<(), AllocError> {
-        out.string(self.text())
+        let text = self.text();
+        out.string(text.as_str())
     }
 }
 
@@ -59,11 +59,14 @@ impl WriteJson for ShortName {
     }
 }
 
-impl WriteJson for ArcStr {
-    ghost as_data = { λ s. string (arc_str_bytes s) };
+impl WriteJson for Listed {
+    ghost as_data = { λ name. string (listed_text name) };
 
     fn write(&self, out: &mut Writer) -> Result<(), AllocError> {
-        out.string(self.as_str())
+        match self {
+            Listed::Text(text) => out.string(text.as_str()),
+            Listed::Digest(digest) => digest.write(out),
+        }
     }
 }
 

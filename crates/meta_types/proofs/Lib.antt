@@ -24,6 +24,7 @@ pub mod LabelPlaces
 pub mod LabelLemmas
 pub mod KeepsSound
 pub mod ResourceReads
+pub mod HexDigits
 pub mod Works
 pub mod WorkedScripts
 pub mod WorkedLaterScripts

@@ -31,6 +31,9 @@ pub mod Limits
 pub mod Keys
 pub mod Labels
 pub mod Resources
+pub mod Digits
+pub mod Digests
+pub mod Listings
 pub mod Walks
 -- IV. Worked scripts: small stores, what a collection reports of them, and what it leaves.
 pub mod Worked

@@ -3,12 +3,16 @@
 
 mod copies;
 mod digest;
+mod digest_text;
+mod digits;
 mod explanation;
 mod fault;
 mod instant;
+mod kept;
 mod labels;
 pub mod laws;
 mod limits;
+mod listed;
 mod name;
 mod object;
 mod raw;
@@ -22,11 +26,13 @@ mod short_name;
 mod text;
 
 pub use digest::Digest;
+pub use digest_text::DigestText;
 pub use explanation::{By, Explanation, PathStep};
 pub use fault::Fault;
 pub use instant::Instant;
 pub use labels::Labels;
 pub use limits::{MAX_NODES, MAX_NUMBER, MAX_WORKERS, is_worker_count};
+pub use listed::Listed;
 pub use name::Name;
 pub use object::Object;
 pub use raw::{RawLabels, RawText};

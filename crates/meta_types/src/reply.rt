@@ -3,33 +3,33 @@ ghost use Rattle.std.specs.Prelude.{◌≡◌, ◌++◌, ◌∷◌, [], map, Non
 ghost use Rattle.std.specs.Cmp.{partial_equiv_from_equiv};
 ghost use Rattle.std.specs.Cmp.Lexicographic.{pointwise};
 ghost use Rattle.std.proofs.lemmas.Cmp.{nat_list_eq_equiv, lists_equiv};
-ghost use Rattle.std.specs.Arc.{arc_str_bytes};
+ghost use Rattle.meta_types.specs.Listings.{listed_text};
 ghost use Rattle.meta_types.specs.Faults.{Refuses};
 
 use crate::digest::Digest;
 use crate::fault::Fault;
 use crate::labels::Labels;
+use crate::listed::Listed;
 use crate::name::Name;
 use crate::resource::Resource;
 use crate::rows::{ContainerRow, ContentRow, ImageRow, IngestRow, SnapRow};
 use crate::short_name::ShortName;
 use std::alloc::{AllocError, Global};
 use std::marker::Model;
-use std::sync::ArcStr;
 
 /// The names of a listing, in its order. They share the texts of what was listed.
 #[derive(Drop)]
 pub struct Listing {
-    names: Vec<ArcStr>,
+    names: Vec<Listed>,
 }
 
 impl Model for Listing {
     ghost use Rattle.std.specs.Prelude.{List, ℕ, map};
-    ghost use Rattle.std.specs.Arc.{arc_str_bytes};
+    ghost use Rattle.meta_types.specs.Listings.{listed_text};
 
     ghost Value = { List (List ℕ) };
 
-    ghost view = { λ l. map arc_str_bytes l.names.items };
+    ghost view = { λ l. map listed_text l.names.items };
 }
 
 impl PartialEq for Listing {
@@ -61,9 +61,9 @@ impl Listing {
         }
     }
 
-    /// The texts of the names.
-    pub fn texts(&self) -> &[ArcStr]
-        ensures { map arc_str_bytes result.now ≡ self.now }
+    /// The names.
+    pub fn names(&self) -> &[Listed]
+        ensures { map listed_text result.now ≡ self.now }
     {
         &self.names
     }
@@ -76,12 +76,12 @@ impl Listing {
         Ok(Listing::clone(self)?)
     }
 
-    fn push(&mut self, text: ArcStr) -> Result<(), Fault>
+    fn push(&mut self, name: Listed) -> Result<(), Fault>
         ensures fault { Refuses result None }
-        ensures ok { OnOk result (self.new ≡ self.old ++ arc_str_bytes text ∷ []) }
+        ensures ok { OnOk result (self.new ≡ self.old ++ listed_text name ∷ []) }
         ensures err { OnErr result (self.new ≡ self.old) }
     {
-        self.names.push(text)?;
+        self.names.push(name)?;
         Ok(())
     }
 
@@ -92,7 +92,7 @@ impl Listing {
         ensures err { OnErr result (self.new ≡ self.old) }
     {
         let text = name.shared()?;
-        self.push(text)
+        self.push(Listed::Text(text))
     }
 
     /// Adds a digest at the end.
@@ -101,8 +101,8 @@ impl Listing {
         ensures ok { OnOk result (self.new ≡ self.old ++ digest.now ∷ []) }
         ensures err { OnErr result (self.new ≡ self.old) }
     {
-        let text = digest.shared()?;
-        self.push(text)
+        let digest = digest.copy()?;
+        self.push(Listed::Digest(digest))
     }
 
     /// Adds the name of a namespace or a snapshotter at the end.
@@ -112,7 +112,7 @@ impl Listing {
         ensures err { OnErr result (self.new ≡ self.old) }
     {
         let text = name.shared()?;
-        self.push(text)
+        self.push(Listed::Text(text))
     }
 }
 

@@ -1,7 +1,9 @@
 //! Tests of texts, exactly those of the definitions.
 ghost use Rattle.std.specs.Prelude.{◌≡◌};
 ghost use Rattle.std.specs.List.{list_all};
-ghost use Rattle.meta_types.specs.Text.{is_digit, is_letter_or_digit, is_short_name_byte, is_short_name, is_printed, is_name, is_hexadecimal, is_hash, is_digest};
+ghost use Rattle.meta_types.specs.Text.{is_digit, is_letter_or_digit, is_short_name_byte, is_short_name, is_printed, is_name, is_hash};
+
+use crate::digits::are_hexadecimal;
 
 fn is_digit(byte: u8) -> bool
     ensures { result ≡ is_digit byte }
@@ -59,19 +61,8 @@ pub(crate) fn is_name(text: &str) -> bool
     1 <= bytes.len() && bytes.len() <= 1024 && are_printed(bytes)
 }
 
-fn is_hexadecimal(byte: u8) -> bool
-    ensures { result ≡ is_hexadecimal byte }
-{
-    is_digit(byte) || (97 <= byte && byte <= 102)
-}
-
-fn are_hexadecimal(bytes: &[u8]) -> bool
-    ensures { result ≡ list_all is_hexadecimal bytes.now }
-{
-    bytes.iter().all(|byte| is_hexadecimal(*byte))
-}
-
-fn is_hash(text: &[u8], prefix: &[u8], digits: usize) -> bool
+/// Whether a text is this algorithm and that number of digits.
+pub(crate) fn is_hash(text: &[u8], prefix: &[u8], digits: usize) -> bool
     ensures { result ≡ is_hash prefix.now digits text.now }
 {
     if !text.starts_with(prefix) {
@@ -79,13 +70,4 @@ fn is_hash(text: &[u8], prefix: &[u8], digits: usize) -> bool
     }
     let rest = &text[prefix.len()..];
     rest.len() == digits && are_hexadecimal(rest)
-}
-
-/// Whether a text is a digest.
-pub(crate) fn is_digest(text: &str) -> bool
-    ensures { result ≡ is_digest text.now }
-{
-    let short = is_hash(text.as_bytes(), b"sha256:", 64);
-    let long = is_hash(text.as_bytes(), b"sha512:", 128);
-    short || long
 }

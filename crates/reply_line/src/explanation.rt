@@ -83,16 +83,20 @@ fn write_mode(out: &mut Writer, mode: &Option<Mode>) -> Result<(), AllocError>
     }
 }
 
-fn object_name(object: &Object) -> &str
-    ensures { result.now ≡ object_name object.now }
+fn write_name(out: &mut Writer, object: &Object) -> Result<(), AllocError>
+    ensures { OnOk result (Adds out.old out.new
+        (member_tokens (codes "name") (string (object_name object.now)))) }
 {
     match object {
-        Object::Image(name) => name.text(),
-        Object::Container(name) => name.text(),
-        Object::Lease(id) => id.text(),
-        Object::Held(Resource::Content(digest)) => digest.text(),
-        Object::Held(Resource::Snapshot(_, name)) => name.text(),
-        Object::Held(Resource::Ingest(name)) => name.text(),
+        Object::Image(name) => write_text(out, "name", name.text()),
+        Object::Container(name) => write_text(out, "name", name.text()),
+        Object::Lease(id) => write_text(out, "name", id.text()),
+        Object::Held(Resource::Content(digest)) => {
+            let text = digest.text();
+            write_text(out, "name", text.as_str())
+        }
+        Object::Held(Resource::Snapshot(_, name)) => write_text(out, "name", name.text()),
+        Object::Held(Resource::Ingest(name)) => write_text(out, "name", name.text()),
     }
 }
 
@@ -122,7 +126,7 @@ fn write_step(out: &mut Writer, alloc: Global, step: &PathStep) -> Result<(), Al
     write_expire(out, &step.expire)?;
     write_label(out, &step.by)?;
     write_mode(out, &step.mode)?;
-    write_text(out, "name", object_name(&step.object))?;
+    write_name(out, &step.object)?;
     write_type(out, alloc, &step.object)?;
     out.end_object()
 }

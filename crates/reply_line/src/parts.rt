@@ -90,7 +90,10 @@ fn write_resource(out: &mut Writer, alloc: Global, resource: &Resource) -> Resul
     ensures { OnOk result (Adds out.old out.new (tokens_of (resource_data resource.now))) }
 {
     match resource {
-        Resource::Content(digest) => write_pair(out, "content", digest.text()),
+        Resource::Content(digest) => {
+            let text = digest.text();
+            write_pair(out, "content", text.as_str())
+        }
         Resource::Snapshot(snapshotter, name) => {
             let kind = type_text(alloc, snapshotter)?;
             write_pair(out, &kind, name.text())

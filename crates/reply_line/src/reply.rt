@@ -34,7 +34,7 @@ fn listing_text(alloc: Global, listing: &Listing) -> Result<String, AllocError>
     let mut out = Writer::new(Vec::new(alloc));
     out.begin_object()?;
     out.key("names")?;
-    write_list(&mut out, listing.texts())?;
+    write_list(&mut out, listing.names())?;
     write_member(&mut out, "ok", &true)?;
     out.end_object()?;
     Ok(into_text(out))

@@ -68,7 +68,7 @@ impl Named for Digest {
     ghost texts_of = { one_text };
 
     fn order(&self, other: &Digest) -> Ordering {
-        match self.text().cmp(other.text()) {
+        match self.cmp(other) {
             Ordering::Less => Ordering::Less,
             Ordering::Equal => Ordering::Equal,
             Ordering::Greater => Ordering::Greater,

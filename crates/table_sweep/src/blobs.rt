@@ -8,7 +8,7 @@ ghost use Rattle.table_sweep.specs.BlobMarks.{AreBlobMarks};
 ghost use Rattle.table_sweep.specs.Masks.{gone};
 ghost use Rattle.table_sweep.specs.Owned.{owns_blob};
 
-use crate::sorting::first_digits;
+use crate::sorting::first_bytes;
 use meta_types::{ContentRow, Digest, Fault};
 use row_tables::RowTable;
 use std::alloc::Global;
@@ -93,7 +93,7 @@ fn digests_in_order(digests: Vec<Digest>) -> Result<Vec<Digest>, Fault>
     ensures ok { IfOk result (λ list. list.items ≡ sorted one_text digests.items) }
 {
     let mut digests = digests;
-    digests.sort_by_cached_key(|digest| first_digits(digest))?;
+    digests.sort_by_cached_key(|digest| first_bytes(digest))?;
     digests.sort_by(|a, b| compare(a, b))?;
     Ok(digests)
 }

@@ -24,14 +24,14 @@ pub(crate) fn names_in_order(names: Vec<(ShortName, Name)>) -> Result<Vec<(Short
     Ok(names)
 }
 
-// Eight digits of a digest, behind the name of its algorithm, as a number.
-pub(crate) fn first_digits(digest: &Digest) -> u64 {
-    let text = digest.text().as_bytes();
-    if text.len() < 15 {
+// The first eight bytes of a digest, as a number.
+pub(crate) fn first_bytes(digest: &Digest) -> u64 {
+    let bytes = digest.bytes();
+    if bytes.len() < 8 {
         return 0;
     }
     u64::from_be_bytes([
-        text[7], text[8], text[9], text[10], text[11], text[12], text[13], text[14],
+        bytes[0], bytes[1], bytes[2], bytes[3], bytes[4], bytes[5], bytes[6], bytes[7],
     ])
 }
 
@@ -39,8 +39,8 @@ fn compare_namespaces(a: &(ShortName, Digest), b: &(ShortName, Digest)) -> Order
     a.0.cmp(&b.0)
 }
 
-// By namespace and first digits, the latter as numbers beside places: few texts are compared.
-// Names of equal digits, or of two algorithms, may still stand in any order.
+// By namespace and first bytes, the latter as numbers beside places: few digests are compared.
+// Names of equal first bytes, or of two algorithms, may still stand in any order.
 fn digests_nearly_in_order(
     names: Vec<(ShortName, Digest)>,
 ) -> Result<Vec<(ShortName, Digest)>, Fault>
@@ -48,7 +48,7 @@ fn digests_nearly_in_order(
     ensures ok { IfOk result (λ list. IsPermutation names.items list.items) }
 {
     let mut names = names;
-    names.sort_by_cached_key(|name| first_digits(&name.1))?;
+    names.sort_by_cached_key(|name| first_bytes(&name.1))?;
     names.sort_by(|a, b| compare_namespaces(a, b))?;
     Ok(names)
 }

@@ -8,7 +8,7 @@ use Rattle.gc_graph.proofs.texts.tell_content.Goals as goal
 
 pub loop-row-preserved : goal.loop-row-preserved
 loop-row-preserved c =
-    told_next (λ (row : Bor ContentRow). IsDigest row.now.digest) c.args.rows.now c.loop-row.row-index c.row-item.result c.loop-row-test.true c.row-item.is c.text-digest.ensures.valid c.loop-row.invariant
+    told_next (λ (row : Bor ContentRow). IsDigest row.now.digest) c.args.rows.now c.loop-row.row-index c.row-item.result c.loop-row-test.true c.row-item.is c.text_len-length.ensures.valid c.loop-row.invariant
 
 pub returns : goal.returns
 returns c = subst (All (λ (row : Bor ContentRow). IsDigest row.now.digest)) (take_all c.loop-row.row-index c.args.rows.now c.loop-row-test.false) c.loop-row.invariant

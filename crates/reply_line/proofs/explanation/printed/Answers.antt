@@ -1,4 +1,4 @@
-use Rattle.std.proofs.Common.{string_bytes, subst}
+use Rattle.std.proofs.Common.{string_bytes}
 use Rattle.gc_report.specs.Reports.{list_data}
 use Rattle.gc_report.specs.Writing.{tokens_of, Adds}
 use Rattle.gc_report.proofs.Adding.{one, both}

@@ -18,6 +18,6 @@ returns c =
     (both c.in_ok-write_expire.ensures
     (both c.in_ok-write_label.ensures
     (both c.in_ok-write_mode.ensures
-    (both (rw c.object_name.ensures at c.in_ok-write_text-2.ensures)
+    (both c.in_ok-write_name.ensures
     (both c.in_ok-write_type.ensures
     (one c.write_type.new.out c.end_object.new.self c.end_object.ensures.room.0 e))))))))) c.end_object.ensures.ok

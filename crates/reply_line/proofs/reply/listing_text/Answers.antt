@@ -5,7 +5,7 @@ use Rattle.gc_report.specs.Writing.{tokens_of, Adds}
 use Rattle.gc_report.proofs.Adding.{one, both}
 use Rattle.reply_line.specs.Replies.{answer_data}
 use Rattle.reply_line.proofs.Printed.{answer_printed}
-use Rattle.std.specs.Arc.{arc_str_bytes}
+use Rattle.meta_types.specs.Listings.{listed_text}
 use Rattle.std.proofs.lemmas.Simd.{map-map}
 use Rattle.serde_json.specs.Data.{string, array}
 use Rattle.serde_json.specs.View.{items_of}
@@ -16,7 +16,7 @@ use Rattle.reply_line.proofs.reply.listing_text.Goals as goal
 pub returns : goal.returns
 returns c =
     let empty = c.new-out.result in
-    let same = sym (map-map string arc_str_bytes c.texts.result.now) ∙ ap (map string) c.texts.ensures in
+    let same = sym (map-map string listed_text c.names.result.now) ∙ ap (map string) c.names.ensures in
     let names : Adds c.key.new.self c.write_list.new.out (tokens_of (list_data string c.args.listing.now)) =
     subst (λ ds. Adds c.key.new.self c.write_list.new.out (tokens_of (array (items_of ds)))) same c.in_ok-write_list.ensures in
     let all : Adds empty c.end_object.new.self (tokens_of (answer_data (answered (R.Names c.args.listing.now)))) =

@@ -6,4 +6,5 @@ use Rattle.meta_types.proofs.reply.Holdings.is.Goals as goal
 
 -- resource by resource, in their order
 pub returns : goal.returns
-returns c = told_by (c.eq.ensures ∙ (λ i. pointwise resource.same (c.resources.ensures i) (c.resources-2.ensures i))) ((listed resource).decides c.args.self.now c.args.holdings.now)
+returns c = told_by (c.eq.ensures ∙ (λ i. pointwise resource.same (c.resources.ensures i)
+    (c.resources-2.ensures i))) ((listed resource).decides c.args.self.now c.args.holdings.now)
