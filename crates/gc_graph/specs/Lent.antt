@@ -5,7 +5,6 @@ use Rattle.meta_types.specs.declared.rows.ContentRow.{ContentRow}
 use Rattle.meta_types.specs.declared.rows.IngestRow.{IngestRow}
 use Rattle.meta_types.specs.declared.rows.SnapRow.{SnapRow}
 use Rattle.object_tables.specs.declared.arrived.ArrivedRows.{ArrivedRows}
-use Rattle.gc_graph.specs.declared.rows.RowPlaces.{RowPlaces}
 
 -- rows that are lent: the namespaces and the next backend number lead no
 -- path anywhere, and are left out
@@ -24,8 +23,10 @@ lent_in rows leases profile = record {
   profile = profile;
 }
 
--- the tables have the rows of these lists, each at its place
-pub record HaveRows (places : RowPlaces) (ingest_rows : List IngestRow) (content_rows : List ContentRow) (snap_rows : List SnapRow) : Type 0 where
-  pub ingests : places.ingests.now ≡ ingest_rows
-  pub content : places.content.now ≡ content_rows
-  pub snapshots : places.snapshots.now ≡ snap_rows
+-- the places are those of the rows of these lists
+pub record HavePlaces (ingest_places ingest_rows : List IngestRow)
+    (content_places content_rows : List ContentRow)
+    (snapshot_places snapshot_rows : List SnapRow) : Type 0 where
+  pub ingests : ingest_places ≡ ingest_rows
+  pub content : content_places ≡ content_rows
+  pub snapshots : snapshot_places ≡ snapshot_rows

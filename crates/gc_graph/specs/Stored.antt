@@ -25,7 +25,7 @@ records_of rows = record {
 abbrev pub IsSmall : StoreRows → Type 0
 IsSmall rows = 2 * (length rows.content.now + length rows.snapshots.now) + length rows.ingests.now ≤ 16777216
 
--- the tables that are lent have the rows of the lists, each at its place
+-- the places that are lent are those of the rows of the lists
 pub record AreLent (rows : StoreRows) : Type 0 where
   pub ingests : rows.places.ingests.now ≡ map (λ row. row.now) rows.ingests.now
   pub content : rows.places.content.now ≡ map (λ row. row.now) rows.content.now

@@ -5,7 +5,7 @@ mod listed;
 use lease_book::Lease;
 pub use listed::ListedRows;
 use meta_types::{ContainerRow, ContentRow, Digest, ImageRow, IngestRow, Name, SnapRow};
-use row_tables::{ArrivedByNamespace, ArrivedBySnapshotter};
+use row_tables::{PlacesByNamespace, PlacesBySnapshotter};
 
 /// The rows of a store, borrowed: each kind as its rows came.
 #[derive(Clone, Copy)]
@@ -16,16 +16,16 @@ pub struct StoreRows<'a> {
     pub ingests: &'a [&'a IngestRow],
     pub content: &'a [&'a ContentRow],
     pub snapshots: &'a [&'a SnapRow],
-    /// Where the rows of the last three are found by their keys.
+    /// The places of the rows of the last three, found by their keys.
     pub places: RowPlaces<'a>,
     /// 2 where images expire, else 1.
     pub profile: u8,
 }
 
-/// The tables of the rows that have numbers: a row's place is the same there and in its list.
+/// The places of the rows that have numbers: a row's place is the same here and in its list.
 #[derive(Clone, Copy)]
 pub struct RowPlaces<'a> {
-    pub ingests: &'a ArrivedByNamespace<Name, IngestRow>,
-    pub content: &'a ArrivedByNamespace<Digest, ContentRow>,
-    pub snapshots: &'a ArrivedBySnapshotter<Name, SnapRow>,
+    pub ingests: &'a PlacesByNamespace<'a, Name, IngestRow>,
+    pub content: &'a PlacesByNamespace<'a, Digest, ContentRow>,
+    pub snapshots: &'a PlacesBySnapshotter<'a, Name, SnapRow>,
 }

@@ -18,4 +18,5 @@ pub mod NamespacesCame
 pub mod Retained
 pub mod RowCounts
 pub mod SnapshotterRows
+pub mod Starts
 pub mod SweptNamespaces

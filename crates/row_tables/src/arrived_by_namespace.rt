@@ -1,7 +1,7 @@
 //! Rows of all namespaces, as they came.
-ghost use Rattle.std.specs.Prelude.{◌≡◌, ◌∷◌, [], map, false, None, count_by, IfOk, OnOk, OnErr, IfSome, IfNone, IsTrue, Bool, length, filter, take, drop, bytes_eq, option_copied};
-ghost use Rattle.std.specs.List.{position, list_any, list_all, IsDistinct};
-ghost use Rattle.meta_types.specs.Keys.{is_key, are_in_order, row_at, has_row, add_row, remove_row};
+ghost use Rattle.std.specs.Prelude.{◌≡◌, ◌∷◌, [], map, false, None, count_by, IfOk, OnOk, OnErr, IfSome, IfNone, IsTrue, Bool, length, filter, bytes_eq, option_copied};
+ghost use Rattle.std.specs.List.{list_any, list_all, IsDistinct};
+ghost use Rattle.meta_types.specs.Keys.{are_in_order, row_at, has_row, add_row, remove_row};
 ghost use Rattle.meta_types.specs.Faults.{Refuses, least_of};
 ghost use Rattle.row_tables.specs.Arrived.{sorted, same_key, kept, without_memory, Becomes};
 ghost use Rattle.row_tables.specs.Visiting.{gone, all_visited};
@@ -9,6 +9,7 @@ ghost use Rattle.row_tables.specs.Namespaces.{full_key};
 
 use crate::marks::count_marks;
 use crate::named::Named;
+use crate::namespaces::places::PlacesByNamespace;
 use crate::namespaces::{change, find, keep, list};
 use crate::row::{Change, GroupedRow, RemovedRows, Test};
 use crate::row_table::RowTable;
@@ -61,12 +62,12 @@ impl<K: Named, R: GroupedRow<K>> ArrivedByNamespace<K, R> {
         self.count
     }
 
-    /// The place of the row of a namespace and a name.
-    pub fn place(&self, ns: &ShortName, name: &K) -> Option<usize>
-        ensures { result ≡ position (λ row. is_key (ns.now ∷ K.texts_of name.now)
-            (full_key K.texts_of R.name_of R.group_of row)) self.now }
+    /// The places of the rows: made once, they serve many look-ups.
+    pub fn places(&self, alloc: Global) -> Result<PlacesByNamespace<'_, K, R>, Fault>
+        ensures fault { Refuses result None }
+        ensures ok { IfOk result (λ places. places ≡ self.now) }
     {
-        find::place_of(&self.groups, ns, name)
+        PlacesByNamespace::new(&self.groups, self.count, alloc)
     }
 
     /// Whether the row is there.
@@ -95,18 +96,6 @@ impl<K: Named, R: GroupedRow<K>> ArrivedByNamespace<K, R> {
             ≡ []) }
     {
         find::rows_of(&self.groups, ns)
-    }
-
-    /// The place of the first row of a namespace: the others stand behind it.
-    pub fn first(&self, ns: &ShortName) -> Option<usize>
-        ensures first { IfSome result (λ first.
-            take (length (filter (λ row. bytes_eq ns.now (R.group_of row)) self.now))
-            (drop first self.now)
-            ≡ filter (λ row. bytes_eq ns.now (R.group_of row)) self.now) }
-        ensures none { IfNone result (filter (λ row. bytes_eq ns.now (R.group_of row)) self.now
-            ≡ []) }
-    {
-        find::first_in(&self.groups, ns)
     }
 
     /// Adds a row where none has its key; one look finds whether one has. It takes the text of its

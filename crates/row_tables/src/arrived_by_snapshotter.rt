@@ -1,7 +1,7 @@
 //! Rows of all namespaces, by snapshotter, as they came.
 ghost use Rattle.std.specs.Prelude.{◌≡◌, ◌∷◌, [], map, false, None, count_by, IfOk, OnOk, OnErr, IfSome, IfNone, IsTrue, Bool, length, filter, bytes_eq, ◌&&◌, option_copied};
-ghost use Rattle.std.specs.List.{position, list_any, list_all, IsDistinct};
-ghost use Rattle.meta_types.specs.Keys.{is_key, are_in_order, row_at, has_row, add_row, remove_row};
+ghost use Rattle.std.specs.List.{list_any, list_all, IsDistinct};
+ghost use Rattle.meta_types.specs.Keys.{are_in_order, row_at, has_row, add_row, remove_row};
 ghost use Rattle.meta_types.specs.Faults.{Refuses, least_of};
 ghost use Rattle.row_tables.specs.Arrived.{sorted, same_key, kept, without_memory, Becomes};
 ghost use Rattle.row_tables.specs.Visiting.{gone, all_visited};
@@ -11,6 +11,7 @@ use crate::arrived_by_namespace::ArrivedByNamespace;
 use crate::marks::count_marks;
 use crate::named::Named;
 use crate::row::{Change, RemovedRows, SnapshotterRow, Test};
+use crate::snapshotters::places::PlacesBySnapshotter;
 use crate::snapshotters::{change, find, keep, list};
 use meta_types::{Fault, ShortName};
 use std::alloc::Global;
@@ -62,12 +63,12 @@ impl<K: Named, R: SnapshotterRow<K>> ArrivedBySnapshotter<K, R> {
         self.count
     }
 
-    /// The place of the row of a namespace, a snapshotter and a name.
-    pub fn place(&self, ns: &ShortName, snapshotter: &ShortName, name: &K) -> Option<usize>
-        ensures { result ≡ position (λ row. is_key (ns.now ∷ snapshotter.now ∷ K.texts_of name.now)
-            (layered_key K.texts_of R.name_of R.group_of R.ns_of row)) self.now }
+    /// The places of the rows: made once, they serve many look-ups.
+    pub fn places(&self, alloc: Global) -> Result<PlacesBySnapshotter<'_, K, R>, Fault>
+        ensures fault { Refuses result None }
+        ensures ok { IfOk result (λ places. places ≡ self.now) }
     {
-        find::place_of(&self.groups, ns, snapshotter, name)
+        PlacesBySnapshotter::new(&self.groups, self.count, alloc)
     }
 
     /// Whether the row is there.

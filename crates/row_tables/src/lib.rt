@@ -22,5 +22,7 @@ pub use by_namespace::ByNamespace;
 pub use by_snapshotter::BySnapshotter;
 pub use listing::in_key_order;
 pub use named::Named;
+pub use namespaces::places::PlacesByNamespace;
 pub use row::{Change, GroupedRow, NamedRow, RemovedRows, SnapshotterRow, Test};
 pub use row_table::RowTable;
+pub use snapshotters::places::PlacesBySnapshotter;

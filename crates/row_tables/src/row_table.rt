@@ -1,5 +1,5 @@
 //! Rows of one kind, as they came.
-ghost use Rattle.std.specs.Prelude.{◌≡◌, ◌<◌, ◌≤◌, ◌^◌, ◌++◌, ◌∷◌, [], Bool, map, filter, false, None, Some, IfOk, IfErr, IfSome, IfNone, OnOk, OnErr, IsTrue, length, is_some, option_copied, slice_get, swap_remove};
+ghost use Rattle.std.specs.Prelude.{◌≡◌, ◌<◌, ◌≤◌, ◌^◌, ◌++◌, ◌∷◌, [], Bool, map, filter, false, None, Some, IfOk, IfErr, IfSome, IfNone, OnOk, OnErr, IsTrue, length, is_some, option_copied, slice_get, slice_index_or, drop, swap_remove};
 ghost use Rattle.std.specs.Bool.{OnFalse};
 ghost use Rattle.std.specs.List.{IsDistinct, list_all, position};
 ghost use Rattle.meta_types.specs.Keys.{is_key, are_in_order, row_at, has_row, add_row, remove_row, change_row};
@@ -8,6 +8,7 @@ ghost use Rattle.indexmap.specs.IndexMap.{IsUnique, get, insert_entry};
 ghost use Rattle.row_tables.specs.Arrived.{sorted, by_name, same_key, kept, without_memory, Becomes};
 ghost use Rattle.row_tables.specs.Visiting.{gone, all_visited};
 
+use crate::marks::take_mark;
 use crate::named::Named;
 use crate::row::{Change, NamedRow, RemovedRows, Test};
 use crate::visiting::visit_removed;
@@ -255,20 +256,19 @@ fn copy_rows<K: Named, R: NamedRow<K>>(rows: &[R], alloc: Global) -> Result<RowT
     Ok(copies)
 }
 
-// Each row that stays goes to the first place that is free.
+// Keeps the rows whose mark is set, in their order.
 fn retain_rows<K: Named, R: NamedRow<K>>(rows: &mut IndexMap<K, R>, marks: &[bool])
     requires { length marks.now ≡ length rows.old.entries }
     ensures kept { rows.new.entries ≡ kept marks.now rows.old.entries }
     ensures unique { IsUnique K.eq rows.new }
 {
-    let mut next = 0;
-    for place in 0..marks.len() {
-        if marks[place] {
-            rows.swap_indices(next, place);
-            next += 1;
-        }
-    }
-    rows.truncate(next);
+    let mut rest = marks;
+    rows.retain(
+        |_name: &K, row: &mut R| -> bool
+            ensures { (result ≡ slice_index_or rest.entry.now 0 false)
+                × (rest.exit.now ≡ drop 1 rest.entry.now) × (row.new ≡ row.old) }
+        { take_mark(&mut rest) },
+    );
     give_back(rows);
 }
 

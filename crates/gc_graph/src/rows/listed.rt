@@ -7,13 +7,14 @@ ghost use Rattle.gc_graph.specs.Stored.{records_of, AreLent};
 
 use crate::rows::{RowPlaces, StoreRows};
 use lease_book::Lease;
-use meta_types::{ContainerRow, ContentRow, Fault, ImageRow, IngestRow, Name, SnapRow};
+use meta_types::{ContainerRow, ContentRow, Digest, Fault, ImageRow, IngestRow, Name, SnapRow};
 use object_tables::ArrivedRows;
-use row_tables::ArrivedByNamespace;
+use row_tables::{ArrivedByNamespace, PlacesByNamespace, PlacesBySnapshotter};
 use std::alloc::Global;
 use std::marker::Model;
 
-/// A list of the rows of each kind, and their tables: contracts see the records. No row is copied.
+/// A list of the rows of each kind, and the places of those that have numbers: contracts see the
+/// records. No row is copied.
 #[derive(Drop)]
 pub struct ListedRows<'a> {
     images: Vec<&'a ImageRow>,
@@ -22,14 +23,16 @@ pub struct ListedRows<'a> {
     ingests: Vec<&'a IngestRow>,
     content: Vec<&'a ContentRow>,
     snapshots: Vec<&'a SnapRow>,
-    places: RowPlaces<'a>,
+    ingest_places: PlacesByNamespace<'a, Name, IngestRow>,
+    content_places: PlacesByNamespace<'a, Digest, ContentRow>,
+    snapshot_places: PlacesBySnapshotter<'a, Name, SnapRow>,
     profile: u8,
 }
 
 impl<'a> Model for ListedRows<'a> {
     ghost use Rattle.std.specs.Prelude.{[], map};
     ghost use Rattle.meta_types.specs.Rows.{Records};
-    ghost use Rattle.gc_graph.specs.Lent.{HaveRows};
+    ghost use Rattle.gc_graph.specs.Lent.{HavePlaces};
 
     ghost Value = { Records };
 
@@ -47,10 +50,10 @@ impl<'a> Model for ListedRows<'a> {
       profile = l.profile;
     } };
 
-    ghost invariant = { λ l. HaveRows l.places
-        (map (λ row. row.now) l.ingests.items)
-        (map (λ row. row.now) l.content.items)
-        (map (λ row. row.now) l.snapshots.items) };
+    ghost invariant = { λ l. HavePlaces
+        l.ingest_places (map (λ row. row.now) l.ingests.items)
+        l.content_places (map (λ row. row.now) l.content.items)
+        l.snapshot_places (map (λ row. row.now) l.snapshots.items) };
 }
 
 impl<'a> ListedRows<'a> {
@@ -70,6 +73,9 @@ impl<'a> ListedRows<'a> {
         let ingests = came.ingests.list_came(alloc)?;
         let content = came.content.list_came(alloc)?;
         let snapshots = came.snapshots.list_came(alloc)?;
+        let ingest_places = came.ingests.places(alloc)?;
+        let content_places = came.content.places(alloc)?;
+        let snapshot_places = came.snapshots.places(alloc)?;
         Ok(ListedRows {
             images,
             containers,
@@ -77,25 +83,23 @@ impl<'a> ListedRows<'a> {
             ingests,
             content,
             snapshots,
-            places: RowPlaces {
-                ingests: came.ingests,
-                content: came.content,
-                snapshots: came.snapshots,
-            },
+            ingest_places,
+            content_places,
+            snapshot_places,
             profile,
         })
     }
 
-    /// Lends the lists and the tables. No key stands twice in them.
+    /// Lends the lists and the places. No key stands twice in them.
     pub fn rows(&self) -> StoreRows<'_>
         ensures records { records_of result ≡ self.now }
         ensures apart { AreApart (records_of result) }
         ensures lent { AreLent result }
     {
         // The clauses of `len` say that no key stands twice.
-        let _ = self.places.ingests.len();
-        let _ = self.places.content.len();
-        let _ = self.places.snapshots.len();
+        let _ = self.ingest_places.len();
+        let _ = self.content_places.len();
+        let _ = self.snapshot_places.len();
         StoreRows {
             images: &self.images,
             containers: &self.containers,
@@ -103,7 +107,11 @@ impl<'a> ListedRows<'a> {
             ingests: &self.ingests,
             content: &self.content,
             snapshots: &self.snapshots,
-            places: self.places,
+            places: RowPlaces {
+                ingests: &self.ingest_places,
+                content: &self.content_places,
+                snapshots: &self.snapshot_places,
+            },
             profile: self.profile,
         }
     }

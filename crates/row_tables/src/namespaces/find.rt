@@ -1,48 +1,55 @@
 //! Look-ups: a row of a namespace, and the place of a row among all.
-ghost use Rattle.std.specs.Prelude.{◌≡◌, ◌<◌, ◌≤◌, ◌^◌, ◌∷◌, [], IfSome, IfNone, length, take, drop, filter, bytes_eq, option_copied};
+ghost use Rattle.std.specs.Prelude.{◌≡◌, ◌<◌, ◌^◌, ◌∷◌, [], None, IfOk, IfSome, IfNone, length, take, drop, filter, bytes_eq, option_copied};
 ghost use Rattle.std.specs.List.{position, list_any, list_all};
+ghost use Rattle.meta_types.specs.Faults.{Refuses};
 ghost use Rattle.meta_types.specs.Keys.{is_key, row_at, has_row};
 ghost use Rattle.row_tables.specs.Arrived.{sorted, by_name};
 ghost use Rattle.row_tables.specs.Namespaces.{full_key, all_rows};
 ghost use Rattle.row_tables.specs.Came.{AreCame};
+ghost use Rattle.row_tables.specs.Starts.{AreStarts};
 
 use crate::named::Named;
 use crate::namespaces::homes::search;
 use crate::row::{GroupedRow, Test};
 use crate::row_table::RowTable;
-use meta_types::ShortName;
+use meta_types::{Fault, ShortName};
+use std::alloc::Global;
 
-/// How many rows the namespaces before a place have.
-pub(crate) fn first_of<K: Named, R: GroupedRow<K>>(
+/// Where the rows of each namespace begin.
+pub(crate) fn starts_of<K: Named, R: GroupedRow<K>>(
     groups: &[(ShortName, RowTable<K, R>)],
-    home: usize,
-) -> usize
-    requires within { home ≤ length groups.now }
-    requires fits { length (all_rows groups.now) < 2 ^ 64 }
-    ensures { result ≡ length (all_rows (take home groups.now)) }
+    alloc: Global,
+) -> Result<Vec<usize>, Fault>
+    requires { length (all_rows groups.now) < 2 ^ 64 }
+    ensures fault { Refuses result None }
+    ensures ok { IfOk result (λ starts. AreStarts starts.items groups.now) }
 {
+    let mut starts = Vec::new(alloc);
     let mut first = 0;
-    for at in 0..home {
+    for at in 0..groups.len() {
+        starts.push(first)?;
         first += groups[at].1.len();
     }
-    first
+    Ok(starts)
 }
 
 /// The place of the row of a namespace and a name.
 pub(crate) fn place_of<K: Named, R: GroupedRow<K>>(
     groups: &[(ShortName, RowTable<K, R>)],
+    starts: &[usize],
     ns: &ShortName,
     name: &K,
 ) -> Option<usize>
     requires are { AreCame (full_key K.texts_of R.name_of R.group_of) (by_name K.texts_of R.name_of)
         R.group_of groups.now }
     requires fits { length (all_rows groups.now) < 2 ^ 64 }
+    requires starts { AreStarts starts.now groups.now }
     ensures { result ≡ position (λ row. is_key (ns.now ∷ K.texts_of name.now)
         (full_key K.texts_of R.name_of R.group_of row)) (all_rows groups.now) }
 {
     match search(groups, ns) {
         Ok(home) => match groups[home].1.place(name) {
-            Some(place) => Some(first_of(groups, home) + place),
+            Some(place) => Some(starts[home] + place),
             None => None,
         },
         Err(_) => None,
@@ -106,11 +113,12 @@ pub(crate) fn rows_of<'a, K: Named, R: GroupedRow<K>>(
 /// The place of the first row of a namespace.
 pub(crate) fn first_in<K: Named, R: GroupedRow<K>>(
     groups: &[(ShortName, RowTable<K, R>)],
+    starts: &[usize],
     ns: &ShortName,
 ) -> Option<usize>
     requires are { AreCame (full_key K.texts_of R.name_of R.group_of) (by_name K.texts_of R.name_of)
         R.group_of groups.now }
-    requires fits { length (all_rows groups.now) < 2 ^ 64 }
+    requires starts { AreStarts starts.now groups.now }
     ensures first { IfSome result (λ first.
         take (length (filter (λ row. bytes_eq ns.now (R.group_of row)) (all_rows groups.now)))
         (drop first (all_rows groups.now))
@@ -119,7 +127,7 @@ pub(crate) fn first_in<K: Named, R: GroupedRow<K>>(
         (all_rows groups.now) ≡ []) }
 {
     match search(groups, ns) {
-        Ok(home) => Some(first_of(groups, home)),
+        Ok(home) => Some(starts[home]),
         Err(_) => None,
     }
 }

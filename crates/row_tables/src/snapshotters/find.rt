@@ -1,36 +1,59 @@
 //! Look-ups: a row of a snapshotter in a namespace, and the place of a row among all.
-ghost use Rattle.std.specs.Prelude.{◌≡◌, ◌<◌, ◌≤◌, ◌^◌, ◌∷◌, [], IfSome, IfNone, length, take, filter, bytes_eq, ◌&&◌, option_copied};
+ghost use Rattle.std.specs.Prelude.{◌≡◌, ◌<◌, ◌^◌, ◌∷◌, [], None, IfOk, IfSome, IfNone, length, map, filter, bytes_eq, ◌&&◌, option_copied};
 ghost use Rattle.std.specs.List.{position, list_any, list_all};
+ghost use Rattle.meta_types.specs.Faults.{Refuses};
 ghost use Rattle.meta_types.specs.Keys.{is_key, row_at, has_row};
 ghost use Rattle.row_tables.specs.Arrived.{sorted};
 ghost use Rattle.row_tables.specs.Namespaces.{full_key, layered_key, all_rows};
 ghost use Rattle.row_tables.specs.Came.{AreCame};
+ghost use Rattle.row_tables.specs.Starts.{AreStarts};
 
 use crate::arrived_by_namespace::ArrivedByNamespace;
 use crate::named::Named;
 use crate::namespaces::homes::search;
+use crate::namespaces::places::PlacesByNamespace;
 use crate::row::{SnapshotterRow, Test};
-use meta_types::ShortName;
+use meta_types::{Fault, ShortName};
+use std::alloc::Global;
 
-/// How many rows the namespaces before a place have.
-pub(crate) fn first_of<K: Named, R: SnapshotterRow<K>>(
+/// Where the rows of each namespace begin.
+pub(crate) fn starts_of<K: Named, R: SnapshotterRow<K>>(
     groups: &[(ShortName, ArrivedByNamespace<K, R>)],
-    home: usize,
-) -> usize
-    requires within { home ≤ length groups.now }
-    requires fits { length (all_rows groups.now) < 2 ^ 64 }
-    ensures { result ≡ length (all_rows (take home groups.now)) }
+    alloc: Global,
+) -> Result<Vec<usize>, Fault>
+    requires { length (all_rows groups.now) < 2 ^ 64 }
+    ensures fault { Refuses result None }
+    ensures ok { IfOk result (λ starts. AreStarts starts.items groups.now) }
 {
+    let mut starts = Vec::new(alloc);
     let mut first = 0;
-    for at in 0..home {
+    for at in 0..groups.len() {
+        starts.push(first)?;
         first += groups[at].1.len();
     }
-    first
+    Ok(starts)
+}
+
+/// The places of the rows in each namespace.
+pub(crate) fn places_in_each<'a, K: Named, R: SnapshotterRow<K>>(
+    groups: &'a [(ShortName, ArrivedByNamespace<K, R>)],
+    alloc: Global,
+) -> Result<Vec<PlacesByNamespace<'a, K, R>>, Fault>
+    ensures fault { Refuses result None }
+    ensures ok { IfOk result (λ each. each.items ≡ map (λ group. group.1) groups.now) }
+{
+    let mut each = Vec::new(alloc);
+    for group in groups {
+        each.push(group.1.places(alloc)?)?;
+    }
+    Ok(each)
 }
 
 /// The place of the row of a namespace, a snapshotter and a name.
 pub(crate) fn place_of<K: Named, R: SnapshotterRow<K>>(
     groups: &[(ShortName, ArrivedByNamespace<K, R>)],
+    starts: &[usize],
+    each: &[PlacesByNamespace<'_, K, R>],
     ns: &ShortName,
     snapshotter: &ShortName,
     name: &K,
@@ -39,12 +62,14 @@ pub(crate) fn place_of<K: Named, R: SnapshotterRow<K>>(
         (full_key K.texts_of R.name_of R.group_of)
         R.ns_of groups.now }
     requires fits { length (all_rows groups.now) < 2 ^ 64 }
+    requires starts { AreStarts starts.now groups.now }
+    requires each { each.now ≡ map (λ group. group.1) groups.now }
     ensures { result ≡ position (λ row. is_key (ns.now ∷ snapshotter.now ∷ K.texts_of name.now)
         (layered_key K.texts_of R.name_of R.group_of R.ns_of row)) (all_rows groups.now) }
 {
     match search(groups, ns) {
-        Ok(home) => match groups[home].1.place(snapshotter, name) {
-            Some(place) => Some(first_of(groups, home) + place),
+        Ok(home) => match each[home].place(snapshotter, name) {
+            Some(place) => Some(starts[home] + place),
             None => None,
         },
         Err(_) => None,

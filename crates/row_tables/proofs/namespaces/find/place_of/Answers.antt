@@ -14,7 +14,8 @@ overflow_add-result g c =
     let home = c.in-Ok.ensures.found in
     let there = slice_get_within c.args.groups.now c.in-Ok.home (c.args.ns.now, home.0) home.1 in
     let fits = first_fits c.args.groups.now c.in-Ok.home c.index-groups-home.result there c.index-groups-home.is in
-    omega (arith, fits, c.first_of.ensures, c.in-Some.ensures.within, ap (λ x. length x.1) c.index-groups-home.is, c.requires.fits)
+    let start = c.requires.starts.each c.in-Ok.home there in
+    omega (arith, fits, start, c.in-Some.ensures.within, ap (λ x. length x.1) c.index-groups-home.is, c.requires.fits)
 
 -- a row's place is its place in its namespace, behind the rows of those before
 pub returns-in-Some : goal.returns-in-Some
@@ -23,7 +24,8 @@ returns-in-Some g c =
     let before = length (all_rows (take c.in-Ok.home c.args.groups.now)) in
     let t = g.K.Named.texts_of c.args.name.now in
     let key_of = name g.K.Named.texts_of g.R.NamedRow.name_of g.R.GroupedRow.group_of in
-    ap (λ n. Some (n + c.in-Some.place)) c.first_of.ensures
+    let there = slice_get_within c.args.groups.now c.in-Ok.home (c.args.ns.now, home.0) home.1 in
+    ap (λ n. Some (n + c.in-Some.place)) (c.requires.starts.each c.in-Ok.home there)
     ∙ ap (option_map (λ n. before + n)) (c.in-Some.ensures.place
     ∙ ap (λ (x : Text × List g.row.R.Denot). position (λ row. is_key t (key_of row)) x.1) (sym c.index-groups-home.is ∙ item_is g.K.Named.texts_of g.R.NamedRow.name_of g.R.GroupedRow.group_of c.args.ns.now c.in-Ok.home home.0 c.args.groups.now home.1 c.requires.are c.index-groups-home.result c.index-groups-home.is))
     ∙ sym (came_place g.K.Named.texts_of g.R.NamedRow.name_of g.R.GroupedRow.group_of c.args.ns.now c.in-Ok.home home.0 c.args.groups.now home.1 c.requires.are t)
