@@ -11,6 +11,7 @@ pub mod Tells
 pub mod RootPlaces
 pub mod Stores
 pub mod Orders
+pub mod Parts
 pub mod NumberPlaces
 pub mod NodesAt
 pub mod RowsApart

@@ -1,5 +1,5 @@
 //! The numbers of nodes, from a node to its number and back.
-ghost use Rattle.std.specs.Prelude.{◌≡◌, None, IfOk, slice_get};
+ghost use Rattle.std.specs.Prelude.{◌≡◌, None, IfOk, slice_get, option_map};
 ghost use Rattle.meta_types.specs.Faults.{Refuses};
 ghost use Rattle.meta_types.specs.declared.resource.Mode.TheVariants.{Full, Flat};
 ghost use Rattle.meta_types.specs.declared.resource.Resource.TheVariants.{Content, Snapshot, Ingest};
@@ -9,7 +9,9 @@ ghost use Rattle.gc_graph.specs.Built.{number_of};
 ghost use Rattle.gc_graph.specs.Stored.{records_of, IsSmall, AreLent};
 
 use crate::node::Node;
-use crate::numbers::{content_number, flat_ingest_number, ingest_number, node_at, snapshot_number};
+use crate::numbers::{
+    content_number, flat_ingest_number, ingest_number, node_at, snapshot_number, snapshot_numbers,
+};
 use crate::rows::StoreRows;
 use crate::texts::tell_rows;
 use meta_types::{Digest, Fault, Mode, Name, Resource, ShortName};
@@ -102,6 +104,21 @@ impl<'a> NodeBook<'a> {
         ensures { result ≡ number_of self.now (node ns.now (Snapshot snapshotter.now name.now) mode) }
     {
         snapshot_number(&self.rows, ns, snapshotter, name, mode)
+    }
+
+    // The numbers of a snapshot, in full and in flat.
+    pub(crate) fn snapshot_numbers(
+        &self,
+        ns: &ShortName,
+        snapshotter: &ShortName,
+        name: &Name,
+    ) -> Option<(u32, u32)>
+        ensures full { option_map (λ numbers. numbers.0) result
+            ≡ number_of self.now (node ns.now (Snapshot snapshotter.now name.now) Full) }
+        ensures flat { option_map (λ numbers. numbers.1) result
+            ≡ number_of self.now (node ns.now (Snapshot snapshotter.now name.now) Flat) }
+    {
+        snapshot_numbers(&self.rows, ns, snapshotter, name)
     }
 
     // The number of a resource in a mode; an ingest has one mode.

@@ -13,9 +13,7 @@ ghost use Rattle.gc_graph.specs.Built.{targets_in, root_targets, root_places, pl
 ghost use Rattle.gc_graph.specs.Stored.{records_of, IsSmall, AreLent};
 
 use crate::book::NodeBook;
-use crate::edges::{
-    push_content, push_flat_content, push_flat_snapshots, push_ingests, push_snapshots,
-};
+use crate::edges::{push_content, push_ingests, push_snapshots};
 use crate::ignored::{Ignored, ignored_images, ignored_leases};
 use crate::roots::{
     push_containers, push_images, push_leases, push_marked_content, push_marked_snapshots,
@@ -56,9 +54,7 @@ fn edges_of(
     let mut edges = TargetLists::with_capacity(alloc, count)?;
     push_ingests(alloc, book, rows.ingests, &mut edges)?;
     push_content(rt, alloc, book, rows.content, workers, &mut edges)?;
-    push_flat_content(alloc, book, rows.content, &mut edges)?;
     push_snapshots(rt, alloc, book, rows.snapshots, workers, &mut edges)?;
-    push_flat_snapshots(alloc, book, rows.snapshots, &mut edges)?;
     Ok(edges)
 }
 

@@ -1,5 +1,5 @@
 //! The rows of the graph: what each thing references.
-ghost use Rattle.std.specs.Prelude.{◌≡◌, ◌++◌, map, OnOk, None, IfOk};
+ghost use Rattle.std.specs.Prelude.{◌≡◌, ◌++◌, map, OnOk, None};
 ghost use Rattle.meta_types.specs.Faults.{Refuses};
 ghost use Rattle.meta_types.specs.Paths.{ingest, content, snapshot};
 ghost use Rattle.meta_types.specs.declared.resource.Mode.TheVariants.{Full, Flat};
@@ -14,82 +14,89 @@ use meta_types::{ContentRow, Fault, IngestRow, Mode, SnapRow};
 use std::alloc::Global;
 use std::thread::Threads;
 
-fn ingest_targets(alloc: Global, book: &NodeBook<'_>, row: &IngestRow) -> Result<Vec<u32>, Fault>
-    ensures fault { Refuses result None }
-    ensures ok { IfOk result (λ v. v.items ≡ targets_in book.now (ingest row.now)) }
-{
-    let mut numbers = Vec::new(alloc);
-    if let Some(digest) = &row.expected {
-        push_number(
-            book.content_number(&row.ns, digest, Mode::Full),
-            &mut numbers,
-        )?;
-    }
-    Ok(numbers)
-}
-
-fn content_targets(alloc: Global, book: &NodeBook<'_>, row: &ContentRow) -> Result<Vec<u32>, Fault>
-    ensures fault { Refuses result None }
-    ensures ok { IfOk result (λ v. v.items ≡ targets_in book.now (content Full row.now)) }
-{
-    let mut numbers = Vec::new(alloc);
-    push_labels(alloc, book, &row.ns, &row.labels, &mut numbers)?;
-    Ok(numbers)
-}
-
-// Adds the number of a snapshot's parent, in the mode of the snapshot.
-fn push_parent(
-    book: &NodeBook<'_>,
-    row: &SnapRow,
-    mode: Mode,
-    numbers: &mut Vec<u32>,
-) -> Result<(), Fault>
+// Adds the number of the content that an ingest expects.
+fn push_expected(book: &NodeBook<'_>, row: &IngestRow, numbers: &mut Vec<u32>) -> Result<(), Fault>
     ensures fault { Refuses result None }
     ensures ok { OnOk result (numbers.new.items
-        ≡ numbers.old.items ++ numbers_in book.now (parent_target mode row.now)) }
+        ≡ numbers.old.items ++ targets_in book.now (ingest row.now)) }
 {
-    match &row.parent {
+    match &row.expected {
         None => Ok(()),
-        Some(name) => {
-            let key = &row.key;
-            let number = book.snapshot_number(&key.ns, &key.snapshotter, name, mode);
+        Some(digest) => {
+            let number = book.content_number(&row.ns, digest, Mode::Full);
             push_number(number, numbers)
         }
     }
 }
 
-fn snapshot_targets(alloc: Global, book: &NodeBook<'_>, row: &SnapRow) -> Result<Vec<u32>, Fault>
-    ensures fault { Refuses result None }
-    ensures ok { IfOk result (λ v. v.items ≡ targets_in book.now (snapshot Full row.now)) }
-{
-    let mut numbers = Vec::new(alloc);
-    push_parent(book, row, Mode::Full, &mut numbers)?;
-    push_labels(alloc, book, &row.key.ns, &row.labels, &mut numbers)?;
-    Ok(numbers)
-}
-
-fn flat_snapshot_targets(
-    alloc: Global,
+// Adds the numbers of a snapshot's parent, in full and in flat.
+fn push_parent(
     book: &NodeBook<'_>,
     row: &SnapRow,
-) -> Result<Vec<u32>, Fault>
+    full: &mut Vec<u32>,
+    flat: &mut Vec<u32>,
+) -> Result<(), Fault>
     ensures fault { Refuses result None }
-    ensures ok { IfOk result (λ v. v.items ≡ targets_in book.now (snapshot Flat row.now)) }
+    ensures full { OnOk result (full.new.items
+        ≡ full.old.items ++ numbers_in book.now (parent_target Full row.now)) }
+    ensures flat { OnOk result (flat.new.items
+        ≡ flat.old.items ++ numbers_in book.now (parent_target Flat row.now)) }
 {
-    let mut numbers = Vec::new(alloc);
-    push_parent(book, row, Mode::Flat, &mut numbers)?;
-    Ok(numbers)
+    let Some(name) = &row.parent else {
+        return Ok(());
+    };
+    let key = &row.key;
+    let Some((in_full, in_flat)) = book.snapshot_numbers(&key.ns, &key.snapshotter, name) else {
+        return Ok(());
+    };
+    full.push(in_full)?;
+    flat.push(in_flat)?;
+    Ok(())
 }
 
-// Adds lists of targets.
-fn push_lists(lists: &[Vec<u32>], edges: &mut TargetLists) -> Result<(), Fault>
-    ensures fault { Refuses result None }
-    ensures ok { OnOk result (edges.new ≡ edges.old ++ map (λ v. v.items) lists.now) }
-{
-    for list in lists {
-        edges.push(list)?;
+/// Reads content: in flat it references nothing.
+#[derive(Clone, Copy)]
+struct Contents<'b, 'a> {
+    book: &'b NodeBook<'a>,
+}
+
+impl<'b, 'a, 'r> RowReader<&'r ContentRow> for Contents<'b, 'a> {
+    ghost full_of = { λ reader row. targets_in reader.book.now (content Full row.now) };
+
+    ghost flat_of = { λ reader row. targets_in reader.book.now (content Flat row.now) };
+
+    fn push_targets(
+        &self,
+        alloc: Global,
+        row: &&'r ContentRow,
+        full: &mut Vec<u32>,
+        _flat: &mut Vec<u32>,
+    ) -> Result<(), Fault> {
+        push_labels(alloc, self.book, &row.ns, &row.labels, full)
     }
-    Ok(())
+}
+
+/// Reads snapshots: in flat each references its parent in flat.
+#[derive(Clone, Copy)]
+struct Snapshots<'b, 'a> {
+    book: &'b NodeBook<'a>,
+}
+
+impl<'b, 'a, 'r> RowReader<&'r SnapRow> for Snapshots<'b, 'a> {
+    ghost full_of = { λ reader row. targets_in reader.book.now (snapshot Full row.now) };
+
+    ghost flat_of = { λ reader row. targets_in reader.book.now (snapshot Flat row.now) };
+
+    fn push_targets(
+        &self,
+        alloc: Global,
+        row: &&'r SnapRow,
+        full: &mut Vec<u32>,
+        flat: &mut Vec<u32>,
+    ) -> Result<(), Fault> {
+        push_parent(self.book, row, full, flat)?;
+        push_labels(alloc, self.book, &row.key.ns, &row.labels, full)
+    }
 }
 
 // Adds the rows of ingests.
@@ -103,41 +110,16 @@ pub(crate) fn push_ingests(
     ensures ok { OnOk result (edges.new ≡ edges.old
         ++ map (λ row. targets_in book.now (ingest row.now)) rows.now) }
 {
+    let mut numbers = Vec::new(alloc);
     for row in rows {
-        edges.push(&ingest_targets(alloc, book, row)?)?;
+        numbers.clear();
+        push_expected(book, row, &mut numbers)?;
+        edges.push(&numbers)?;
     }
     Ok(())
 }
 
-/// Reads content in full.
-#[derive(Clone, Copy)]
-struct FullContent<'b, 'a> {
-    book: &'b NodeBook<'a>,
-}
-
-impl<'b, 'a, 'r> RowReader<&'r ContentRow> for FullContent<'b, 'a> {
-    ghost targets_of = { λ reader row. targets_in reader.book.now (content Full row.now) };
-
-    fn targets(&self, alloc: Global, row: &&'r ContentRow) -> Result<Vec<u32>, Fault> {
-        content_targets(alloc, self.book, row)
-    }
-}
-
-/// Reads snapshots in full.
-#[derive(Clone, Copy)]
-struct FullSnapshots<'b, 'a> {
-    book: &'b NodeBook<'a>,
-}
-
-impl<'b, 'a, 'r> RowReader<&'r SnapRow> for FullSnapshots<'b, 'a> {
-    ghost targets_of = { λ reader row. targets_in reader.book.now (snapshot Full row.now) };
-
-    fn targets(&self, alloc: Global, row: &&'r SnapRow) -> Result<Vec<u32>, Fault> {
-        snapshot_targets(alloc, self.book, row)
-    }
-}
-
-// Adds the rows of content in full.
+// Adds the rows of content, in full and then in flat.
 pub(crate) fn push_content(
     rt: &(impl Threads + Sync),
     alloc: Global,
@@ -148,33 +130,13 @@ pub(crate) fn push_content(
 ) -> Result<(), Fault>
     ensures fault { Refuses result None }
     ensures ok { OnOk result (edges.new ≡ edges.old
-        ++ map (λ row. targets_in book.now (content Full row.now)) rows.now) }
-{
-    let made = read_rows(rt, alloc, &FullContent { book }, rows, workers)?;
-    push_lists(&made, edges)?;
-    Ok(())
-}
-
-// Adds the rows of content in flat: they reference nothing.
-pub(crate) fn push_flat_content(
-    alloc: Global,
-    book: &NodeBook<'_>,
-    rows: &[&ContentRow],
-    edges: &mut TargetLists,
-) -> Result<(), Fault>
-    ensures fault { Refuses result None }
-    ensures ok { OnOk result (edges.new ≡ edges.old
+        ++ map (λ row. targets_in book.now (content Full row.now)) rows.now
         ++ map (λ row. targets_in book.now (content Flat row.now)) rows.now) }
 {
-    // The book is named by the clauses alone.
-    let _book = book;
-    for _row in rows {
-        edges.push(&[])?;
-    }
-    Ok(())
+    read_rows(rt, alloc, &Contents { book }, rows, workers, edges)
 }
 
-// Adds the rows of snapshots in full.
+// Adds the rows of snapshots, in full and then in flat.
 pub(crate) fn push_snapshots(
     rt: &(impl Threads + Sync),
     alloc: Global,
@@ -185,26 +147,8 @@ pub(crate) fn push_snapshots(
 ) -> Result<(), Fault>
     ensures fault { Refuses result None }
     ensures ok { OnOk result (edges.new ≡ edges.old
-        ++ map (λ row. targets_in book.now (snapshot Full row.now)) rows.now) }
-{
-    let made = read_rows(rt, alloc, &FullSnapshots { book }, rows, workers)?;
-    push_lists(&made, edges)?;
-    Ok(())
-}
-
-// Adds the rows of snapshots in flat: each references its parent in flat.
-pub(crate) fn push_flat_snapshots(
-    alloc: Global,
-    book: &NodeBook<'_>,
-    rows: &[&SnapRow],
-    edges: &mut TargetLists,
-) -> Result<(), Fault>
-    ensures fault { Refuses result None }
-    ensures ok { OnOk result (edges.new ≡ edges.old
+        ++ map (λ row. targets_in book.now (snapshot Full row.now)) rows.now
         ++ map (λ row. targets_in book.now (snapshot Flat row.now)) rows.now) }
 {
-    for row in rows {
-        edges.push(&flat_snapshot_targets(alloc, book, row)?)?;
-    }
-    Ok(())
+    read_rows(rt, alloc, &Snapshots { book }, rows, workers, edges)
 }

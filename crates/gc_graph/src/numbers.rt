@@ -1,5 +1,5 @@
 //! A number is the first of its kind and mode, plus the place of its row.
-ghost use Rattle.std.specs.Prelude.{◌≡◌, ◌<◌, length, map, None, Some, IfOk, slice_get};
+ghost use Rattle.std.specs.Prelude.{◌≡◌, ◌<◌, length, map, None, Some, IfOk, slice_get, option_map};
 ghost use Rattle.meta_types.specs.Faults.{Refuses};
 ghost use Rattle.meta_types.specs.declared.resource.Mode.TheVariants.{Full, Flat};
 ghost use Rattle.meta_types.specs.declared.resource.Resource.TheVariants.{Content, Snapshot, Ingest};
@@ -91,9 +91,33 @@ pub(crate) fn snapshot_number(
     ensures { result ≡ number_of (nodes_of (records_of rows.now))
         (node ns.now (Snapshot snapshotter.now name.now) mode) }
 {
-    let first = first_snapshot(rows, mode);
+    let (full, flat) = snapshot_numbers(rows, ns, snapshotter, name)?;
+    match mode {
+        Mode::Full => Some(full),
+        Mode::Flat => Some(flat),
+    }
+}
+
+/// The numbers of a snapshot, in full and in flat: one look-up finds both.
+pub(crate) fn snapshot_numbers(
+    rows: &StoreRows<'_>,
+    ns: &ShortName,
+    snapshotter: &ShortName,
+    name: &Name,
+) -> Option<(u32, u32)>
+    requires small { IsSmall rows.now }
+    requires lent { AreLent rows.now }
+    ensures full { option_map (λ numbers. numbers.0) result
+        ≡ number_of (nodes_of (records_of rows.now))
+        (node ns.now (Snapshot snapshotter.now name.now) Full) }
+    ensures flat { option_map (λ numbers. numbers.1) result
+        ≡ number_of (nodes_of (records_of rows.now))
+        (node ns.now (Snapshot snapshotter.now name.now) Flat) }
+{
+    let full = first_snapshot(rows, Mode::Full);
+    let flat = first_snapshot(rows, Mode::Flat);
     match rows.places.snapshots.place(ns, snapshotter, name) {
-        Some(place) => Some((first + place) as u32),
+        Some(place) => Some(((full + place) as u32, (flat + place) as u32)),
         None => None,
     }
 }

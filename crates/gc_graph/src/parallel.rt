@@ -1,52 +1,156 @@
-//! Rows of the graph, read by several threads.
-ghost use Rattle.std.specs.Prelude.{◌≡◌, ℕ, List, map, None, IfOk};
+//! Rows of the graph, read one by one or by several threads.
+ghost use Rattle.std.specs.Prelude.{◌≡◌, ◌<◌, ◌++◌, ℕ, List, map, None, IfOk, OnOk};
+ghost use Rattle.std.specs.List.{flat_map};
 ghost use Rattle.meta_types.specs.Faults.{Refuses};
 
+use mark_core::TargetLists;
 use meta_types::Fault;
 use rayon::iter::plumbing::LEAST_PIECE;
 use rayon::prelude::*;
 use std::alloc::Global;
 use std::thread::Threads;
 
-/// A reader of what a row references.
+/// A reader of what a row references in both modes.
 pub(crate) trait RowReader<T>: Sync {
-    /// The numbers of what the row references.
-    ghost targets_of: { Self → T → List ℕ };
+    /// The numbers of what the row references in full.
+    ghost full_of: { Self → T → List ℕ };
 
-    /// The numbers of what the row references.
-    fn targets(&self, alloc: Global, row: &T) -> Result<Vec<u32>, Fault>
+    /// The numbers of what the row references in flat.
+    ghost flat_of: { Self → T → List ℕ };
+
+    /// Adds the numbers of what the row references.
+    fn push_targets(
+        &self,
+        alloc: Global,
+        row: &T,
+        full: &mut Vec<u32>,
+        flat: &mut Vec<u32>,
+    ) -> Result<(), Fault>
         ensures fault { Refuses result None }
-        ensures ok { IfOk result (λ v. v.items ≡ targets_of self.now row.now) };
+        ensures full { OnOk result (full.new.items ≡ full.old.items ++ full_of self.now row.now) }
+        ensures flat { OnOk result (flat.new.items ≡ flat.old.items ++ flat_of self.now row.now) };
 }
 
-// The least length of a piece: pieces of that length are no more than the workers.
-fn least_piece(count: usize, workers: usize) -> usize {
-    count.div_ceil(workers.max(1)).max(LEAST_PIECE)
+// Adds the targets of each row, read by the calling thread.
+fn read_alone<T, R: RowReader<T>>(
+    alloc: Global,
+    reader: &R,
+    rows: &[T],
+    full: &mut TargetLists,
+    flat: &mut TargetLists,
+) -> Result<(), Fault>
+    ensures fault { Refuses result None }
+    ensures full { OnOk result (full.new ≡ full.old ++ map (R.full_of reader.now) rows.now) }
+    ensures flat { OnOk result (flat.new ≡ flat.old ++ map (R.flat_of reader.now) rows.now) }
+{
+    let mut in_full = Vec::new(alloc);
+    let mut in_flat = Vec::new(alloc);
+    for row in rows {
+        in_full.clear();
+        in_flat.clear();
+        reader.push_targets(alloc, row, &mut in_full, &mut in_flat)?;
+        full.push(&in_full)?;
+        flat.push(&in_flat)?;
+    }
+    Ok(())
 }
 
-// The targets of each row, read in pieces by at most `workers` threads, and joined in order. One
-// worker is the calling thread, and so are several where there are fewer than 2,048 rows.
+// The targets of a part of the rows, in full and in flat.
+fn read_part<T, R: RowReader<T>>(
+    alloc: Global,
+    reader: &R,
+    part: &[T],
+) -> Result<(TargetLists, TargetLists), Fault>
+    ensures fault { Refuses result None }
+    ensures full { IfOk result (λ lists. lists.0 ≡ map (R.full_of reader.now) part.now) }
+    ensures flat { IfOk result (λ lists. lists.1 ≡ map (R.flat_of reader.now) part.now) }
+{
+    let mut full = TargetLists::with_capacity(alloc, part.len())?;
+    let mut flat = TargetLists::with_capacity(alloc, part.len())?;
+    read_alone(alloc, reader, part, &mut full, &mut flat)?;
+    Ok((full, flat))
+}
+
+// The targets of all rows, in parts of `size` rows, each of which a thread reads.
+fn read_parts<T: Sync, R: RowReader<T>>(
+    rt: &(impl Threads + Sync),
+    alloc: Global,
+    reader: &R,
+    rows: &[T],
+    size: usize,
+) -> Result<Vec<(TargetLists, TargetLists)>, Fault>
+    requires { 0 < size }
+    ensures fault { Refuses result None }
+    ensures full { IfOk result (λ parts. flat_map (λ part. part.0) parts.items
+        ≡ map (R.full_of reader.now) rows.now) }
+    ensures flat { IfOk result (λ parts. flat_map (λ part. part.1) parts.items
+        ≡ map (R.flat_of reader.now) rows.now) }
+{
+    let made = rows
+        .par_chunks(size)
+        .map(
+            |part: &[T]| -> Result<(TargetLists, TargetLists), Fault>
+                ensures { Refuses result None × IfOk result (λ lists.
+                    (lists.0 ≡ map (R.full_of reader.entry.now) part.now)
+                    × (lists.1 ≡ map (R.flat_of reader.entry.now) part.now)) }
+            { read_part(alloc, reader, part) },
+        )
+        .collect::<Result<Vec<(TargetLists, TargetLists)>, Fault>>(rt, alloc)?;
+    made
+}
+
+// Adds the lists in full of all parts, in their order.
+fn join_full(parts: &[(TargetLists, TargetLists)], edges: &mut TargetLists) -> Result<(), Fault>
+    ensures fault { Refuses result None }
+    ensures ok { OnOk result (edges.new ≡ edges.old ++ flat_map (λ part. part.0) parts.now) }
+{
+    for part in parts {
+        edges.append(&part.0)?;
+    }
+    Ok(())
+}
+
+// The same of the lists in flat.
+fn join_flat(parts: &[(TargetLists, TargetLists)], edges: &mut TargetLists) -> Result<(), Fault>
+    ensures fault { Refuses result None }
+    ensures ok { OnOk result (edges.new ≡ edges.old ++ flat_map (λ part. part.1) parts.now) }
+{
+    for part in parts {
+        edges.append(&part.1)?;
+    }
+    Ok(())
+}
+
+// How many rows a part has: there are no more parts than workers, but for a few rows left over.
+fn part_size(count: usize, workers: usize) -> usize
+    ensures { 0 < result }
+{
+    (count / workers.max(1)).max(LEAST_PIECE)
+}
+
+/// Adds the targets of each row in full, and then those of each in flat. The rows are read in parts
+/// by at most `workers` threads, and the parts joined in order. One worker is the calling thread,
+/// and so are several where there are fewer than 2,048 rows.
 pub(crate) fn read_rows<T: Sync, R: RowReader<T>>(
     rt: &(impl Threads + Sync),
     alloc: Global,
     reader: &R,
     rows: &[T],
     workers: usize,
-) -> Result<Vec<Vec<u32>>, Fault>
+    edges: &mut TargetLists,
+) -> Result<(), Fault>
     ensures fault { Refuses result None }
-    ensures ok { IfOk result (λ edges. map (λ v. v.items) edges.items
-        ≡ map (R.targets_of reader.now) rows.now) }
+    ensures ok { OnOk result (edges.new ≡ edges.old ++ map (R.full_of reader.now) rows.now
+        ++ map (R.flat_of reader.now) rows.now) }
 {
-    let least = least_piece(rows.len(), workers);
-    let made = rows
-        .par_iter()
-        .with_min_len(least)
-        .map(
-            |row: &T| -> Result<Vec<u32>, Fault>
-                ensures { Refuses result None × IfOk result (λ v. v.items
-                    ≡ R.targets_of reader.entry.now row.now) }
-            { reader.targets(alloc, row) },
-        )
-        .collect::<Result<Vec<Vec<u32>>, Fault>>(rt, alloc)?;
-    made
+    let size = part_size(rows.len(), workers);
+    if rows.len() / 2 < size {
+        let mut flat = TargetLists::with_capacity(alloc, rows.len())?;
+        read_alone(alloc, reader, rows, edges, &mut flat)?;
+        edges.append(&flat)?;
+        return Ok(());
+    }
+    let parts = read_parts(rt, alloc, reader, rows, size)?;
+    join_full(&parts, edges)?;
+    join_flat(&parts, edges)
 }
