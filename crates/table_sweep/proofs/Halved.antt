@@ -1,6 +1,8 @@
 -- What halving finds in a list in which each snapshot stands before the next.
 use Rattle.std.proofs.Common.{◌≡◌, ℕ, zero, suc, ◌+◌, ◌-◌, ◌<◌, Bool, true, false, List, length, position, refl, sym, ap, subst, ◌∙◌, arith, inl, inr, Ok, Err, Result, ltb-true, ltb-false}
-use Rattle.std.specs.Prelude.{◌&&◌, ◌==◌, bytes_eq, nat_lt, slice_index_or}
+use Rattle.std.specs.Prelude.{◌&&◌, ◌==◌, bytes_eq, nat_lt, slice_get, slice_index_or, Option, Some, None}
+use Rattle.std.specs.Option.{option_map_or}
+use Rattle.std.proofs.lemmas.Option.{slice_get_within, get_or_from_slice_get}
 use Rattle.std.specs.Result.{result_ok}
 use Rattle.std.specs.List.{IsAllAdjacentAnswer}
 use Rattle.std.specs.List.Sorted.{IsBinarySearchResult, IsSearchInRange, IsSortedBy}
@@ -18,6 +20,7 @@ use Rattle.table_sweep.specs.Depths.{Listed}
 use Rattle.table_sweep.specs.SnapshotPlaces.{has_name, name_of, name_cmp, stands_before, AreListed}
 use Rattle.meta_types.proofs.OrderThen.{then_total}
 use Rattle.table_sweep.proofs.FirstPlace.{first_at, none_first}
+use Rattle.table_sweep.proofs.Searched.{is_tied}
 
 -- what a list is asked is answered
 pub are_listed : (xs : List Listed) (r : Bool) → IsAllAdjacentAnswer (λ x y b. b ≡ stands_before x y) xs r → r ≡ true → AreListed xs
@@ -76,3 +79,18 @@ module _ (name : Text × ℕ) where
           | inl low ↦ ap is_eq (point.0 k d (omega arith) (ltb-true k i low))
           | inr high ↦ ap is_eq (point.1 k d (ltb-false k i high) lt)
         ]))
+
+    -- a name that stands at a place stands there alone
+    pub near : (i : ℕ) → option_map_or (has_name name) (slice_get xs i) false ≡ true
+        → Some i ≡ position (has_name name) xs
+    near i h = go (slice_get xs i) refl h
+      where
+        go : (o : Option Listed) → slice_get xs i ≡ o → option_map_or (has_name name) o false ≡ true
+            → Some i ≡ position (has_name name) xs
+        go None e t = absurd cc
+        go (Some s) e t =
+            let tied = is_tied (name_cmp (own_name s) name) (sym (hit_is s) ∙ t) in
+            let is : (d : Listed) → slice_index_or xs i d ≡ s =
+            λ d. get_or_from_slice_get xs i s d e in
+            halved (Ok i) (slice_get_within xs i s e)
+            (λ d. ap (λ x. name_cmp (own_name x) name) (is d) ∙ tied)

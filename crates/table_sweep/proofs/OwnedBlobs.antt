@@ -1,14 +1,16 @@
 -- Marks of the blobs that rows own.
-use Rattle.std.proofs.Common.{◌≡◌, ℕ, suc, ◌+◌, ◌<◌, Bool, true, false, cond, not, List, [], ◌∷◌, ◌++◌, map, filter, length, get_or, take, refl, sym, ap, ◌∙◌, subst, inl, inr, Bor, Option, Some, None, if◌then◌else◌}
-use Rattle.std.specs.Prelude.{◌&&◌, ◌||◌, bytes_eq, slice_set}
+use Rattle.std.proofs.Common.{◌≡◌, ℕ, zero, suc, ◌+◌, ◌<◌, Bool, true, false, cond, not, List, [], ◌∷◌, ◌++◌, map, filter, length, get_or, take, refl, sym, ap, ◌∙◌, subst, inl, inr, Bor, Option, Some, None, if◌then◌else◌, true≢false}
+use Rattle.std.specs.Prelude.{◌&&◌, ◌||◌, bytes_eq, slice_get, slice_set}
 use Rattle.std.specs.List.{position, IsDistinct, AllByRecursion}
-use Rattle.std.specs.Option.{option_map}
+use Rattle.std.specs.Option.{option_map, option_map_or}
 use Rattle.std.specs.Ordering.{is_lt, ordering_then}
 use Rattle.std.specs.declared.cmp.Ordering.{Ordering}
 use Rattle.std.specs.declared.cmp.Ordering.TheVariants.{Less, Equal, Greater}
 use Rattle.std.proofs.lemmas.Bool.{cases_Bool}
 use Rattle.std.proofs.lemmas.List.{map-id}
 use Rattle.std.proofs.lemmas.List.Folds.{list_any-append}
+use Rattle.std.proofs.lemmas.Option.{slice_get_within}
+use Rattle.meta_types.proofs.ListSearches.{no_none, some_is}
 use Rattle.meta_types.specs.Text.{Text, text_cmp}
 use Rattle.meta_types.specs.Keys.{is_key, is_before}
 use Rattle.meta_types.specs.declared.rows.ContentRow.{ContentRow}
@@ -64,6 +66,60 @@ module _ (digest : Text) (before : Text → Bool) where
 
   pub marked_nowhere : (blobs : List Text) (marks : List Bool) → IsDistinct (same_key one_text) blobs → None ≡ position has blobs → marks ≡ map before blobs → marks ≡ map after blobs
   marked_nowhere blobs marks d none is = is ∙ ap (set_there (map before blobs)) none ∙ marked blobs d
+
+-- ---- a place that is tried
+
+all_at : {X : Type 0} (P : X → Type 0) (xs : List X) (i : ℕ) (y : X) → AllByRecursion P xs
+    → slice_get xs i ≡ Some y → P y
+all_at P [] i y all e = no_none y e
+all_at P (x ∷ xs) zero y all e = subst P (some_is x y e) all.0
+all_at P (x ∷ xs) (suc i) y all e = all_at P xs i y all.1 e
+
+module _ (digest other : Text) (t : bytes_eq digest other ≡ true) where
+  abbrev has_it : Text → Bool
+  has_it o = is_key (one_text digest) (one_text o)
+
+  same_other : is_key (one_text digest) (one_text other) ≡ true
+  same_other = sym (same_text digest other) ∙ t
+
+  -- a digest that stands at a place stands there alone
+  found_near : (blobs : List Text) (i : ℕ) → IsDistinct (same_key one_text) blobs
+      → slice_get blobs i ≡ Some other → Some i ≡ position has_it blobs
+  unfolding IsDistinct
+  found_near [] i d e = no_none other e
+  found_near (x ∷ blobs) zero d e =
+      let here : has_it x ≡ true = ap has_it (some_is x other e) ∙ same_other in
+      sym (position_next has_it x blobs
+      ∙ ap (λ b. cond b (Some 0) (option_map suc (position has_it blobs))) here)
+  found_near (x ∷ blobs) (suc i) d e =
+      let apart : same_key one_text x other ≡ false =
+      all_at (λ y. same_key one_text x y ≡ false) blobs i other d.0 e in
+      let rest = found_near blobs i d.1 e in
+      let both : has_it x ≡ true → same_key one_text x other ≡ true =
+      λ h. sym (keys_equiv.congr (one_text digest) (one_text x) (one_text other) h) ∙ same_other in
+      sym (position_next has_it x blobs ∙ elim (cases_Bool (has_it x)) [
+        | inl h ↦ absurd (true≢false (sym (both h) ∙ apart))
+        | inr f ↦ rw f (ap (option_map suc) (sym rest))
+      ])
+
+pub near_there : (digest : Text) (blobs : List Text) (i : ℕ) → IsDistinct (same_key one_text) blobs
+    → option_map_or (bytes_eq digest) (slice_get blobs i) false ≡ true
+    → Some i ≡ position (λ other. is_key (one_text digest) (one_text other)) blobs
+near_there digest blobs i d h = go (slice_get blobs i) refl h
+  where
+    go : (o : Option Text) → slice_get blobs i ≡ o → option_map_or (bytes_eq digest) o false ≡ true
+        → Some i ≡ position (λ other. is_key (one_text digest) (one_text other)) blobs
+    go None e t = absurd cc
+    go (Some other) e t = found_near digest other t blobs i d e
+
+pub near_within : (digest : Text) (blobs : List Text) (i : ℕ)
+    → option_map_or (bytes_eq digest) (slice_get blobs i) false ≡ true → i < length blobs
+near_within digest blobs i h = go (slice_get blobs i) refl h
+  where
+    go : (o : Option Text) → slice_get blobs i ≡ o → option_map_or (bytes_eq digest) o false ≡ true
+        → i < length blobs
+    go None e t = absurd cc
+    go (Some other) e t = slice_get_within blobs i other e
 
 -- ---- the marks of a row
 

@@ -1,5 +1,7 @@
 //! The blobs that no row owns, in the order of their digests.
-ghost use Rattle.std.specs.Prelude.{◌≡◌, ◌++◌, ◌∷◌, [], map, filter, length, not, bytes_eq, ◌&&◌, ◌||◌, if◌then◌else◌, OnOk, None, IfOk, Bool};
+ghost use Rattle.std.specs.Prelude.{◌≡◌, ◌<◌, ◌++◌, ◌∷◌, [], map, filter, length, not, false, bytes_eq, ◌&&◌, ◌||◌, if◌then◌else◌, OnOk, None, IfOk, IfSome, Bool, position, slice_get};
+ghost use Rattle.std.specs.Option.{option_map_or};
+ghost use Rattle.meta_types.specs.Keys.{is_key};
 ghost use Rattle.meta_types.specs.Text.{Text, text_cmp};
 ghost use Rattle.meta_types.specs.Faults.{Refuses};
 ghost use Rattle.object_tables.specs.Calls.{kept};
@@ -14,32 +16,70 @@ use row_tables::RowTable;
 use std::alloc::Global;
 use std::cmp::Ordering;
 
+// Whether the digest stands at a place.
+fn is_at(digests: &[Digest], place: usize, digest: &Digest) -> bool
+    ensures { result ≡ option_map_or (λ other. bytes_eq digest.now other)
+        (slice_get digests.now place) false }
+{
+    match digests.get(place) {
+        Some(other) => *digest == *other,
+        None => false,
+    }
+}
+
+// The place of a digest, where the backend has it: `near` is tried first.
+fn near_place(blobs: &RowTable<Digest, Digest>, near: usize, digest: &Digest) -> Option<usize>
+    ensures place { result
+        ≡ position (λ other. is_key (one_text digest.now) (one_text other)) blobs.now }
+    ensures within { IfSome result (λ place. place < length blobs.now) }
+{
+    if is_at(blobs.rows(), near, digest) {
+        return Some(near);
+    }
+    blobs.place(digest)
+}
+
 // Marks the place of the digest, where the backend has it.
-fn mark_blob(blobs: &RowTable<Digest, Digest>, digest: &Digest, owned: &mut Vec<bool>)
+fn mark_blob(
+    blobs: &RowTable<Digest, Digest>,
+    near: usize,
+    digest: &Digest,
+    owned: &mut Vec<bool>,
+) -> usize
     requires { length owned.old.items ≡ length blobs.now }
     ensures { (before : Text → Bool) → owned.old.items ≡ map before blobs.now
         → owned.new.items ≡ map (λ other. bytes_eq digest.now other || before other) blobs.now }
 {
     // No digest stands twice.
     let _digests = blobs.rows();
-    let Some(place) = blobs.place(digest) else {
-        return;
+    let Some(place) = near_place(blobs, near, digest) else {
+        return near;
     };
     owned[place] = true;
+    place
 }
 
-fn own_blob(blobs: &RowTable<Digest, Digest>, row: &ContentRow, stays: bool, owned: &mut Vec<bool>)
+fn own_blob(
+    blobs: &RowTable<Digest, Digest>,
+    next: &mut usize,
+    row: &ContentRow,
+    stays: bool,
+    owned: &mut Vec<bool>,
+)
     requires { length owned.old.items ≡ length blobs.now }
     ensures { (before : Text → Bool) → owned.old.items ≡ map before blobs.now → owned.new.items
         ≡ map (λ other. (stays && bytes_eq row.now.digest other) || before other) blobs.now }
 {
+    let near = *next;
     if !stays {
+        *next = near.saturating_add(1);
         return;
     }
-    mark_blob(blobs, &row.digest, owned);
+    *next = mark_blob(blobs, near, &row.digest, owned).saturating_add(1);
 }
 
-// For each place of a blob, whether a row that stays owns it.
+// For each place of a blob, whether a row that stays owns it. Most blobs stand as the rows do: so
+// the blob behind the last one is tried first.
 fn owned_blobs(
     alloc: Global,
     rows: &[&ContentRow],
@@ -52,8 +92,9 @@ fn owned_blobs(
         ≡ map (owns_blob (map (λ row. row.now) (kept mask.now rows.now))) blobs.now) }
 {
     let mut owned = Vec::from_elem(alloc, false, blobs.len())?;
+    let mut next = 0;
     for (i, row) in rows.iter().enumerate() {
-        own_blob(blobs, row, mask[i], &mut owned);
+        own_blob(blobs, &mut next, row, mask[i], &mut owned);
     }
     Ok(owned)
 }

@@ -58,6 +58,7 @@ fn ingests_gone(alloc: Global, owned: &[u64], numbers: &[u64]) -> Result<Vec<u64
 
 fn push_key(
     owners: &[&SnapRow],
+    next: &mut usize,
     snap: &BackSnap,
     depth: usize,
     keys: &mut Vec<Key>,
@@ -67,7 +68,7 @@ fn push_key(
     ensures ok { OnOk result (keys.new.items ≡ keys.old.items
         ++ (if snap_goes (map (λ owner. owner.now) owners.now) snap.now then key_at snap.now depth ∷ [] else [])) }
 {
-    if snap_goes(owners, snap) {
+    if snap_goes(owners, next, snap) {
         let snapshotter = snap.0.copy()?;
         keys.push(Key {
             snapshotter,
@@ -91,8 +92,9 @@ fn keys_in(
         (λ s. if snap_goes (map (λ owner. owner.now) owners.now) s then key_of snapshots.now s ∷ [] else []) snapshots.now) }
 {
     let mut keys = Vec::new(alloc);
+    let mut next = 0;
     for (i, snap) in snapshots.iter().enumerate() {
-        push_key(owners, snap, depths[i], &mut keys)?;
+        push_key(owners, &mut next, snap, depths[i], &mut keys)?;
     }
     Ok(keys)
 }

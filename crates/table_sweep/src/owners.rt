@@ -1,5 +1,5 @@
 //! The rows that own objects of ingests and snapshots, in the order of their numbers.
-ghost use Rattle.std.specs.Prelude.{◌≡◌, ◌++◌, ◌∷◌, ◌&&◌, ◌==◌, [], map, length, bytes_eq, if◌then◌else◌, OnOk, None, IfOk};
+ghost use Rattle.std.specs.Prelude.{◌≡◌, ◌++◌, ◌∷◌, ◌&&◌, ◌==◌, [], true, false, map, length, bytes_eq, is_err, if◌then◌else◌, OnOk, None, IfOk};
 ghost use Rattle.std.specs.List.{list_any};
 ghost use Rattle.std.specs.List.Sorted.{IsSorted, IsPermutation};
 ghost use Rattle.std.specs.Ordering.{nat_cmp};
@@ -93,9 +93,12 @@ fn owners_of<'a>(
 fn compare(a: &SnapRow, b: &SnapRow) -> Ordering
     ensures { result ≡ object_cmp (object_of a.now) (object_of b.now) }
 {
-    a.number
-        .cmp(&b.number)
-        .then(a.key.snapshotter.cmp(&b.key.snapshotter))
+    // The snapshotters are compared where the numbers are equal alone.
+    match a.number.cmp(&b.number) {
+        Ordering::Less => Ordering::Less,
+        Ordering::Equal => a.key.snapshotter.cmp(&b.key.snapshotter),
+        Ordering::Greater => Ordering::Greater,
+    }
 }
 
 // The rows that stay, by number and snapshotter.
@@ -119,20 +122,60 @@ pub(crate) fn snapshot_owners<'a>(
 fn compare_name(row: &SnapRow, snap: &BackSnap) -> Ordering
     ensures { result ≡ object_cmp (object_of row.now) (name_of snap.now) }
 {
-    row.number
-        .cmp(&snap.1)
-        .then(row.key.snapshotter.cmp(&snap.0))
+    match row.number.cmp(&snap.1) {
+        Ordering::Less => Ordering::Less,
+        Ordering::Equal => row.key.snapshotter.cmp(&snap.0),
+        Ordering::Greater => Ordering::Greater,
+    }
 }
 
-// No row among the owners has the snapshot's name.
-pub(crate) fn snap_goes(owners: &[&SnapRow], snap: &BackSnap) -> bool
+// The place of the owner that has the snapshot's name, or where one would stand.
+fn owner_place(owners: &[&SnapRow], snap: &BackSnap) -> Result<usize, usize>
     requires { IsSorted (λ a b. object_cmp (object_of a.now) (object_of b.now)) owners.now }
-    ensures { result ≡ snap_goes (map (λ owner. owner.now) owners.now) snap.now }
+    ensures { is_err result ≡ snap_goes (map (λ owner. owner.now) owners.now) snap.now }
 {
-    let found = owners.binary_search_by(
+    owners.binary_search_by(
         |row: &&SnapRow| -> Ordering
             ensures { result ≡ object_cmp (object_of row.now.now) (name_of snap.entry.now) }
         { compare_name(row, snap) },
-    );
-    found.is_err()
+    )
+}
+
+fn is_own(row: &SnapRow, snap: &BackSnap) -> bool
+    ensures { result
+        ≡ (bytes_eq row.now.key.snapshotter snap.now.0 && row.now.number == snap.now.1) }
+{
+    row.key.snapshotter == snap.0 && row.number == snap.1
+}
+
+// Whether the owner at a place has the snapshot's name.
+fn owns_at(owners: &[&SnapRow], place: usize, snap: &BackSnap) -> bool
+    ensures { result ≡ true → snap_goes (map (λ owner. owner.now) owners.now) snap.now ≡ false }
+{
+    match owners.get(place) {
+        Some(row) => is_own(row, snap),
+        None => false,
+    }
+}
+
+// No row among the owners has the snapshot's name. Most snapshots are listed as their owners stand:
+// so the owner behind the last one that was found is tried first.
+pub(crate) fn snap_goes(owners: &[&SnapRow], next: &mut usize, snap: &BackSnap) -> bool
+    requires { IsSorted (λ a b. object_cmp (object_of a.now) (object_of b.now)) owners.now }
+    ensures { result ≡ snap_goes (map (λ owner. owner.now) owners.now) snap.now }
+{
+    if owns_at(owners, *next, snap) {
+        *next = next.saturating_add(1);
+        return false;
+    }
+    match owner_place(owners, snap) {
+        Ok(place) => {
+            *next = place.saturating_add(1);
+            false
+        }
+        Err(place) => {
+            *next = place;
+            true
+        }
+    }
 }
