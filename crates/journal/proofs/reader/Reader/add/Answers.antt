@@ -1,0 +1,20 @@
+use Rattle.std.proofs.Common.{◌≡◌, ◌∙◌, ap, sym, ℕ, List, ◌++◌, [], Bool, ◌||◌, if◌then◌else◌}
+use Rattle.sha2.specs.Hashers.{Holds256}
+use Rattle.journal.specs.Text.{is_commit, is_torn}
+use Rattle.journal.specs.Reads.{ReadSo}
+use Rattle.journal.proofs.ReadOn.{reads_bytes}
+use Rattle.journal.proofs.reader.Reader.add.Goals as goal
+
+-- the bytes go behind the piece of a line
+pub returns-clause-ok : goal.returns-clause-ok
+returns-clause-ok c first text r none =
+    let read : ReadSo first text c.args.self.now.last c.args.self.now.end c.args.self.now.sum
+    c.args.self.now.once c.args.self.now.is_over
+    c.args.self.now.at c.args.self.now.head.items c.args.self.now.is_torn c.args.self.now.hasher =
+    r in
+    rw c.is_torn-has_zero.ensures
+    (reads_bytes first text _ _ _ _ _ _ _ _ _ c.args.bytes.now c.add_head.new.head.items none
+    c.in_ok-add_head.ensures.ok
+    _ c.in-Some.at c.in-Some.ensures
+    (λ all m holds. rw c.deref.ensures.value at
+    (c.sum_part.ensures (rw c.is_torn-has_zero.ensures all) m holds)) read)

@@ -1,0 +1,6 @@
+pub mod Crashes
+pub mod Groups
+pub mod Laws
+pub mod Reading
+pub mod Reads
+pub mod Text

@@ -1,0 +1,13 @@
+//! Runs a service that keeps a journal: a line is answered, the block's accepted lines are
+//! committed, and only then their replies are written.
+#![tactic(auto)]
+
+mod block;
+mod error;
+mod run;
+mod traits;
+mod writing;
+
+pub use error::RunError;
+pub use run::run_kept;
+pub use traits::{Service, Source};
