@@ -1,7 +1,17 @@
-"""Reads a containerd daemon's files, says them as a script of metad, and tells in bytes what metad answers.
+"""Reads a containerd daemon's files, says them as a script of metad, and tells what it answers.
 
 | Module | Is |
 |---|---|
+| words | the tool's words, and how each ends |
+| usage, plan, prune, impact, why, compare, forecast, metrics, graph | a word each |
+| copying, exporting | `copy` and `export`, which ask metad nothing |
+| report, refused, completion | words about replies, and about the words |
+| store | a store that a word asks about |
+| asking | a run of metad that is asked over pipes |
+| rows | the rows that a script leaves |
+| walks | which rows keep which, to rank them |
+| freed | what a report frees beyond another |
+| printing, progress | what is told, and meanwhile |
 | pages | the pages of a bolt file as a tree of buckets |
 | buckets | the rows of meta.db that stand in these buckets |
 | numbers | Go's numbers and times as bytes, and expiries as texts |
@@ -11,10 +21,7 @@
 | script | all rows as a script |
 | remarks | what a script can't say |
 | sizes | the file of sizes beside a script |
-| report | a report as a page |
-| impact | what each image, container and lease alone keeps |
 | requests | what a request line may say |
 | names | which names a store has, by its replies |
-| refused | why a line was refused |
-| words | the command's words |
 """
+from __future__ import annotations

@@ -1,18 +1,29 @@
-"""Which names a store has, as the replies of its script tell it: what isn't there, and what is there already."""
+"""Which names a store has, as the replies of its script tell it.
+
+So of a name that was refused it is known whether it isn't there, or is there already.
+"""
+from __future__ import annotations
+
+from typing import Any, Dict, List, Set, Tuple
 
 from .requests import QUESTIONS
 
 # the member that names a row, by the first word of an op
-OWN = {"image": "name", "container": "name", "content": "digest", "ingest": "ref", "snap": "key", "lease": "id"}
+OWN = {"image": "name", "container": "name", "content": "digest", "ingest": "ref", "snap": "key",
+       "lease": "id"}
+# what the first word of an op is, by a report's word for the rows
+KINDS = {"content": "content", "images": "image", "ingests": "ingest", "leases": "lease",
+         "snapshots": "snap"}
 
 
 class Names:
     """The namespaces and rows of a store after some replies."""
 
-    def __init__(self):
-        self.namespaces, self.rows = set(), set()
+    def __init__(self) -> None:
+        self.namespaces: Set[str] = set()
+        self.rows: Set[Tuple[str, ...]] = set()
 
-    def missing(self, op, request):
+    def missing(self, op: str, request: Dict[str, Any]) -> List[str]:
         """The members of a request that name something which isn't there."""
         kind, verb = (op.split(".") + [""])[:2]
         ns = request.get("ns")
@@ -33,12 +44,13 @@ class Names:
             found.append("lease")
         return found
 
-    def key(self, kind, request, member):
+    @staticmethod
+    def key(kind: str, request: Dict[str, Any], member: str) -> Tuple[str, ...]:
         """What a row is called here."""
         where = (request["snapshotter"],) if kind == "snap" else ()
         return (kind, request["ns"]) + where + (request[member],)
 
-    def done(self, op, request, reply):
+    def done(self, op: str, request: Dict[str, Any], reply: Dict[str, Any]) -> None:
         """Takes in a reply that isn't a refusal."""
         kind, verb = (op.split(".") + [""])[:2]
         if op == "ns.add":
@@ -59,8 +71,7 @@ class Names:
         if report and not report["dry"]:
             self.collected(report["removed"])
 
-    def collected(self, removed):
+    def collected(self, removed: Dict[str, List[List[str]]]) -> None:
         """Takes out the rows that a collection removed."""
-        kinds = {"content": "content", "images": "image", "ingests": "ingest", "leases": "lease", "snapshots": "snap"}
         for kind, rows in removed.items():
-            self.rows.difference_update((kinds[kind],) + tuple(row) for row in rows)
+            self.rows.difference_update((KINDS[kind],) + tuple(row) for row in rows)

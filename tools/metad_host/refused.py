@@ -1,31 +1,59 @@
-"""Why metad refused lines of a script: each with its number, empty lines counted, its op, the member and the rule."""
+"""Why metad refused lines of a script: the number of each, its op, the member and the rule."""
+from __future__ import annotations
+
 import json
 import sys
+from typing import Any, Dict, Iterable, List, Optional
 
 from . import requests
 from .faults import BadInput
 from .names import Names
+from .progress import Progress
 from .remarks import printable
 
 # fault 3: the member that names what is there already, by op
-MADE = {"ns.add": "ns", "image.add": "name", "container.add": "name", "content.add": "digest", "ingest.begin": "ref", "ingest.commit": "digest",
-        "snap.prepare": "key", "snap.view": "key", "snap.commit": "name", "lease.add": "id"}
+MADE = {
+    "ns.add": "ns",
+    "image.add": "name",
+    "container.add": "name",
+    "content.add": "digest",
+    "ingest.begin": "ref",
+    "ingest.commit": "digest",
+    "snap.prepare": "key",
+    "snap.view": "key",
+    "snap.commit": "name",
+    "lease.add": "id",
+}
 # fault 4: what forbids it, by op
-FORBIDDEN = {"ns.remove": "ns: an object or a lease is in it", "ingest.begin": "ref: no number is left for it", "ingest.commit": "digest: the ingest expects another",
-             "snap.prepare": "parent: not committed", "snap.view": "parent: not committed", "snap.commit": "key: not active", "snap.remove": "key: it has children",
-             "profile": "v: something was stored before", "gc.run": "at: too many rows for a collection", "gc.plan": "at: too many rows for a collection",
-             "gc.explain": "at: too many rows for a collection", "gc.impact": "resource: it has children",
-             "image.remove": "sync: too many rows for a collection", "lease.remove": "sync: too many rows for a collection"}
+FORBIDDEN = {
+    "ns.remove": "ns: an object or a lease is in it",
+    "ingest.begin": "ref: no number is left for it",
+    "ingest.commit": "digest: the ingest expects another",
+    "snap.prepare": "parent: not committed",
+    "snap.view": "parent: not committed",
+    "snap.commit": "key: not active",
+    "snap.remove": "key: it has children",
+    "profile": "v: something was stored before",
+    "gc.run": "at: too many rows for a collection",
+    "gc.plan": "at: too many rows for a collection",
+    "gc.explain": "at: too many rows for a collection",
+    "gc.impact": "resource: it has children",
+    "image.remove": "sync: too many rows for a collection",
+    "lease.remove": "sync: too many rows for a collection",
+}
 OTHER = {7: "memory was refused", 8: "a thread couldn't be started", 9: "the device failed"}
 
 
-def run(words):
+def run(words: Any, progress: Progress) -> int:
     """Prints a line for each refused line."""
     with open(words.script, "rb") as file:
         lines = [(number, line) for number, line in enumerate(file.read().split(b"\n"), 1) if line]
     replies = replies_of(sys.stdin.buffer)
     if len(replies) != len(lines):
-        raise BadInput("%s: it has %d lines, and there are %d replies" % (words.script, len(lines), len(replies)))
+        raise BadInput(
+            "%s: it has %d lines, and there are %d replies"
+            % (words.script, len(lines), len(replies))
+        )
     names = Names()
     for (number, line), reply in zip(lines, replies):
         why = explain(line, reply, names)
@@ -35,7 +63,7 @@ def run(words):
     return 0
 
 
-def replies_of(lines):
+def replies_of(lines: Iterable[bytes]) -> List[Dict[str, Any]]:
     """The replies of metad, each an object."""
     found = []
     for number, line in enumerate(lines, 1):
@@ -43,13 +71,15 @@ def replies_of(lines):
             reply = json.loads(line.decode())
         except (ValueError, RecursionError):
             reply = None
-        if not isinstance(reply, dict) or not ("ok" in reply or isinstance(reply.get("fault"), int)):
+        if not isinstance(reply, dict) or not (
+            "ok" in reply or isinstance(reply.get("fault"), int)
+        ):
             raise BadInput("reply %d isn't metad's" % number)
         found.append(reply)
     return found
 
 
-def explain(line, reply, names):
+def explain(line: bytes, reply: Dict[str, Any], names: Names) -> Optional[str]:
     """Why a line was refused, None where it wasn't; `names` follow the replies."""
     try:
         op, request = requests.read(line)
@@ -61,7 +91,7 @@ def explain(line, reply, names):
     return "%s: %s" % (op, reason(op, request, reply, names))
 
 
-def reason(op, request, reply, names):
+def reason(op: str, request: Dict[str, Any], reply: Dict[str, Any], names: Names) -> str:
     """The member and the rule of a request that was refused."""
     fault = reply["fault"]
     found = []
@@ -77,4 +107,6 @@ def reason(op, request, reply, names):
         found = [FORBIDDEN[op]]
     elif fault in OTHER:
         found = [OTHER[fault]]
-    return "; ".join(found) or "%s, for a reason that isn't known here" % reply.get("name", "refused")
+    return "; ".join(found) or "%s, for a reason that isn't known here" % reply.get(
+        "name", "refused"
+    )

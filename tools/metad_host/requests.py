@@ -1,6 +1,12 @@
-"""What a request line may say, as docs/FORMATS.md has it: the members of each op, and the rule of each member."""
+"""What a request line may say, as docs/FORMATS.md has it.
+
+The members of each op, and the rule of each member.
+"""
+from __future__ import annotations
+
 import json
 import re
+from typing import Any, Dict, Iterator, List, NoReturn, Optional, Set, Tuple, Union
 
 from .numbers import is_moment
 from .texts import CONTROL, DIGEST, LABEL_BYTES, NAME_BYTES, SHORT_NAME
@@ -8,40 +14,83 @@ from .texts import CONTROL, DIGEST, LABEL_BYTES, NAME_BYTES, SHORT_NAME
 LINE_BYTES = 65536
 MOST_LABELS = 256
 NESTING = 127
-OPS = {}  # name of an op -> its members, and those of them that may be left out
+# by the name of an op its members, and those of them that may be left out
+OPS: Dict[str, Tuple[List[str], Set[str]]] = {}
 
-for _row in """ns.add ns; ns.remove ns; ns.list
-image.add ns name target [labels]; image.target ns name target; image.remove ns name [sync]; image.get ns name; image.list ns; image.label ns name key value
-container.add ns name [snapshotter] [key] [labels]; container.remove ns name; container.get ns name; container.list ns; container.label ns name key value
-content.add ns digest [labels] [lease]; content.remove ns digest; content.get ns digest; content.list ns; content.label ns digest key value
-ingest.begin ns ref at [expected] [lease]; ingest.commit ns ref digest [labels] [lease]; ingest.abort ns ref; ingest.get ns ref; ingest.list ns
-snap.prepare ns snapshotter key [parent] [labels] [lease]; snap.view ns snapshotter key [parent] [labels] [lease]
-snap.commit ns snapshotter key name [labels] [lease]; snap.remove ns snapshotter key; snap.get ns snapshotter key; snap.list ns snapshotter
+for _row in """
+ns.add ns
+ns.remove ns
+ns.list
+image.add ns name target [labels]
+image.target ns name target
+image.remove ns name [sync]
+image.get ns name
+image.list ns
+image.label ns name key value
+container.add ns name [snapshotter] [key] [labels]
+container.remove ns name
+container.get ns name
+container.list ns
+container.label ns name key value
+content.add ns digest [labels] [lease]
+content.remove ns digest
+content.get ns digest
+content.list ns
+content.label ns digest key value
+ingest.begin ns ref at [expected] [lease]
+ingest.commit ns ref digest [labels] [lease]
+ingest.abort ns ref
+ingest.get ns ref
+ingest.list ns
+snap.prepare ns snapshotter key [parent] [labels] [lease]
+snap.view ns snapshotter key [parent] [labels] [lease]
+snap.commit ns snapshotter key name [labels] [lease]
+snap.remove ns snapshotter key
+snap.get ns snapshotter key
+snap.list ns snapshotter
 snap.label ns snapshotter name key value
-lease.add ns id [labels]; lease.remove ns id [sync]; lease.get ns id; lease.list ns; lease.label ns id key value
-lease.hold ns id type resource; lease.drop ns id type resource; lease.resources ns id
-profile v; gc.run at; gc.plan at; gc.explain ns type resource at; gc.impact ns type resource at""".replace("\n", ";").split(";"):
+lease.add ns id [labels]
+lease.remove ns id [sync]
+lease.get ns id
+lease.list ns
+lease.label ns id key value
+lease.hold ns id type resource
+lease.drop ns id type resource
+lease.resources ns id
+profile v
+gc.run at
+gc.plan at
+gc.explain ns type resource at
+gc.impact ns type resource at
+""".strip().split("\n"):
     _op, *_members = _row.split()
-    OPS[_op] = ([_name.strip("[]") for _name in _members], {_name[1:-1] for _name in _members if _name.startswith("[")})
+    OPS[_op] = ([_name.strip("[]") for _name in _members],
+                {_name[1:-1] for _name in _members if _name.startswith("[")})
 
-SHORT_RULE = "not 1 to 76 letters, digits, '.', '_' or '-', of which the first is a letter or a digit"
+SHORT_RULE = ("not 1 to 76 letters, digits, '.', '_' or '-', of which the first is a letter or a "
+              "digit")
 NAME_RULE = "not 1 to 1,024 bytes without control characters"
 TIME_RULE = "no time such as 2024-03-01T00:00:00Z"
 TYPE_RULE = "neither content, nor ingests, nor snapshots/ with a snapshotter"
 QUESTIONS = ("gc.explain", "gc.impact")  # they ask of a row of any kind
-ROW_RULE = "neither images, containers, leases, content, nor ingests, nor snapshots/ with a snapshotter"
+ROW_RULE = ("neither images, containers, leases, content, nor ingests, nor snapshots/ with a "
+            "snapshotter")
 
 
 class NoRequest(Exception):
     """Why a line is no request: the op, where it has one that is known, and the reason."""
 
 
-def refuse(reason, op=None):
+def refuse(reason: str, op: Optional[str] = None) -> NoReturn:
+    """Tells that a line is no request."""
     raise NoRequest("%s: %s" % (op, reason) if op else reason)
 
 
-def whole_number(text):
-    """A JSON number: an int where it is one from 0 to 2^64 - 1 without a sign, else a float, which has to be finite."""
+def whole_number(text: str) -> Union[int, float]:
+    """A JSON number: an int where it is one from 0 to 2^64 - 1 without a sign, else a float.
+
+    A float has to be finite.
+    """
     if text.isdigit() and len(text) <= 20 and int(text) < 2 ** 64:
         return int(text)
     number = float(text)
@@ -50,7 +99,12 @@ def whole_number(text):
     return number
 
 
-def read(line):
+def no_constant(name: str) -> NoReturn:
+    """Refuses a number that JSON hasn't and Python reads."""
+    refuse("not JSON: %s" % name)
+
+
+def read(line: bytes) -> Tuple[str, Dict[str, Any]]:
     """The op and the members of a request line, or NoRequest."""
     if len(line) > LINE_BYTES:
         refuse("more than 65,536 bytes")
@@ -63,15 +117,17 @@ def read(line):
     if deepest(text) > NESTING:
         refuse("nested over 127 deep")
     try:
-        request = json.loads(text, parse_int=whole_number, parse_float=whole_number, parse_constant=lambda name: refuse("not JSON: %s" % name))
+        request = json.loads(text, parse_int=whole_number, parse_float=whole_number,
+                             parse_constant=no_constant)
     except ValueError as bad:
-        refuse("not JSON: %s" % str(bad).replace(": line 1 column", ", at character").split(" (char")[0])
+        place = str(bad).replace(": line 1 column", ", at character")
+        refuse("not JSON: %s" % place.split(" (char")[0])
     if has_lone_surrogate(text):
         refuse("not JSON: half of a surrogate pair")
     return members_of(request)
 
 
-def members_of(request):
+def members_of(request: Any) -> Tuple[str, Dict[str, Any]]:
     """The op and the members of a JSON value that is a request."""
     if not isinstance(request, dict):
         refuse("not an object")
@@ -83,24 +139,29 @@ def members_of(request):
     if op not in OPS:
         refuse("op: no op is named %s" % json.dumps(op, ensure_ascii=False))
     members, optional = OPS[op]
-    faults = ["%s: missing" % name for name in members if name not in request and name not in optional]
+    faults = ["%s: missing" % name for name in members
+              if name not in request and name not in optional]
     faults += ["%s: no member of this op" % name for name in request if name not in members]
-    faults += ["%s: %s" % (name, fault) for name, fault in ((name, wrong_kind(name, value)) for name, value in request.items() if name in members) if fault]
+    for name, value in request.items():
+        fault = wrong_kind(name, value) if name in members else None
+        if fault:
+            faults.append("%s: %s" % (name, fault))
     if faults:
         refuse("; ".join(faults), op)
     return op, request
 
 
-def wrong_kind(name, value):
+def wrong_kind(name: str, value: object) -> Optional[str]:
     """Why a member's value is of another kind than its own; None where it isn't."""
     if name == "v":
         return None if type(value) is int else "not a whole number from 0 to 2^64 - 1"
     if name == "labels":
-        return None if isinstance(value, dict) and all(isinstance(text, str) for text in value.values()) else "not an object of texts"
+        texts = isinstance(value, dict) and all(isinstance(text, str) for text in value.values())
+        return None if texts else "not an object of texts"
     return None if isinstance(value, str) else "not a text"
 
 
-def deepest(text):
+def deepest(text: str) -> int:
     """How deep arrays and objects are nested in each other."""
     depth = most = 0
     for found in re.finditer(r'"(?:[^"\\]|\\.)*"|[\[{\]}]', text, re.DOTALL):
@@ -112,9 +173,9 @@ def deepest(text):
     return most
 
 
-def has_lone_surrogate(text):
+def has_lone_surrogate(text: str) -> bool:
     """Whether an escape is half of a surrogate pair."""
-    high = None  # the end of a first half
+    high: Optional[int] = None  # the end of a first half
     for found in re.finditer(r"\\(?:u([0-9A-Fa-f]{4})|.)", text, re.DOTALL):
         code = int(found[1], 16) if found[1] else 0
         if high is not None:
@@ -128,7 +189,7 @@ def has_lone_surrogate(text):
     return high is not None
 
 
-def broken_rules(op, request):
+def broken_rules(op: str, request: Dict[str, Any]) -> Iterator[str]:
     """Each rule that a member breaks, with the member, whatever the store holds."""
     for name in OPS[op][0]:
         if name in request:
@@ -136,10 +197,11 @@ def broken_rules(op, request):
             if fault:
                 yield "%s: %s" % (name, fault)
     if op == "container.add" and ("snapshotter" in request) != ("key" in request):
-        yield "key: missing beside snapshotter" if "snapshotter" in request else "snapshotter: missing beside key"
+        here, gone = ("snapshotter", "key") if "snapshotter" in request else ("key", "snapshotter")
+        yield "%s: missing beside %s" % (gone, here)
 
 
-def broken(op, name, request):
+def broken(op: str, name: str, request: Dict[str, Any]) -> Optional[str]:
     """The rule that this member of the request breaks; None where it breaks none."""
     text = request[name]
     if op.endswith(".label") and name in ("key", "value"):
@@ -155,7 +217,8 @@ def broken(op, name, request):
     if name == "v":
         return None if text in (1, 2) else "neither 1 nor 2"
     if name == "type" and op in QUESTIONS:
-        return None if resource_type(text) or text in ("images", "containers", "leases") else ROW_RULE
+        root = text in ("images", "containers", "leases")
+        return None if root or resource_type(text) else ROW_RULE
     if name == "type":
         return None if resource_type(text) else TYPE_RULE
     if name == "resource" and broken(op, "type", request):
@@ -165,36 +228,48 @@ def broken(op, name, request):
     return name_rule(text)
 
 
-def name_rule(text):
+def name_rule(text: str) -> Optional[str]:
+    """The rule that a name breaks."""
     data = text.encode()
     return None if 0 < len(data) <= NAME_BYTES and not CONTROL.search(data) else NAME_RULE
 
 
-def digest_rule(text):
+def digest_rule(text: str) -> Optional[str]:
+    """The rule that a digest breaks."""
     if DIGEST.fullmatch(text):
         return None
-    return "not sha512: with 128 lower-case digits" if text.startswith("sha512:") else "not sha256: with 64 lower-case digits"
+    if text.startswith("sha512:"):
+        return "not sha512: with 128 lower-case digits"
+    return "not sha256: with 64 lower-case digits"
 
 
-def resource_type(text):
+def resource_type(text: str) -> Optional[str]:
     """The type of a lease's resource without its snapshotter; None where it is none."""
     if text in ("content", "ingests"):
         return text
-    return "snapshots" if text.startswith("snapshots/") and SHORT_NAME.fullmatch(text[len("snapshots/"):]) else None
+    kind, _, snapshotter = text.partition("/")
+    return kind if kind == "snapshots" and SHORT_NAME.fullmatch(snapshotter) else None
 
 
-def label_rule(key, value):
-    """The rule that a label breaks; an empty value takes a label away, and then any key is allowed."""
+def label_rule(key: str, value: str) -> Optional[str]:
+    """The rule that a label breaks.
+
+    An empty value takes a label away, and then any key is allowed.
+    """
     if not value:
         return None
     if not key:
         return "empty"
-    return None if len(key.encode()) + len(value.encode()) <= LABEL_BYTES else "over 4,096 bytes with its value"
+    fits = len(key.encode()) + len(value.encode()) <= LABEL_BYTES
+    return None if fits else "over 4,096 bytes with its value"
 
 
-def labels_rule(labels):
+def labels_rule(labels: Dict[str, str]) -> Optional[str]:
+    """The rule that the labels of a row break."""
     for key, value in labels.items():
         fault = label_rule(key, value)
+        if fault and not key:
+            return "a key is empty"
         if fault:
-            return "the key %s is %s" % (json.dumps(key[:60], ensure_ascii=False), fault) if key else "a key is empty"
+            return "the key %s is %s" % (json.dumps(key[:60], ensure_ascii=False), fault)
     return "over 256" if sum(value != "" for value in labels.values()) > MOST_LABELS else None

@@ -1,98 +1,246 @@
-"""The command's words.
+"""The tool's words: what each takes, and how it ends.
 
-    export [--at TIME] [--labels] [--sizes FILE] ROOT|META_DB
-    report SIZES < replies
-    impact [--metad PROGRAM] SCRIPT SIZES
-    refused SCRIPT < replies
-
-Status 0: done; 1: an input can't be read, with one line that says why; 2: other words; 3, of export: the plan may differ from the daemon's collection, for a remark that says so.
+Status 0: done; 1: an input can't be read, `compare` found a row that went too early, or a name has
+several meanings; 2: other words, or something that the word needs isn't there; 3: the plan may
+differ from the daemon's collection, for a remark on standard error.
 """
+from __future__ import annotations
+
 import argparse
 import importlib
 import os
+import subprocess
 import sys
-import time
+from typing import Any, Dict, List, NamedTuple, Tuple
 
-from . import backends, buckets, pages, sizes
-from .faults import BadInput
+from .faults import BadInput, Missing
 from .numbers import is_moment
-from .remarks import Remarks, printable
-from .script import Script
+from .progress import Progress
+from .remarks import printable
 
 
-def moment(text):
+class Word(NamedTuple):
+    """A word: its module, what it answers, its operands and its options."""
+
+    module: str
+    answers: str
+    operands: Tuple[str, ...]
+    options: Tuple[str, ...]
+
+
+QUESTION = ("--at", "--metad", "--sizes", "--json", "--limit", "--bytes")
+WORDS: Dict[str, Word] = {
+    "usage": Word(
+        "usage",
+        "what fills the disk, by kind, by namespace and by holder",
+        ("ROOT",),
+        QUESTION + ("--measure",),
+    ),
+    "plan": Word("plan", "what a collection would free", ("ROOT",), QUESTION),
+    "prune": Word(
+        "prune", "images that no container uses, and what goes without them", ("ROOT",), QUESTION
+    ),
+    "impact": Word(
+        "impact", "what goes without each image, container and lease", ("ROOT", "[SIZES]"), QUESTION
+    ),
+    "why": Word("why", "every root that keeps a thing, and until when", ("ROOT", "WHAT"), QUESTION),
+    "copy": Word(
+        "copying", "a copy that is a state of the store", ("ROOT", "FILE"), ("--json", "--bytes")
+    ),
+    "compare": Word(
+        "compare",
+        "whether the daemon's collection removed too much or too little",
+        ("BEFORE", "AFTER"),
+        ("--at", "--metad", "--json", "--limit", "--bytes"),
+    ),
+    "forecast": Word("forecast", "what goes when, by itself", ("ROOT",), QUESTION),
+    "metrics": Word("metrics", "figures for Prometheus' textfile collector", ("ROOT",), QUESTION),
+    "graph": Word(
+        "graph",
+        "a picture of what keeps a thing, for Graphviz or as a page",
+        ("ROOT", "WHAT"),
+        QUESTION + ("--html",),
+    ),
+    "export": Word(
+        "exporting",
+        "the store as a script of metad, which ends in a plan",
+        ("ROOT",),
+        ("--at", "--labels", "--sizes"),
+    ),
+    "report": Word(
+        "report",
+        "the last report of metad's replies on standard input, as a page",
+        ("SIZES",),
+        ("--json", "--limit", "--bytes"),
+    ),
+    "refused": Word(
+        "refused",
+        "why metad refused lines of a script, by its replies on standard input",
+        ("SCRIPT",),
+        (),
+    ),
+    "completion": Word("completion", "completion for bash or zsh", ("SHELL",), ()),
+}
+OPERANDS = {
+    "ROOT": "the daemon's folder (/var/lib/containerd), its meta.db or a copy; "
+    "with --sizes a script of export",
+    "WHAT": "a name, a digest or its beginning, or a snapshot's folder such as overlayfs/4711",
+    "FILE": "where the copy goes; each snapshotter's file goes beside it",
+    "BEFORE": "a copy of before the collection",
+    "AFTER": "a copy of after it",
+    "SIZES": "what `export --sizes` wrote",
+    "SCRIPT": "what export wrote",
+    "SHELL": "bash or zsh",
+}
+OPTIONS: Dict[str, Dict[str, Any]] = {
+    "--at": {
+        "metavar": "TIME",
+        "help": "the moment of the collection, such as 2024-03-01T00:00:00Z; now without it",
+    },
+    "--metad": {
+        "metavar": "PROGRAM",
+        "help": "the program that answers; without it the built one of this pack or repository",
+    },
+    "--sizes": {
+        "metavar": "FILE",
+        "help": "the sizes of a script; export writes them there, other words read them",
+    },
+    "--json": {"action": "store_true", "help": "one JSON object; docs/HOST.md has its members"},
+    "--limit": {"metavar": "N", "help": "at most so many lines of a kind; 0: all"},
+    "--bytes": {"action": "store_true", "help": "sizes in bytes"},
+    "--measure": {
+        "action": "store_true",
+        "help": "measures the folders of writable snapshots, as du does",
+    },
+    "--html": {"metavar": "FILE", "help": "writes the picture there as a page of its own"},
+    "--labels": {
+        "action": "store_true",
+        "help": "all labels, not only those that the collector reads: others may hold secrets",
+    },
+}
+
+
+def moment(text: str) -> str:
     """A time that metad reads, of the words."""
     if not is_moment(text):
         raise argparse.ArgumentTypeError("%r is no time such as 2024-03-01T00:00:00Z" % text)
     return text
 
 
-def parser():
-    """The words of all commands."""
-    words = argparse.ArgumentParser(prog="host", description="A containerd daemon's metadata as a script of metad, and metad's answers in bytes. docs/HOST.md shows it.")
-    commands = words.add_subparsers(dest="command", metavar="export|report|impact|refused", required=True)
-    export = commands.add_parser("export", help="writes the metadata as a script that ends in a plan")
-    export.add_argument("--at", type=moment, metavar="TIME", help="the moment of the plan; now without it")
-    export.add_argument("--labels", action="store_true", help="all labels, not only those that the collector reads: others may hold secrets")
-    export.add_argument("--sizes", metavar="FILE", help="writes the bytes of each blob and snapshot there, and what each number is")
-    export.add_argument("path", metavar="ROOT|META_DB", help="the daemon's folder (/var/lib/containerd), or a copy of its meta.db alone")
-    page = commands.add_parser("report", help="the last report of metad's replies as a page")
-    page.add_argument("sizes", metavar="SIZES")
-    keeps = commands.add_parser("impact", help="what a collection would free without each image, container and lease")
-    keeps.add_argument("--metad", metavar="PROGRAM", help="the built program; without it this repository's ./metad")
-    keeps.add_argument("script", metavar="SCRIPT", help="what export wrote")
-    keeps.add_argument("sizes", metavar="SIZES")
-    why = commands.add_parser("refused", help="why metad refused lines of a script")
-    why.add_argument("script", metavar="SCRIPT")
+def count(text: str) -> int:
+    """A number of lines, of the words."""
+    if not text.isascii() or not text.isdigit() or len(text) > 9:
+        raise argparse.ArgumentTypeError("%r is no number such as 20" % text)
+    return int(text)
+
+
+TYPES: Dict[str, Any] = {"--at": moment, "--limit": count}
+
+
+def parser(name: str) -> argparse.ArgumentParser:
+    """The parser of all words."""
+    words = argparse.ArgumentParser(
+        prog=name,
+        formatter_class=argparse.RawDescriptionHelpFormatter,
+        epilog=listed(name),
+        usage="%s WORD [OPTION]... OPERAND..." % name,
+        add_help=False,
+        description="What fills a containerd daemon's disk, what may go, and why it stays.",
+    )
+    commands = words.add_subparsers(
+        dest="word", metavar="WORD", required=True, help=argparse.SUPPRESS
+    )
+    for word, about in WORDS.items():
+        one = commands.add_parser(word, description=about.answers, prog="%s %s" % (name, word))
+        for operand in about.operands:
+            bare = operand.strip("[]")
+            more: Dict[str, Any] = {"nargs": "?"} if bare != operand else {}
+            one.add_argument(attribute(word, bare), metavar=bare, help=OPERANDS[bare], **more)
+        for option in about.options:
+            typed: Dict[str, Any] = {"type": TYPES[option]} if option in TYPES else {}
+            one.add_argument(option, **OPTIONS[option], **typed)
     return words
 
 
-def export(words):
-    """Writes the script to standard output, whole or not at all."""
-    path, found = words.path, backends.Backends()
-    remarks = Remarks()
-    if os.path.isdir(path):
-        found = backends.read(path)  # before meta.db: an object is there before its row, so that none looks as if it had no row
-        path = os.path.join(path, backends.METADATA)
+def attribute(word: str, operand: str) -> str:
+    """What an operand is called among the parsed words."""
+    if operand == "SIZES":
+        return "second" if word == "impact" else "sizes"
+    return {"BEFORE": "before", "AFTER": "after", "WHAT": "what"}.get(operand, operand.lower())
+
+
+def listed(name: str) -> str:
+    """The words with what they answer, and examples."""
+    lines = ["words:"] + ["  %-11s %s" % (word, about.answers) for word, about in WORDS.items()]
+    return "\n".join(
+        lines
+        + [
+            "",
+            "%s help WORD tells a word's operands and options." % name,
+            "",
+            "  sudo %s usage /var/lib/containerd" % name,
+            "  sudo %s why /var/lib/containerd overlayfs/4711" % name,
+        ]
+    )
+
+
+def version(name: str) -> str:
+    """The tool's name and its commit."""
+    top = os.path.dirname(os.path.dirname(os.path.dirname(os.path.realpath(__file__))))
     try:
-        metadata = buckets.Metadata(pages.read(path), remarks)
-        script = Script(metadata, found, remarks, words.labels)
-        script.write(words.at or time.strftime("%Y-%m-%dT%H:%M:%SZ", time.gmtime()))
-    except BadInput as bad:
-        raise BadInput("%s: %s" % (path, bad))
-    if words.sizes:
-        sizes.write(words.sizes, script.sizes)
-    for text in remarks.texts():
-        sys.stderr.write("host: %s\n" % text)
-    for line in script.lines.written:
-        sys.stdout.buffer.write(line + b"\n")
-    sys.stdout.buffer.flush()
-    return 3 if remarks.may_change_plan() else 0
+        with open(os.path.join(top, "PACK"), encoding="utf-8") as file:
+            return "%s %s" % (name, file.readline().strip())
+    except OSError:
+        found = subprocess.run(
+            ["git", "-C", top, "rev-parse", "--short", "HEAD"],
+            stdout=subprocess.PIPE,
+            stderr=subprocess.DEVNULL,
+        )
+        return "%s %s" % (name, found.stdout.decode().strip() or "of an unknown commit")
 
 
-def close_output():
-    """Lets what is still buffered go nowhere, so that the interpreter's end doesn't try to write it."""
+def run(words: argparse.Namespace, name: str) -> int:
+    """Runs a word; its module is loaded now, where it is wanted."""
+    about = WORDS[words.word]
+    module = importlib.import_module("." + about.module, __package__)
+    with Progress(name) as progress:
+        status: int = module.run(words, progress)
+    return status
+
+
+def close_output() -> None:
+    """Lets what is still buffered go nowhere: the interpreter's end would write it."""
     os.dup2(os.open(os.devnull, os.O_WRONLY), sys.stdout.fileno())
 
 
-def run(words):
-    """The command that the words name; each of the others is a module, which is loaded where it is wanted."""
-    if words.command == "export":
-        return export(words)
-    return importlib.import_module("." + words.command, __package__).run(words)
+def asked_help(arguments: List[str]) -> List[str]:
+    """`help` and `help WORD` as the options that argparse knows."""
+    if arguments[:1] == ["help"] and len(arguments) == 2:
+        return [arguments[1], "--help"]
+    return arguments
 
 
-def main(arguments):
-    """Runs a command, and answers its status."""
-    words = parser().parse_args(["--help"] if arguments == ["help"] else arguments)
+def main(arguments: List[str], name: str = "host") -> int:
+    """Runs a word, and answers its status."""
     try:
-        return run(words)
+        if arguments in (["help"], ["--help"], ["-h"]):
+            sys.stdout.write(parser(name).format_help())
+            sys.stdout.flush()
+            return 0
+        if arguments == ["--version"]:
+            sys.stdout.write(version(name) + "\n")
+            sys.stdout.flush()
+            return 0
+        return run(parser(name).parse_args(asked_help(arguments)), name)
     except BrokenPipeError:  # who reads has seen enough
         close_output()
         return 1
     except KeyboardInterrupt:
         close_output()
         return 130
+    except Missing as bad:
+        sys.stderr.write("%s: %s\n" % (name, printable(str(bad))))
+        return 2
     except BadInput as bad:
         fault = str(bad)
     except OSError as bad:
@@ -101,5 +249,7 @@ def main(arguments):
             close_output()
     except UnicodeDecodeError:
         fault = "the input isn't UTF-8"
-    sys.stderr.write("host: %s\n" % printable(fault))
+    except MemoryError:
+        fault = "there isn't enough memory for this store"
+    sys.stderr.write("%s: %s\n" % (name, printable(fault)))
     return 1

@@ -33,7 +33,7 @@ def held(work, metad):
     from metad_host import sizes
     sizes.write(sizes_file, dict(sizes.empty(), blobs={digest: 5, other: 7}))
     found = stores.host("impact", "--metad", metad, script, sizes_file)
-    assert found.stdout.decode().split() == "0 bytes go before any removal 12 bytes 2 blobs 1 snapshots lease x/l (1 of unknown size)".split(), found
+    assert found.stdout.decode().split() == "0 B go before any removal (+ 1 of unknown size) 12 B 2 blobs 1 snapshots lease x/l (+ 1 of unknown size)".split(), found
 
 
 def otherwise(name, work, metad):
@@ -51,17 +51,14 @@ def otherwise(name, work, metad):
 
 def impact(name, work, metad):
     """What goes anyway and what impact says of the removed row is together what containerd freed; the lines stand by their bytes."""
-    found = stores.host("impact", "--metad", metad, stores.path(name, "script"), os.path.join(work, name + ".sizes"))
+    found = stores.host("impact", "--json", "--metad", metad, stores.path(name, "script"), os.path.join(work, name + ".sizes"))
     assert found.returncode == 0, found.stderr.decode()
-    first, *lines = found.stdout.decode().splitlines()
+    told = json.loads(found.stdout.decode())
     facts = stores.facts(name)
     kind, ns, row = facts["without"]
-    own = [line.split() for line in lines if line.split()[6:8] == [kind, ns + "/" + row]]
+    own = [found for found in told["rows"] if (found["kind"], found["ns"]) == (kind, ns) and row in found["names"]]
     assert len(own) == 1, "%s: no line of its own" % name
-    assert int(own[0][0]) > 0, "%s: nothing goes with it" % name
-    assert int(first.split()[0]) + int(own[0][0]) == facts["freed_bytes"], "%s: %s, where containerd freed %d" % (name, own[0], facts["freed_bytes"])
-    bytes_of = [int(line.split()[0]) for line in lines]
+    assert own[0]["frees"] > 0, "%s: nothing goes with it" % name
+    assert told["frees"] + own[0]["frees"] == facts["freed_bytes"], "%s: %s, where containerd freed %d" % (name, own[0], facts["freed_bytes"])
+    bytes_of = [found["frees"] for found in told["rows"]]
     assert bytes_of == sorted(bytes_of, reverse=True), "%s: not by bytes" % name
-    rows = sum(line.count('"op":"%s.add"' % kind) for line in stores.read(name, "script").decode().splitlines() for kind in ("image", "container", "lease"))
-    gone = sum(line.count('"op":"lease.remove"') for line in stores.read(name, "script").decode().splitlines())
-    assert len(lines) == rows - gone, "%s: %d lines for %d rows" % (name, len(lines), rows - gone)

@@ -89,9 +89,9 @@ class Pages:
         return 1, key, struct.pack("<QQ", self.bucket(value), 0)
 
 
-def write(path, tree):
-    """A file whose newest state is the tree."""
-    last = [3]
+def write(path, tree, free=0):
+    """A file whose newest state is the tree, with so many free pages before it."""
+    last = [3 + free]
 
     def take(count):
         last[0] += count
@@ -100,7 +100,7 @@ def write(path, tree):
     pages = Pages(take)
     root = pages.bucket(tree)
     with open(path, "wb") as file:
-        file.write(meta_page(0, root, last[0], 2) + meta_page(1, root, last[0], 1) + page(2, 16, [], b""))
+        file.write(meta_page(0, root, last[0], 2) + meta_page(1, root, last[0], 1) + page(2, 16, [], b"") + bytes(SIZE * free))
         for number in sorted(pages.written):
             file.write(pages.written[number])
 

@@ -16,13 +16,18 @@ def check(name, work):
     assert found.stdout == stores.read(name, "script"), "%s: export writes another script" % name
     with open(sizes_file) as file:
         sizes = json.load(file)
+    script = found.stdout
+    assert stores.asked(name, script) == stores.asked(name, script, sizes), "%s: another removal" % name
     report = json.loads(stores.read(name, "report").splitlines()[-1].decode())["report"]
-    compare(name, report, stores.facts(name), sizes)
+    compare(name, report, stores.facts(name), sizes, NAMED.get(name, {}))
     return found.returncode, found.stderr.decode()
 
 
-def compare(name, report, facts, sizes):
-    """A report against the facts, in the daemon's own words."""
+def compare(name, report, facts, sizes, named):
+    """A report against the facts, in the daemon's own words.
+
+    `named` are the objects that differ, as docs/HOST.md says; None where that isn't known.
+    """
     between = set(sizes["between"])
     own = {old: new for new, old in sizes["renamed"].items()}
     for kind, rows in report["removed"].items():
@@ -31,17 +36,20 @@ def compare(name, report, facts, sizes):
         assert mine == theirs, "%s: other %s: %s, %s" % (name, kind, [row for row in mine if row not in theirs], [row for row in theirs if row not in mine])
     kept = dict(report["kept"])
     kept["content"] -= len(between) - sum(row[1] in between for row in report["removed"]["content"])
+    kept["containers"] -= len(sizes["sandboxes"])
     assert kept == facts["kept"], "%s: keeps %s, containerd kept %s" % (name, kept, facts["kept"])
-    objects(name, report, facts["backend"], sizes, between)
+    objects(name, report, facts["backend"], sizes, between, named)
 
 
-def objects(name, report, theirs, sizes, between):
+def objects(name, report, theirs, sizes, between, named):
     """The objects of the backends."""
-    named = NAMED.get(name, {})
     gone = [tuple(row) for row in report["removed"]["ingests"]]
     blobs = [sizes["renamed"].get(digest, digest) for digest in report["backend"]["blobs"] if digest not in between]
     waited = [digest for digest in blobs if any(tuple(row) not in gone for row in sizes["awaited"].get(digest, ()))]
-    assert len(waited) == named.get("blobs", 0), "%s: %d blobs that ingests wait for" % (name, len(waited))
+    if named is None:
+        named = {}
+    else:
+        assert len(waited) == named.get("blobs", 0), "%s: %d blobs that ingests wait for" % (name, len(waited))
     assert sorted(set(blobs) - set(waited)) == theirs["blobs"], "%s: other blobs" % name
     numbers = sizes["numbers"]
     ingests = [numbers[str(number)]["backend"] for number in report["backend"]["ingests"] if number not in sizes["waiting"]]

@@ -32,7 +32,7 @@ def files(path):
     yield "a broken page", patched(good, root * 4096 + 8, b"\x40"), "neither branch nor leaf"
     yield "a page of zeros", patched(good, root * 4096, b"\0" * 4096), "calls itself"
     for what, tree, why in (("another program's file", {b"other": {b"a": b"b"}}, "no bucket v1"), ("a snapshotter's file", {b"v1": {b"snapshots": {b"1": {b"id": b"\1"}}}}, "no version"),
-                            ("a newer version", {b"v1": {b"version": b"\x08"}}, "version 4"), ("a version that is no number", {b"v1": {b"version": b"\xff" * 12}}, "no number"),
+                            ("a newer version", {b"v1": {b"version": b"\x0a"}}, "version 5 of the metadata, where 4 is"), ("a version that is no number", {b"v1": {b"version": b"\xff" * 12}}, "no number"),
                             ("a value where rows are", {b"v1": {b"version": b"\x06", b"ns": {b"images": b"x"}}}, "is no bucket"),
                             ("a row's bucket where a value is", {b"v1": {b"version": b"\x06", b"ns": {b"containers": {b"c": {b"snapshotter": {}}}}}}, "is a bucket"),
                             ("a size that is cut off", {b"v1": {b"version": b"\x06", b"ns": {b"content": {b"blob": {b"sha256:" + b"1" * 64: {b"size": b"\x80"}}}}}}, "no number"),
@@ -83,14 +83,32 @@ def others(work, sizes):
     refused("no report", "no reply has a report", "report", sizes, input=b'{"ok":true}\n')
     refused("a refusal", "reply 1 is", "report", sizes, input=b'{"fault":2,"name":"NotFound"}\n')
     refused("no replies", "isn't metad's", "report", sizes, input=b"x\n")
-    refused("a script of another kind", "no script of export", "impact", sizes, os.path.join(work, "a_daemon.sizes"))
+    refused("a script of another kind", "no script of export", "impact", "--metad", "/bin/true", sizes, os.path.join(work, "a_daemon.sizes"))
     refused("sizes of another script", "not the sizes", "report", os.path.join(work, "everything_odd.sizes"), input=re.sub(rb'\["(native|overlayfs)",[0-9]+\]', rb'["\1",99999]', report))
-    refused("no program", None, "impact", "--metad", os.path.join(work, "none"), script, os.path.join(work, "a_daemon.sizes"))
     refused("a program that answers nothing", "ended before", "impact", "--metad", "/bin/true", script, os.path.join(work, "a_daemon.sizes"))
-    for words in ([], ["exports"], ["export"], ["export", "--at", "monday", sizes], ["report"]):
+    questions(work, script)
+    for words in ([], ["exports"], ["export"], ["export", "--at", "monday", sizes], ["report"], ["usage"], ["why", sizes], ["usage", "--limit", "-1", sizes],
+                  ["help", "exports"], ["completion", "fish"], ["--version", "x"]):
         found = stores.host(*words)
         assert (found.returncode, found.stdout) == (2, b""), words
-    return 9
+    for words in (["help"], ["--help"], ["--version"], ["help", "why"], ["usage", "--help"], ["completion", "bash"], ["completion", "zsh"]):
+        found = stores.host(*words)
+        assert found.returncode == 0 and found.stdout and not found.stderr, words
+    return 13
+
+
+def questions(work, script):
+    """Bad inputs of the questions: what is missing is told with status 2, a bad file with status 1."""
+    sizes = os.path.join(work, "a_daemon.sizes")
+    none, folder = os.path.join(work, "none"), os.path.join(work, "a_daemon")
+    for words in (["impact", "--metad", none, script, sizes], ["usage", "--metad", none, folder], ["usage", "--metad", "/bin/true", "--sizes", sizes, folder],
+                  ["impact", "--metad", "/bin/true", "--sizes", sizes, script, sizes], ["usage", "--metad", "/bin/true", "--measure", "--sizes", sizes, script]):
+        found = stores.host(*words)
+        assert (found.returncode, found.stdout, found.stderr.count(b"\n")) == (2, b"", 1), "%s: %s" % (words, found)
+    refused("a question of a broken file", "no bolt file", "usage", "--metad", "/bin/true", stores.path("a_daemon", "script"))
+    refused("a question without a file", "No such file", "why", "--metad", "/bin/true", none, "x")
+    refused("a question of sizes of another kind", "no file of sizes", "prune", "--metad", "/bin/true", "--sizes", os.path.join(work, "bad.sizes"), script)
+    refused("a program that isn't metad", "metad ended before", "plan", "--metad", "/bin/true", "--sizes", sizes, script)
 
 
 def older(path):

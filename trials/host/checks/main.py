@@ -1,4 +1,7 @@
-"""Runs all checks of tools/host: main.py HOW [METAD] — HOW is `gate`, or `whole` for all damages and readings; METAD is the built program."""
+"""Runs all checks of tools/host: main.py HOW [METAD].
+
+HOW is `gate`, or `whole` for more damages, readings and stores; METAD is the built program.
+"""
 import os
 import sys
 import tempfile
@@ -10,11 +13,18 @@ sys.path.insert(0, os.path.dirname(os.path.abspath(__file__)))
 
 import answers
 import changing
+import containerd_2
+import copies
 import damage
 import facts
 import inputs
+import large
+import little_memory
 import many_rows
+import many_stores
+import objects
 import page
+import questions
 import refusals
 import stores
 import table
@@ -23,11 +33,29 @@ sys.path.insert(0, os.path.join(stores.TOP, "tools"))
 
 
 def main(whole, metad):
-    checks = [("facts", lambda work: facts.run(work)), ("table", table.run), ("inputs", inputs.run), ("refusals", refusals.run),
-              ("damage", lambda work: damage.run(work, 2000 if whole else 300)), ("changing", lambda work: changing.run(work, 10000 if whole else 300)),
-              ("many_rows", many_rows.run)]
+    checks = [
+        ("facts", facts.run),
+        ("table", table.run),
+        ("containerd_2", containerd_2.run),
+        ("inputs", inputs.run),
+        ("refusals", refusals.run),
+        ("damage", lambda work: damage.run(work, 6000 if whole else 1500)),
+        ("changing", lambda work: changing.run(work, *((10000, 45000) if whole else (300, 8000)))),
+        ("little_memory", little_memory.run),
+        ("many_rows", many_rows.run),
+    ]
     if metad:
-        checks += [("answers", lambda work: answers.run(work, metad)), ("page", page.run)]
+        checks += [
+            ("answers", lambda work: answers.run(work, metad)),
+            ("objects", lambda work: objects.run(work, metad)),
+            ("copies", lambda work: copies.run(work, metad)),
+            ("questions", lambda work: questions.run(work, metad, 400 if whole else 100)),
+            ("large", lambda work: large.run(work, metad)),
+        ]
+    if metad and "METAD" not in os.environ:  # the page's commands ask the repository's own
+        checks += [("page", page.run)]
+    if metad and whole:
+        checks += [("many_stores", lambda work: many_stores.run(work, metad, 200))]
     failed = 0
     with tempfile.TemporaryDirectory() as work:
         for name, check in checks:
@@ -36,7 +64,8 @@ def main(whole, metad):
                 print("host: %s: %s (%.1f s)" % (name, check(work), time.time() - start))
             except Exception as fault:  # what a check did not expect fails it too
                 failed += 1
-                print("host: %s: FAILED: %s" % (name, fault if isinstance(fault, AssertionError) and str(fault) else traceback.format_exc()))
+                told = str(fault) if isinstance(fault, AssertionError) else ""
+                print("host: %s: FAILED: %s" % (name, told or traceback.format_exc()))
             sys.stdout.flush()
     return 1 if failed else 0
 

@@ -24,6 +24,7 @@ def run(work):
     count = 0
     for command, output in blocks():
         found = subprocess.run(["sh", "-c", command], cwd=folder, stdout=subprocess.PIPE, stderr=subprocess.STDOUT).stdout.decode()
+        found = stores.without_progress(found)
         assert found == output, "`%s` prints\n%s" % (command, found)
         count += 1
     assert count > 0

@@ -9,6 +9,7 @@ import hashlib
 import io
 import json
 import os
+import re
 import subprocess
 import sys
 import tempfile
@@ -16,8 +17,10 @@ import tempfile
 HERE = os.path.dirname(os.path.abspath(__file__))
 TOP = os.path.dirname(os.path.dirname(os.path.dirname(HERE)))
 DATA = os.path.join(os.path.dirname(HERE), "data")
-HOST = os.path.join(TOP, "tools", "host")
-NAMES = ("a_daemon", "without_an_image", "without_a_container", "without_a_lease", "everything_odd")
+HOST = os.path.join(TOP, "tools", "host")  # for a release a link to the tool
+TOOL = os.path.join(TOP, "tools", "metad-host")
+NAMES = ("a_daemon", "without_an_image", "without_a_container", "without_a_lease", "everything_odd",
+         "containerd_2", "containerd_2_without_a_lease")
 
 
 def path(name, kind):
@@ -57,7 +60,24 @@ def make_root(name, root):
 
 def host(*words, **more):
     """A run of tools/host."""
-    return subprocess.run([HOST] + list(words), stdout=subprocess.PIPE, stderr=subprocess.PIPE, **more)
+    return called(HOST, words, more)
+
+
+def tool(*words, **more):
+    """A run of tools/metad-host."""
+    return called(TOOL, words, more)
+
+
+def called(tool, words, more):
+    """A run of the tool, without the lines that tell what it does where it takes over a second."""
+    found = subprocess.run([tool] + list(words), stdout=subprocess.PIPE, stderr=subprocess.PIPE, **more)
+    found.stderr = without_progress(found.stderr.decode()).encode()
+    return found
+
+
+def without_progress(text):
+    """A text without the lines that tell what the tool does, and for how long."""
+    return re.sub(r"^[a-z-]+: .* \(\d+ s\)\n", "", text, flags=re.MULTILINE)
 
 
 class Output(io.StringIO):
@@ -78,8 +98,13 @@ def exported(*words):
 
 
 def facts(name):
-    """What containerd removed, with the texts of rows and objects as export writes them in its sizes."""
-    found = json.loads(read(name, "facts"))
+    """What containerd removed of a store of ../data."""
+    return facts_of(read(name, "facts"))
+
+
+def facts_of(data):
+    """Facts with the texts of rows and objects as export writes them in its sizes."""
+    found = json.loads(data.decode())
     found["removed"] = {kind: [[text(part) for part in row] for row in rows] for kind, rows in found["removed"].items()}
     found["backend"]["ingests"] = [text(ref) for ref in found["backend"]["ingests"]]
     found["backend"]["snapshots"] = [[snapshotter, text(key)] for snapshotter, key in found["backend"]["snapshots"]]
@@ -95,14 +120,30 @@ def export(name, root, sizes):
     return host("export", "--at", facts(name)["at"], "--sizes", sizes, root)
 
 
-def asked(name, script):
-    """The script, and where containerd removed a row by hand, that removal and one more plan."""
-    gone = facts(name)["without"]
+def asked(name, script, sizes=None):
+    """The script of a store of ../data, with the removal where there was one.
+
+    Without its sizes, with the lines of the removal that stand beside it.
+    """
+    if sizes is None and os.path.exists(path(name, "removal")):
+        return script + read(name, "removal")
+    return asked_of(script, facts(name)["without"], sizes or {"held": []})
+
+
+def asked_of(script, gone, sizes):
+    """The script, and where a row was removed by hand, that removal and one more plan.
+
+    With a lease go the later ends of the images that it holds.
+    """
     if not gone:
         return script
     kind, ns, row = gone
-    remove = {"op": kind + ".remove", "ns": ns, "id" if kind == "lease" else "name": row}
-    return script + json.dumps(remove).encode() + b"\n" + script.rstrip(b"\n").split(b"\n")[-1] + b"\n"
+    lines = [{"op": kind + ".remove", "ns": ns, "id" if kind == "lease" else "name": row}]
+    for space, lease, image, without, _ in sizes["held"] if kind == "lease" else ():
+        if (space, lease) == (ns, row):
+            lines.append({"op": "image.label", "ns": ns, "name": image, "key": "containerd.io/gc.expire", "value": without})
+    plan = script.rstrip(b"\n").split(b"\n")[-1]
+    return script + b"".join(json.dumps(line).encode() + b"\n" for line in lines) + plan + b"\n"
 
 
 def expected(name, script):
@@ -125,8 +166,14 @@ def write_anew(name, metad):
     with tempfile.TemporaryDirectory() as work:
         make_root(name, os.path.join(work, "root"))
         found = export(name, os.path.join(work, "root"), os.path.join(work, "sizes"))
+        with open(os.path.join(work, "sizes")) as file:
+            sizes = json.load(file)
     put(path(name, "script"), found.stdout)
-    replies = subprocess.run([metad, "run"], input=asked(name, found.stdout), stdout=subprocess.PIPE).stdout.splitlines(keepends=True)
+    requests = asked(name, found.stdout, sizes)
+    if sizes["held"] and requests != found.stdout:
+        put(path(name, "removal"), requests[len(found.stdout):])
+    answered = subprocess.run([metad, "run"], input=requests, stdout=subprocess.PIPE).stdout
+    replies = answered.splitlines(keepends=True)
     put(path(name, "report"), b"".join(line for line in replies if b'"report"' in line))
     sys.stderr.write("%s: status %d, %d lines\n" % (name, found.returncode, len(found.stdout.splitlines())))
 

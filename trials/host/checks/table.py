@@ -69,7 +69,7 @@ CASES = [
     ("ten digits", expire(b"2024-03-01T05:00:00.0000000019Z"), [], 0, "expiries that Go alone reads, rewritten: 1", ['"2024-03-01T05:00:00.000000001Z"']),
     ("an offset of a day", expire(b"2024-03-01T05:00:00+24:00"), [], 0, "expiries that Go alone reads, rewritten: 1", ['"2024-02-29T05:00:00Z"']),
     ("an offset that Go 1.19 alone reads", expire(b"2024-03-01T05:00:00-99:00"), [], 3, LATER + "expiries that Go 1.19 reads and later versions don't: 1", ['"2024-03-05T08:00:00Z"']),
-    ("the year 9999", expire(b"9999-12-31T23:59:59Z"), [], 0, "expiries of the year 9999, which metad counts as unreadable (the lease stays in both): 1", ['"9999-12-31T23:59:59Z"']),
+    ("the year 9999", expire(b"9999-12-31T23:59:59Z"), [], 0, "expiries of the year 9999, which metad counts as unreadable (what has it stays in both): 1", ['"9999-12-31T23:59:59Z"']),
     ("an expiry that no one reads", expire(b"tomorrow"), [], 0, None, ['"containerd.io/gc.expire":"tomorrow"']),
     ("an expiry with a line feed", expire(b"2024-03-01T05:00:00Z\n"), [], 0, None, ['05:00:00Z\\n"']),
     ("an ingest whose lease is gone", rows_of(content={b"ingests": {b"up": {b"ref": b"ns/1/up"}}}), [], 0, "ingests whose lease is gone, begun under one that is removed again: 1", ['"op":"lease.remove"']),
@@ -91,6 +91,8 @@ CASES = [
     ("kinds of snapshots", rows_of(snapshots={b"native": {b"k": row({}, name=b"1")}}), [], 0, "kinds of snapshots, guessed (the daemon's folder tells them): 1", ['"op":"snap.prepare"']),
     ("specs, runtimes and times", rows_of(containers={b"c": row({}, createdat=NOW, spec=b"secret", runtime={b"name": b"runc"})}), [], 0, "specs and runtimes of containers, not carried: 2", ["!secret", "!runc"]),
     ("times", rows_of(images={b"i": row({}, createdat=NOW, target={b"digest": DIGEST})}), [], 0, "times of rows, not carried: 1", []),
+    ("annotations of an image", rows_of(images={b"i": row({}, annotations={b"note": b"secret"}, target={b"digest": DIGEST})}), [], 0,
+     "annotations of images, not carried: 1", ["!secret"]),
     ("labels of a namespace", rows_of(labels={b"team": b"shop"}), [], 0, "labels of namespaces, not carried: 1", ["!shop"]),
 ]
 
@@ -102,8 +104,10 @@ def run(work):
     return "%d stores with a thing each that a script can't say" % len(CASES)
 
 
-def check(what, path, namespace, words, status, remark, texts):
-    bolt_file.write(path, {b"v1": {b"version": b"\x06", b"ns": namespace}})
+def check(what, path, namespace, words, status, remark, texts, version=3, beside=()):
+    """Exports a store of this namespace and, beside v1, these buckets."""
+    top = {b"version": bytes([2 * version]), b"ns": namespace}
+    bolt_file.write(path, {b"v1": top, **dict(beside)})
     found, output, told = stores.exported("--at", "2024-03-02T00:00:00Z", *words, path)
     script = output.decode()
     assert found == status, "%s: status %d, %s" % (what, found, told)

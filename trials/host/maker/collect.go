@@ -108,8 +108,9 @@ func (r *root) copyTo(name string) {
 	check(f.Close())
 }
 
-// collect copies meta.db to before.db, collects at the moment, and tells what went
-func (r *root) collect(at time.Time) map[string]interface{} {
+// keepBefore copies meta.db to before.db, and the files of the snapshotters, and lists what the
+// content store holds
+func (r *root) keepBefore(a *inventory) {
 	r.copyTo("before.db")
 	for _, n := range snapshotters {
 		raw, err := os.ReadFile(filepath.Join(r.dir, "io.containerd.snapshotter.v1."+n, "metadata.db"))
@@ -119,7 +120,6 @@ func (r *root) collect(at time.Time) map[string]interface{} {
 		check(err)
 		check(os.WriteFile(filepath.Join(r.dir, "before-"+n+".db"), raw, 0644))
 	}
-	a := r.inventory()
 	var list []string
 	for d, n := range a.blobs {
 		list = append(list, fmt.Sprintf("blob %d %s", n, d))
@@ -129,6 +129,30 @@ func (r *root) collect(at time.Time) map[string]interface{} {
 	}
 	sort.Strings(list)
 	check(os.WriteFile(filepath.Join(r.dir, "before-stored"), []byte(strings.Join(list, "\n")+"\n"), 0644))
+}
+
+// kinds are those of rows that the facts tell
+var kinds = []string{"containers", "content", "images", "ingests", "leases", "namespaces",
+	"snapshots"}
+
+// hexed are rows as the facts have them: names that are no UTF-8 wouldn't come through JSON, so all
+// texts are hexadecimal
+func hexed(rows [][]string) [][]string {
+	out := [][]string{}
+	for _, row := range sorted(rows) {
+		x := []string{}
+		for _, t := range row {
+			x = append(x, hex.EncodeToString([]byte(t)))
+		}
+		out = append(out, x)
+	}
+	return out
+}
+
+// collect copies meta.db to before.db, collects at the moment, and tells what went
+func (r *root) collect(at time.Time) map[string]interface{} {
+	a := r.inventory()
+	r.keepBefore(a)
 	gone := r.removeOne()
 	if gone != nil {
 		a = r.inventory()
@@ -138,20 +162,8 @@ func (r *root) collect(at time.Time) map[string]interface{} {
 	check(err)
 	r.copyTo("after.db")
 	b := r.inventory()
-	// names that are no UTF-8 wouldn't come through JSON, so all texts of rows are hexadecimal
-	hexed := func(rows [][]string) [][]string {
-		out := [][]string{}
-		for _, row := range rows {
-			x := []string{}
-			for _, t := range row {
-				x = append(x, hex.EncodeToString([]byte(t)))
-			}
-			out = append(out, x)
-		}
-		return out
-	}
 	removed, kept := map[string][][]string{}, map[string]int{}
-	for _, k := range []string{"containers", "content", "images", "ingests", "leases", "namespaces", "snapshots"} {
+	for _, k := range kinds {
 		still := map[string]bool{}
 		for _, x := range b.rows[k] {
 			still[strings.Join(x, "\x00")] = true
@@ -162,7 +174,7 @@ func (r *root) collect(at time.Time) map[string]interface{} {
 				gone = append(gone, x)
 			}
 		}
-		removed[k], kept[k] = hexed(sorted(gone)), len(b.rows[k])
+		removed[k], kept[k] = hexed(gone), len(b.rows[k])
 	}
 	blobs, ings, snaps := []string{}, []string{}, [][]string{}
 	var freed int64

@@ -4,6 +4,8 @@
 //	containerd_store make -seed N -ops K -dir ROOT -o FACTS    a random root; ROOT/before.db is its meta.db, then one collection; FACTS tells what went
 //	    -remove: an image, a container or a lease is removed between the two
 //	containerd_store odd -dir ROOT -o FACTS                    the same with one store in which each thing stands that a script can't say
+//	containerd_store later -seed N -ops K -dir ROOT -o FACTS   a random root, its meta.db made one of version 4; FACTS tells what goes by rules.go
+//	    -remove: as above; -plain: nothing that a script can't say
 //	containerd_store hold FILE SECONDS                         holds FILE as a daemon does and writes to it all the time
 //
 // It is built with -tags faketime, so that time.Now() in containerd is the moment that is set.
@@ -92,7 +94,7 @@ func (r *root) start() {
 
 func main() {
 	if len(os.Args) < 2 {
-		check(fmt.Errorf("make, odd or hold"))
+		check(fmt.Errorf("make, odd, later or hold"))
 	}
 	f := flag.NewFlagSet("containerd_store", flag.ExitOnError)
 	seed := f.Int64("seed", 1, "")
@@ -100,8 +102,9 @@ func main() {
 	dir := f.String("dir", "", "")
 	out := f.String("o", "", "")
 	remove := f.Bool("remove", false, "")
+	plain := f.Bool("plain", false, "")
 	switch os.Args[1] {
-	case "make", "odd":
+	case "make", "odd", "later":
 		check(f.Parse(os.Args[2:]))
 		r := open(*dir)
 		var at time.Time
@@ -113,7 +116,12 @@ func main() {
 		if *remove {
 			r.less = rand.New(rand.NewSource(*seed))
 		}
-		facts := r.collect(at)
+		var facts map[string]interface{}
+		if os.Args[1] == "later" {
+			facts = r.laterFacts(r.toVersion4(rand.New(rand.NewSource(*seed)), at, *plain))
+		} else {
+			facts = r.collect(at)
+		}
 		b, err := json.Marshal(facts)
 		check(err)
 		check(os.WriteFile(*out, append(b, '\n'), 0644))
