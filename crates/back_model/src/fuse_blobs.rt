@@ -35,7 +35,7 @@ impl FuseBlobs {
 impl BlobBackend for FuseBlobs {
     ghost contents = { λ b. sorted one_text b.inner };
 
-    ghost came = { λ b. b.inner };
+    ghost arrived = { λ b. b.inner };
 
     ghost fails = { λ b. b.fuse.fails };
 

@@ -26,7 +26,7 @@ impl Model for MemBlobs {
 impl BlobBackend for MemBlobs {
     ghost contents = { λ b. sorted one_text b };
 
-    ghost came = { λ b. b };
+    ghost arrived = { λ b. b };
 
     ghost fails = { λ _. 0 };
 

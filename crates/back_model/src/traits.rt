@@ -68,7 +68,7 @@ pub trait BlobBackend: Send + Drop {
     ghost contents: { Self → List Text };
 
     /// The digests, in the order in which they are lent.
-    ghost came: { Self → List Text };
+    ghost arrived: { Self → List Text };
 
     /// How often its device has failed.
     ghost fails: { Self → ℕ };
@@ -99,16 +99,16 @@ pub trait BlobBackend: Send + Drop {
 
     /// Lends the digests in the order in which they are held, each found by its hash.
     fn digests(&self) -> &RowTable<Digest, Digest>
-        ensures came { result.now ≡ came self.now }
+        ensures arrived { result.now ≡ arrived self.now }
         ensures order { sorted one_text result.now ≡ contents self.now };
 
     /// Keeps the blobs whose mark is set, in the order of `digests`, and removes all others in one
     /// pass. Where its device may fail it answers false and changes nothing: each blob takes a call
     /// of its own then.
     fn retain(&mut self, marks: &[bool]) -> bool
-        requires { length marks.now ≡ length (came self.old) }
+        requires { length marks.now ≡ length (arrived self.old) }
         ensures kept { IsTrue result → (stays : Text → Bool) → marks.now ≡ map stays
-            (came self.old) → contents self.new ≡ filter stays (contents self.old) }
+            (arrived self.old) → contents self.new ≡ filter stays (contents self.old) }
         ensures same { result ≡ false → contents self.new ≡ contents self.old }
         ensures fails { fails self.new ≡ fails self.old };
 

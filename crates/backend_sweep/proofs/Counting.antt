@@ -11,8 +11,8 @@ use Rattle.std.specs.declared.cmp.Ordering.TheVariants.{Less}
 use Rattle.back_model.specs.Shown.{AreApart, all_failures}
 use Rattle.back_model.proofs.ShardPlaces.{apart_head, apart_rest}
 use Rattle.backend_sweep.specs.Shards.{has}
-use Rattle.backend_sweep.specs.Lanes.{Laned, is_failed}
-use Rattle.backend_sweep.proofs.Zipped.{Triple, olds_of, lanes_of, news_of, One, less_differ, behind_head, filter_twice, filter_images}
+use Rattle.backend_sweep.specs.ShardPlans.{PlannedShard, is_failed}
+use Rattle.backend_sweep.proofs.Zipped.{Triple, olds_of, shard_plans_of, news_of, One, less_differ, behind_head, filter_twice, filter_images}
 
 turned : (a b : Text) → bytes_eq a b ≡ bytes_eq b a
 turned a b = elim (cases_Bool (bytes_eq b a)) [
@@ -25,7 +25,8 @@ module _ {X : Type 0} (p q r : X → Bool) (splits : (x : X) → r x ≡ (p x ||
   both_counts [] = refl
   both_counts (x ∷ xs) = ap (λ (b : Bool). length (cond b (x ∷ filter r xs) (filter r xs))) (splits x) ∙ go (p x) (q x) (apart x) (both_counts xs)
     where
-      go : (a b : Bool) → (a ≡ true → b ≡ false) → length (filter r xs) ≡ length (filter p xs) + length (filter q xs)
+      go : (a b : Bool) → (a ≡ true → b ≡ false)
+          → length (filter r xs) ≡ length (filter p xs) + length (filter q xs)
           → length (cond (a || b) (x ∷ filter r xs) (filter r xs)) ≡ length (cond a (x ∷ filter p xs) (filter p xs)) + length (cond b (x ∷ filter q xs) (filter q xs))
       go true b h e = rw (h refl) (omega (arith, e))
       go false true h e = omega (arith, e)
@@ -37,12 +38,14 @@ none_kept (x ∷ xs) = none_kept xs
 
 module _ (names : List (Text × ℕ)) where
   abbrev among : List Triple → Text × ℕ → Bool
-  among zs = is_failed (lanes_of zs)
+  among zs = is_failed (shard_plans_of zs)
 
-  none_found : (t : Text) (ys : List Triple) → ((z : Triple) → Contains ys z → One names z) → ((z : Triple) → Contains ys z → text_cmp t z.0.snapshotter ≡ Less) → find (λ (lane : Laned). bytes_eq lane.snapshotter t) (lanes_of ys) ≡ None
+  none_found : (t : Text) (ys : List Triple) → ((z : Triple) → Contains ys z → One names z)
+      → ((z : Triple) → Contains ys z → text_cmp t z.0.snapshotter ≡ Less)
+      → find (λ (shard_plan : PlannedShard). bytes_eq shard_plan.snapshotter t) (shard_plans_of ys) ≡ None
   none_found t [] each less = refl
   none_found t (y ∷ ys) each less =
-      let differ : bytes_eq y.1.snapshotter t ≡ false = ap (λ (u : Text). bytes_eq u t) (each y (here y ys)).lane_name ∙ turned y.0.snapshotter t ∙ less_differ t y.0.snapshotter (less y (here y ys)) in
+      let differ : bytes_eq y.1.snapshotter t ≡ false = ap (λ (u : Text). bytes_eq u t) (each y (here y ys)).shard_plan_name ∙ turned y.0.snapshotter t ∙ less_differ t y.0.snapshotter (less y (here y ys)) in
       rw differ (none_found t ys (λ z c. each z (later y ys z c)) (λ z c. less z (later y ys z c)))
 
   module _ (y : Triple) (ys : List Triple) (apart : AreApart (olds_of (y ∷ ys))) (each : (z : Triple) → Contains (y ∷ ys) z → One names z) where
@@ -53,14 +56,15 @@ module _ (names : List (Text × ℕ)) where
     not_later name t =
         let same = (bytes_eq-Decides name.0 y.0.snapshotter).0 t in
         let none = none_found y.0.snapshotter ys (λ z c. each z (later y ys z c)) (behind_head y.0.snapshotter ys (apart_head y.0 (olds_of ys) apart)) in
-        ap (λ (o : Option Laned). option_map_or (λ (lane : Laned). has lane.swept.failed name.1) o false) (ap (λ (u : Text). find (λ (lane : Laned). bytes_eq lane.snapshotter u) (lanes_of ys)) same ∙ none)
+        ap (λ (o : Option PlannedShard). option_map_or (λ (shard_plan : PlannedShard). has shard_plan.swept.failed name.1) o false) (ap (λ (u : Text). find (λ (shard_plan : PlannedShard). bytes_eq shard_plan.snapshotter u) (shard_plans_of ys)) same ∙ none)
 
-    first_test : (name : Text × ℕ) → bytes_eq y.1.snapshotter name.0 ≡ bytes_eq name.0 y.0.snapshotter
-    first_test name = ap (λ (u : Text). bytes_eq u name.0) (each y (here y ys)).lane_name ∙ turned y.0.snapshotter name.0
+    first_test : (name : Text × ℕ)
+        → bytes_eq y.1.snapshotter name.0 ≡ bytes_eq name.0 y.0.snapshotter
+    first_test name = ap (λ (u : Text). bytes_eq u name.0) (each y (here y ys)).shard_plan_name ∙ turned y.0.snapshotter name.0
 
     test_splits : (name : Text × ℕ) → among (y ∷ ys) name ≡ (mine name || among ys name)
     test_splits name =
-        ap (λ (b : Bool). option_map_or (λ (lane : Laned). has lane.swept.failed name.1) (cond b (Some y.1) (find (λ (lane : Laned). bytes_eq lane.snapshotter name.0) (lanes_of ys))) false) (first_test name)
+        ap (λ (b : Bool). option_map_or (λ (shard_plan : PlannedShard). has shard_plan.swept.failed name.1) (cond b (Some y.1) (find (λ (shard_plan : PlannedShard). bytes_eq shard_plan.snapshotter name.0) (shard_plans_of ys))) false) (first_test name)
         ∙ elim (cases_Bool (bytes_eq name.0 y.0.snapshotter)) [
           | inl t ↦ rw (t, not_later name t) (or_nothing (has y.1.swept.failed name.1))
           | inr f ↦ rw f refl
@@ -82,7 +86,9 @@ module _ (names : List (Text × ℕ)) where
     pub step_count : length (filter (among (y ∷ ys)) names) ≡ length y.1.swept.failed + length (filter (among ys) names)
     step_count = both_counts mine (among ys) (among (y ∷ ys)) test_splits (λ name h. not_later name (and_parts (bytes_eq name.0 y.0.snapshotter) (has y.1.swept.failed name.1) h).0) names ∙ ap (λ (k : ℕ). k + length (filter (among ys) names)) mine_count
 
-  among_count : (zs : List Triple) → AreApart (olds_of zs) → ((z : Triple) → Contains zs z → One names z) → all_failures (news_of zs) ≡ all_failures (olds_of zs) + length (filter (among zs) names)
+  among_count : (zs : List Triple) → AreApart (olds_of zs)
+      → ((z : Triple) → Contains zs z → One names z)
+      → all_failures (news_of zs) ≡ all_failures (olds_of zs) + length (filter (among zs) names)
   among_count [] apart each = (let e = none_kept names in omega (arith, e))
   among_count (y ∷ ys) apart each =
       let rest = among_count ys (apart_rest y.0 (olds_of ys) apart) (λ z c. each z (later y ys z c)) in
@@ -91,5 +97,7 @@ module _ (names : List (Text × ℕ)) where
       omega (arith, rest, one, step)
 
   -- the count of all shards
-  pub counted : (zs : List Triple) → AreApart (olds_of zs) → ((z : Triple) → Contains zs z → One names z) → all_failures (news_of zs) ≡ all_failures (olds_of zs) + length (filter (is_failed (lanes_of zs)) names)
+  pub counted : (zs : List Triple) → AreApart (olds_of zs)
+      → ((z : Triple) → Contains zs z → One names z)
+      → all_failures (news_of zs) ≡ all_failures (olds_of zs) + length (filter (is_failed (shard_plans_of zs)) names)
   counted = among_count

@@ -8,10 +8,12 @@ use Rattle.backend_sweep.specs.declared.fates.Fate.{Fate}
 use Rattle.backend_sweep.specs.declared.fates.Fate.TheVariants as F
 use Rattle.meta_types.specs.Text.{Text}
 use Rattle.backend_sweep.specs.Shards.{has}
-use Rattle.backend_sweep.specs.Lanes.{Laned, fate_in, fate_of, is_removed, is_failed}
+use Rattle.backend_sweep.specs.ShardPlans.{PlannedShard, fate_in, fate_of, is_removed, is_failed}
 use Rattle.backend_sweep.specs.Fated.{names_with, was_removed, has_failed}
 
-pub names_with_more : {X : Type 0} (w : Fate → Bool) (names : List X) (fates : List Fate) (x : X) (f : Fate) → length fates ≡ length names → names_with w (names ++ x ∷ []) (fates ++ f ∷ []) ≡ names_with w names fates ++ (if w f then x ∷ [] else [])
+pub names_with_more : {X : Type 0} (w : Fate → Bool) (names : List X) (fates : List Fate) (x : X) (f : Fate)
+    → length fates ≡ length names
+    → names_with w (names ++ x ∷ []) (fates ++ f ∷ []) ≡ names_with w names fates ++ (if w f then x ∷ [] else [])
 names_with_more w [] [] x f e = refl
 names_with_more w [] (g ∷ fates) x f e = absurd (omega (arith, e))
 names_with_more w (y ∷ names) [] x f e = absurd (omega (arith, e))
@@ -23,33 +25,40 @@ names_with_more w (y ∷ names) (g ∷ fates) x f e =
     ]
 
 -- the names so far beside the fates so far: one more
-pub one_more : {X : Type 0} (w : Fate → Bool) (names : List X) (fates : List Fate) (i : ℕ) (n : X) (f : Fate) → take (i + 1) names ≡ take i names ++ n ∷ [] → i < length fates → length fates ≡ length names
+pub one_more : {X : Type 0} (w : Fate → Bool) (names : List X) (fates : List Fate) (i : ℕ) (n : X) (f : Fate)
+    → take (i + 1) names ≡ take i names ++ n ∷ [] → i < length fates → length fates ≡ length names
     → names_with w (take (i + 1) names) (take (i + 1) (slice_set fates i f)) ≡ names_with w (take i names) (take i fates) ++ (if w f then n ∷ [] else [])
 one_more w names fates i n f took here same =
     (λ j. names_with w (took j) (take_more_set fates i f here j))
     ∙ names_with_more w (take i names) (take i fates) n f (omega (arith, length-take-le i fates (omega (arith, here)), length-take-le i names (omega (arith, here, same))))
 
 -- the place's own element comes next
-pub took_at : {X : Type 0} (xs : List X) (i : ℕ) (n : X) → n ≡ slice_index_or xs i n → i < length xs → take (i + 1) xs ≡ take i xs ++ n ∷ []
+pub took_at : {X : Type 0} (xs : List X) (i : ℕ) (n : X) → n ≡ slice_index_or xs i n → i < length xs
+    → take (i + 1) xs ≡ take i xs ++ n ∷ []
 took_at xs i n is here =
     let onward : i + 1 ≡ suc i = omega arith in
     ap (λ k. take k xs) onward ∙ take-suc xs i n here ∙ ap (λ m. take i xs ++ m ∷ []) (sym is)
 
-pub whole_at : {X : Type 0} (xs : List X) (i : ℕ) (n : X) → take (i + 1) xs ≡ take i xs ++ n ∷ [] → take i xs ++ n ∷ drop (i + 1) xs ≡ xs
+pub whole_at : {X : Type 0} (xs : List X) (i : ℕ) (n : X) → take (i + 1) xs ≡ take i xs ++ n ∷ []
+    → take i xs ++ n ∷ drop (i + 1) xs ≡ xs
 whole_at xs i n took = sym (append_assoc (take i xs) (n ∷ []) (drop (i + 1) xs)) ∙ ap (λ l. l ++ drop (i + 1) xs) (sym took) ∙ take-append-drop (i + 1) xs
 
 -- what stands at a place, whatever would stand elsewhere
-pub any_default : {X : Type 0} (xs : List X) (i : ℕ) (d e : X) → i < length xs → slice_index_or xs i d ≡ slice_index_or xs i e
+pub any_default : {X : Type 0} (xs : List X) (i : ℕ) (d e : X) → i < length xs
+    → slice_index_or xs i d ≡ slice_index_or xs i e
 any_default [] i d e here = absurd (omega (arith, here))
 any_default (x ∷ xs) zero d e here = refl
 any_default (x ∷ xs) (suc i) d e here = any_default xs i d e (omega (arith, here))
 
-map_more : {X Y : Type 0} (f : X → Y) (xs : List X) (x : X) → map f (xs ++ x ∷ []) ≡ map f xs ++ f x ∷ []
+map_more : {X Y : Type 0} (f : X → Y) (xs : List X) (x : X)
+    → map f (xs ++ x ∷ []) ≡ map f xs ++ f x ∷ []
 map_more f [] x = refl
 map_more f (y ∷ xs) x = ap (λ l. f y ∷ l) (map_more f xs x)
 
 -- one more is set to the image of its name
-pub set_more : {X : Type 0} (f : X → Fate) (names : List X) (fates : List Fate) (i : ℕ) (n : X) (g : Fate) → take i fates ≡ map f (take i names) → n ≡ slice_index_or names i n → i < length names → length fates ≡ length names → g ≡ f n
+pub set_more : {X : Type 0} (f : X → Fate) (names : List X) (fates : List Fate) (i : ℕ) (n : X) (g : Fate)
+    → take i fates ≡ map f (take i names) → n ≡ slice_index_or names i n → i < length names
+    → length fates ≡ length names → g ≡ f n
     → take (i + 1) (slice_set fates i g) ≡ map f (take (i + 1) names)
 set_more f names fates i n g so_far is here same g_is =
     take_more_set fates i g (omega (arith, here, same))
@@ -58,7 +67,8 @@ set_more f names fates i n g so_far is here same g_is =
     ∙ ap (map f) (sym (took_at names i n is here))
 
 -- names beside the images of their own
-pub with_mapped : {X : Type 0} (w : Fate → Bool) (f : X → Fate) (p : X → Bool) → ((x : X) → w (f x) ≡ p x) → (xs : List X) → names_with w xs (map f xs) ≡ filter p xs
+pub with_mapped : {X : Type 0} (w : Fate → Bool) (f : X → Fate) (p : X → Bool)
+    → ((x : X) → w (f x) ≡ p x) → (xs : List X) → names_with w xs (map f xs) ≡ filter p xs
 with_mapped w f p same [] = refl
 with_mapped w f p same (x ∷ xs) =
     let rest = with_mapped w f p same xs in
@@ -68,33 +78,40 @@ with_mapped w f p same (x ∷ xs) =
       | false ↦ rest
     ]
 
--- ---- by lanes
+-- ---- by plans
 
-lane_removed : (n : ℕ) (o : Option Laned) → was_removed (fate_in o n) ≡ option_map_or (λ (lane : Laned). not (has lane.swept.failed n || has lane.swept.kept n)) o false
-lane_removed n None = refl
-lane_removed n (Some lane) = go (has lane.swept.failed n) (has lane.swept.kept n)
+shard_plan_removed : (n : ℕ) (o : Option PlannedShard)
+    → was_removed (fate_in o n) ≡ option_map_or (λ (shard_plan : PlannedShard). not (has shard_plan.swept.failed n || has shard_plan.swept.kept n)) o false
+shard_plan_removed n None = refl
+shard_plan_removed n (Some shard_plan) = go (has shard_plan.swept.failed n) (has shard_plan.swept.kept n)
   where
-    go : (f k : Bool) → was_removed (if f then F.Failed else if k then F.Kept else F.Removed) ≡ not (f || k)
+    go : (f k : Bool)
+        → was_removed (if f then F.Failed else if k then F.Kept else F.Removed) ≡ not (f || k)
     go true k = refl
     go false true = refl
     go false false = refl
 
-lane_failed : (n : ℕ) (o : Option Laned) → has_failed (fate_in o n) ≡ option_map_or (λ (lane : Laned). has lane.swept.failed n) o false
-lane_failed n None = refl
-lane_failed n (Some lane) = go (has lane.swept.failed n) (has lane.swept.kept n)
+shard_plan_failed : (n : ℕ) (o : Option PlannedShard)
+    → has_failed (fate_in o n) ≡ option_map_or (λ (shard_plan : PlannedShard). has shard_plan.swept.failed n) o false
+shard_plan_failed n None = refl
+shard_plan_failed n (Some shard_plan) = go (has shard_plan.swept.failed n) (has shard_plan.swept.kept n)
   where
     go : (f k : Bool) → has_failed (if f then F.Failed else if k then F.Kept else F.Removed) ≡ f
     go true k = refl
     go false true = refl
     go false false = refl
 
--- the fates are those of the lanes
-pub removed_by : (lanes : List Laned) (names : List (Text × ℕ)) (fates : List Fate) → fates ≡ map (fate_of lanes) names → names_with was_removed names fates ≡ filter (is_removed lanes) names
-removed_by lanes names fates are =
+-- the fates are those of the plans
+pub removed_by : (shard_plans : List PlannedShard) (names : List (Text × ℕ)) (fates : List Fate)
+    → fates ≡ map (fate_of shard_plans) names
+    → names_with was_removed names fates ≡ filter (is_removed shard_plans) names
+removed_by shard_plans names fates are =
     ap (names_with was_removed names) are
-    ∙ with_mapped was_removed (fate_of lanes) (is_removed lanes) (λ name. lane_removed name.1 (find (λ (lane : Laned). bytes_eq lane.snapshotter name.0) lanes)) names
+    ∙ with_mapped was_removed (fate_of shard_plans) (is_removed shard_plans) (λ name. shard_plan_removed name.1 (find (λ (shard_plan : PlannedShard). bytes_eq shard_plan.snapshotter name.0) shard_plans)) names
 
-pub failed_by : (lanes : List Laned) (names : List (Text × ℕ)) (fates : List Fate) → fates ≡ map (fate_of lanes) names → names_with has_failed names fates ≡ filter (is_failed lanes) names
-failed_by lanes names fates are =
+pub failed_by : (shard_plans : List PlannedShard) (names : List (Text × ℕ)) (fates : List Fate)
+    → fates ≡ map (fate_of shard_plans) names
+    → names_with has_failed names fates ≡ filter (is_failed shard_plans) names
+failed_by shard_plans names fates are =
     ap (names_with has_failed names) are
-    ∙ with_mapped has_failed (fate_of lanes) (is_failed lanes) (λ name. lane_failed name.1 (find (λ (lane : Laned). bytes_eq lane.snapshotter name.0) lanes)) names
+    ∙ with_mapped has_failed (fate_of shard_plans) (is_failed shard_plans) (λ name. shard_plan_failed name.1 (find (λ (shard_plan : PlannedShard). bytes_eq shard_plan.snapshotter name.0) shard_plans)) names

@@ -21,4 +21,4 @@ pub mod Fated
 pub mod OnePass
 pub mod OnePart
 pub mod NamesStand
-pub mod LastLane
+pub mod LastShardPlan

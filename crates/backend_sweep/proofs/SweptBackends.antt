@@ -16,20 +16,21 @@ use Rattle.back_model.specs.Shown.{Shard, AreApart, snaps_at, all_snaps}
 use Rattle.backend_sweep.specs.Shards.{is_number, numbers_of}
 use Rattle.backend_sweep.specs.Sweep.{Childfirst}
 use Rattle.backend_sweep.specs.Singles.{is_in, AreHeldOnce, SweepsEach}
-use Rattle.backend_sweep.specs.Lanes.{is_removed, is_failed}
+use Rattle.backend_sweep.specs.ShardPlans.{is_removed, is_failed}
 use Rattle.backend_sweep.specs.Backed.{MaySweep}
 use Rattle.backend_sweep.specs.Swept.{held_in, IsSwept}
 use Rattle.backend_sweep.proofs.Pairing.{same_kept, Pairs, each_from, pairs_filter, pairs_front}
 use Rattle.backend_sweep.proofs.SweptLists.{in_of, of_in}
 use Rattle.backend_sweep.proofs.Naming.{Named, names_may_be_swept}
-use Rattle.backend_sweep.proofs.Zipped.{Triple, olds_of, lanes_of, news_of, One, All3, filter_twice, snapshots_left, snapshots_removed, failed_fit, failed_apart}
+use Rattle.backend_sweep.proofs.Zipped.{Triple, olds_of, shard_plans_of, news_of, One, All3, filter_twice, snapshots_left, snapshots_removed, failed_fit, failed_apart}
 use Rattle.meta_types.proofs.GoingOrder.{one_way, chain}
 
 -- ---- objects without parents
 
 module _ {X : Type 0} (same : X → X → Bool) (is_same : (x y : X) → same x y ≡ true → x ≡ y) (same_is : (x y : X) → x ≡ y → same x y ≡ true) where
   -- what is left without an owner is held, each once
-  pub held_once : (p : X → Bool) (list old : List X) → list ≡ filter p old → Pairs (λ (a b : X). a ≡ b → ⊥) old → AreHeldOnce same list old
+  pub held_once : (p : X → Bool) (list old : List X) → list ≡ filter p old
+      → Pairs (λ (a b : X). a ≡ b → ⊥) old → AreHeldOnce same list old
   held_once p list old is apart = record {
     each = λ x h. in_of same is_same same_is old x (from_filter p old x (subst (λ (l : List X). Contains l x) is (of_in same is_same same_is list x h))).0;
     once = λ xs ys x e. false_from_ne_true (is_in same xs x) (λ h.
@@ -50,7 +51,8 @@ module _ {X : Type 0} (same : X → X → Bool) (is_same : (x y : X) → same x 
         (λ h. false_from_ne_true (is_in same list x) (λ l. both_ways (owns x) (none (owns x) (from_filter (λ y. not (owns y || false)) old x (subst (λ (k : List X). Contains k x) is (of_in same is_same same_is list x l))).1) h))
         (λ h. in_of same is_same same_is list x (subst (λ (k : List X). Contains k x) (sym is) (in_filter (λ y. not (owns y || false)) old x c (some (owns x) h)))))
       where
-        go : (o f l : Bool) → (o ≡ true → l ≡ false) → (o ≡ false → l ≡ true) → (not l || f) ≡ (o || f)
+        go : (o f l : Bool) → (o ≡ true → l ≡ false) → (o ≡ false → l ≡ true)
+            → (not l || f) ≡ (o || f)
         go true f l a b = rw (a refl) refl
         go false f l a b = rw (b refl) refl
 
@@ -63,7 +65,8 @@ module _ {X : Type 0} (same : X → X → Bool) (is_same : (x y : X) → same x 
         some false h = refl
 
 -- texts in order are apart
-pub texts_apart : (xs : List Text) → are_in_order namespace_key xs ≡ true → Pairs (λ (a b : Text). a ≡ b → ⊥) xs
+pub texts_apart : (xs : List Text) → are_in_order namespace_key xs ≡ true
+    → Pairs (λ (a b : Text). a ≡ b → ⊥) xs
 texts_apart [] h = tt
 texts_apart (x ∷ xs) h =
     let parts = and_parts (is_first namespace_key x xs) (are_in_order namespace_key xs) h in (
@@ -91,7 +94,8 @@ none_below all snap (x ∷ xs) = none_below all snap xs
 abbrev pub goes_by : Tables → List BackSnap → BackSnap → Bool
 goes_by tables all snap = not (snapshot_object_stays tables all no_objects snap)
 
-pub goes_by_is : (tables : Tables) (all : List BackSnap) (snap : BackSnap) → goes_by tables all snap ≡ not (owns_snapshot tables snap)
+pub goes_by_is : (tables : Tables) (all : List BackSnap) (snap : BackSnap)
+    → goes_by tables all snap ≡ not (owns_snapshot tables snap)
 goes_by_is tables all snap = ap not (three (owns_snapshot tables snap) (list_any (λ (name : Text × ℕ). is_named name snap) no_objects.snapshots) (is_ancestor_of_one all no_objects.snapshots snap) refl (none_below all snap all))
   where
     three : (a b c : Bool) → b ≡ false → c ≡ false → (a || b || c) ≡ a
@@ -99,7 +103,9 @@ goes_by_is tables all snap = ap not (three (owns_snapshot tables snap) (list_any
     three false b c p q = rw (p, q) refl
 
 module _ (olds : List Shard) (blobs : List Text) (ingests : List ℕ) (names : BackNames) (may : MaySweep (held_in olds blobs ingests) names) (apart : AreApart olds) where
-  pub named_by : (tables : Tables) → names ≡ removed_objects tables no_objects (held_in olds blobs ingests) → Named olds (goes_by tables (all_snaps olds)) names.snapshots
+  pub named_by : (tables : Tables)
+      → names ≡ removed_objects tables no_objects (held_in olds blobs ingests)
+      → Named olds (goes_by tables (all_snaps olds)) names.snapshots
   named_by tables are = record {
     apart = apart;
     ordered = may.ordered;
@@ -133,7 +139,7 @@ module _ (olds : List Shard) (blobs : List Text) (ingests : List ℕ) (names : B
 
     module _ (blobs' : List Text) (ingests' : List ℕ) (removed failed : BackNames) (b0 b1 i0 i1 : ℕ)
         (sb : SweepsEach bytes_eq names.blobs blobs blobs' removed.blobs failed.blobs b0 b1) (si : SweepsEach is_number names.ingests ingests ingests' removed.ingests failed.ingests i0 i1)
-        (removed_are : removed.snapshots ≡ filter (is_removed (lanes_of zs)) names.snapshots) (failed_are : failed.snapshots ≡ filter (is_failed (lanes_of zs)) names.snapshots) where
+        (removed_are : removed.snapshots ≡ filter (is_removed (shard_plans_of zs)) names.snapshots) (failed_are : failed.snapshots ≡ filter (is_failed (shard_plans_of zs)) names.snapshots) where
       blob_same : (x y : Text) → bytes_eq x y ≡ true → x ≡ y
       blob_same x y = (bytes_eq-Decides x y).0
 
@@ -155,7 +161,8 @@ module _ (olds : List Shard) (blobs : List Text) (ingests : List ℕ) (names : B
       abbrev old : BackLists
       old = held_in (olds_of zs) blobs ingests
 
-      swept_zs : names ≡ removed_objects tables no_objects old → IsSwept tables old (held_in (news_of zs) blobs' ingests') removed failed
+      swept_zs : names ≡ removed_objects tables no_objects old
+          → IsSwept tables old (held_in (news_of zs) blobs' ingests') removed failed
       swept_zs are = record {
         may_fail = record {
           blobs = sb.failed_is ∙ ap (filter (λ digest. list_any (bytes_eq digest) failed.blobs)) (ap (λ (n : BackNames). n.blobs) are);
@@ -176,7 +183,8 @@ module _ (olds : List Shard) (blobs : List Text) (ingests : List ℕ) (names : B
       }
 
       -- all backends are swept
-      pub swept : (news : List Shard) → news_of zs ≡ news → IsSwept tables (held_in olds blobs ingests) (held_in news blobs' ingests') removed failed
+      pub swept : (news : List Shard) → news_of zs ≡ news
+          → IsSwept tables (held_in olds blobs ingests) (held_in news blobs' ingests') removed failed
       swept news news_are =
           subst (λ (l : List Shard). IsSwept tables (held_in olds blobs ingests) (held_in l blobs' ingests') removed failed) news_are
           (subst (λ (l : List Shard). IsSwept tables (held_in l blobs ingests) (held_in (news_of zs) blobs' ingests') removed failed) olds_are

@@ -1,4 +1,4 @@
--- Shards, the lanes by which they were swept, and the shards that are left.
+-- Shards, the plans by which they were swept, and the shards that are left.
 use Rattle.std.proofs.Common.{◌≡◌, ℕ, zero, suc, ◌<◌, List, [], ◌∷◌, map, length, Bool, true, false, not, refl, sym, ◌∙◌, ap, subst, inl, inr, arith, slice_index_or}
 use Rattle.std.specs.Prelude.{All, Option, Some, IsTrue, bytes_eq, find, filter, cond, Contains, ◌==◌, ◌&&◌, ◌||◌}
 use Rattle.std.specs.List.{list_any, AllByRecursion}
@@ -22,38 +22,38 @@ use Rattle.back_model.specs.Shown.{Shard, AreApart, snaps_at, back_snap, snaps_i
 use Rattle.back_model.proofs.ShardPlaces.{apart_head, apart_rest}
 use Rattle.backend_sweep.specs.Shards.{has, numbers_of}
 use Rattle.backend_sweep.specs.Sweep.{Swept, Childfirst, Sweeps}
-use Rattle.backend_sweep.specs.Lanes.{Laned, lane_for, SweepsLane, in_lane, is_removed, is_failed}
+use Rattle.backend_sweep.specs.ShardPlans.{PlannedShard, shard_plan_for, SweepsShardPlan, in_shard_plan, is_removed, is_failed}
 use Rattle.backend_sweep.proofs.Pairing.{same_kept, in_part}
 use Rattle.backend_sweep.proofs.Naming.{Named, listed_is, falls_found, member_is}
 use Rattle.backend_sweep.proofs.Staying.{Of, stays_is, apart_is}
 use Rattle.backend_sweep.proofs.Remaining.{Left, AreLeft, all_left}
 use Rattle.backend_sweep.proofs.Sorting.{order_left}
 
--- a shard, its lane after the sweep, and what is left of the shard
+-- a shard, its plan after the sweep, and what is left of the shard
 abbrev pub Triple : Type 0
-Triple = Shard × Laned × Shard
+Triple = Shard × PlannedShard × Shard
 
 abbrev pub olds_of : List Triple → List Shard
 olds_of zs = map (λ (z : Triple). z.0) zs
 
-abbrev pub lanes_of : List Triple → List Laned
-lanes_of zs = map (λ (z : Triple). z.1) zs
+abbrev pub shard_plans_of : List Triple → List PlannedShard
+shard_plans_of zs = map (λ (z : Triple). z.1) zs
 
 abbrev pub news_of : List Triple → List Shard
 news_of zs = map (λ (z : Triple). z.2) zs
 
 pub record One (names : List (Text × ℕ)) (z : Triple) : Type 0 where
   pub new_name : z.2.snapshotter ≡ z.0.snapshotter
-  pub lane_name : z.1.snapshotter ≡ z.0.snapshotter
+  pub shard_plan_name : z.1.snapshotter ≡ z.0.snapshotter
   pub list_is : z.1.list ≡ numbers_of z.0.snapshotter names
   pub sweeps : Sweeps z.1.list z.0.snaps z.2.snaps z.0.failures z.2.failures z.1.swept
 
 -- ---- from places to triples
 
-pub record Zips (names : List (Text × ℕ)) (olds : List Shard) (lanes : List Laned) (news : List Shard) : Type 0 where
+pub record Zips (names : List (Text × ℕ)) (olds : List Shard) (shard_plans : List PlannedShard) (news : List Shard) : Type 0 where
   pub zs : List Triple
   pub olds_are : olds_of zs ≡ olds
-  pub lanes_are : lanes_of zs ≡ lanes
+  pub shard_plans_are : shard_plans_of zs ≡ shard_plans
   pub news_are : news_of zs ≡ news
   pub each : (z : Triple) → Contains zs z → One names z
 
@@ -61,18 +61,21 @@ module _ {S : Type 0} (contents : S → Snaps) (fails : S → ℕ) (names : List
   abbrev view : Text × S → Shard
   view = shown contents fails
 
-  one_of : (x y : Text × S) (l : Laned) → SweepsLane (view x) (lane_for names x.0) l (view y) → One names (view x, l, view y)
+  one_of : (x y : Text × S) (l : PlannedShard)
+      → SweepsShardPlan (view x) (shard_plan_for names x.0) l (view y)
+      → One names (view x, l, view y)
   one_of x y l s = record {
     new_name = s.name;
-    lane_name = ap (λ (k : Laned). k.snapshotter) s.lane_is;
-    list_is = ap (λ (k : Laned). k.list) s.lane_is;
-    sweeps = subst (λ (xs : List ℕ). Sweeps xs (contents x.1) (contents y.1) (fails x.1) (fails y.1) l.swept) (sym (ap (λ (k : Laned). k.list) s.lane_is)) s.sweeps;
+    shard_plan_name = ap (λ (k : PlannedShard). k.snapshotter) s.shard_plan_is;
+    list_is = ap (λ (k : PlannedShard). k.list) s.shard_plan_is;
+    sweeps = subst (λ (xs : List ℕ). Sweeps xs (contents x.1) (contents y.1) (fails x.1) (fails y.1) l.swept) (sym (ap (λ (k : PlannedShard). k.list) s.shard_plan_is)) s.sweeps;
   }
 
-  pub zipped : (xs ys : List (Text × S)) (ls : List Laned) → length ys ≡ length xs → length ls ≡ length xs
-      → ((i : ℕ) (d : Text × S) (e : Laned) → i < length xs → SweepsLane (view (slice_index_or xs i d)) (slice_index_or (map (λ (x : Text × S). lane_for names x.0) xs) i e) (slice_index_or ls i e) (view (slice_index_or ys i d)))
+  pub zipped : (xs ys : List (Text × S)) (ls : List PlannedShard) → length ys ≡ length xs
+      → length ls ≡ length xs
+      → ((i : ℕ) (d : Text × S) (e : PlannedShard) → i < length xs → SweepsShardPlan (view (slice_index_or xs i d)) (slice_index_or (map (λ (x : Text × S). shard_plan_for names x.0) xs) i e) (slice_index_or ls i e) (view (slice_index_or ys i d)))
       → Zips names (map view xs) ls (map view ys)
-  zipped [] [] [] p q h = record { zs = []; olds_are = refl; lanes_are = refl; news_are = refl; each = λ z c. none_in_nothing z c }
+  zipped [] [] [] p q h = record { zs = []; olds_are = refl; shard_plans_are = refl; news_are = refl; each = λ z c. none_in_nothing z c }
   zipped [] (y ∷ ys) ls p q h = absurd (omega (arith, p))
   zipped [] [] (l ∷ ls) p q h = absurd (omega (arith, q))
   zipped (x ∷ xs) [] ls p q h = absurd (omega (arith, p))
@@ -82,7 +85,7 @@ module _ {S : Type 0} (contents : S → Snaps) (fails : S → ℕ) (names : List
       record {
         zs = (view x, l, view y) ∷ rest.zs;
         olds_are = ap (λ (k : List Shard). view x ∷ k) rest.olds_are;
-        lanes_are = ap (λ (k : List Laned). l ∷ k) rest.lanes_are;
+        shard_plans_are = ap (λ (k : List PlannedShard). l ∷ k) rest.shard_plans_are;
         news_are = ap (λ (k : List Shard). view y ∷ k) rest.news_are;
         each = λ z c. elim (first_or_later (view x, l, view y) rest.zs z c) [
           | inl same ↦ subst (One names) same (one_of x y l (h 0 x l (omega arith)))
@@ -98,14 +101,17 @@ less_greater a b h = nat_list_cmp_total.antisymm b a ∙ ap ordering_reverse h
 pub less_differ : (a b : Text) → text_cmp a b ≡ Less → bytes_eq a b ≡ false
 less_differ a b h = sym (is_eq-slice_cmp a b) ∙ ap is_eq h
 
-pub behind_head : (t : Text) (zs : List Triple) → AllByRecursion (λ y. text_cmp t y ≡ Less) (map (λ (s : Shard). s.snapshotter) (olds_of zs)) → (z : Triple) → Contains zs z → text_cmp t z.0.snapshotter ≡ Less
+pub behind_head : (t : Text) (zs : List Triple)
+    → AllByRecursion (λ y. text_cmp t y ≡ Less) (map (λ (s : Shard). s.snapshotter) (olds_of zs))
+    → (z : Triple) → Contains zs z → text_cmp t z.0.snapshotter ≡ Less
 behind_head t [] h z c = none_in_nothing z c
 behind_head t (w ∷ zs) h z c = elim (first_or_later w zs z c) [
   | inl same ↦ ap (λ (x : Triple). text_cmp t x.0.snapshotter) (sym same) ∙ h.0
   | inr more ↦ behind_head t zs h.1 z more
 ]
 
-pub shard_found : (zs : List Triple) → AreApart (olds_of zs) → (z : Triple) → Contains zs z → snaps_at z.0.snapshotter (olds_of zs) ≡ z.0.snaps
+pub shard_found : (zs : List Triple) → AreApart (olds_of zs) → (z : Triple) → Contains zs z
+    → snaps_at z.0.snapshotter (olds_of zs) ≡ z.0.snaps
 shard_found [] apart z c = none_in_nothing z c
 shard_found (w ∷ zs) apart z c = elim (first_or_later w zs z c) [
   | inl same ↦ subst (λ (x : Triple). snaps_at x.0.snapshotter (olds_of (w ∷ zs)) ≡ x.0.snaps) same (rw (tied_itself nat_list_cmp_total w.0.snapshotter) refl)
@@ -113,24 +119,27 @@ shard_found (w ∷ zs) apart z c = elim (first_or_later w zs z c) [
 ]
 
 module _ (names : List (Text × ℕ)) where
-  pub lane_found : (zs : List Triple) → AreApart (olds_of zs) → ((z : Triple) → Contains zs z → One names z) → (z : Triple) → Contains zs z
-      → find (λ (lane : Laned). bytes_eq lane.snapshotter z.0.snapshotter) (lanes_of zs) ≡ Some z.1
-  lane_found [] apart each z c = none_in_nothing z c
-  lane_found (w ∷ zs) apart each z c = elim (first_or_later w zs z c) [
-    | inl same ↦ subst (λ (x : Triple). find (λ (lane : Laned). bytes_eq lane.snapshotter x.0.snapshotter) (lanes_of (w ∷ zs)) ≡ Some x.1) same
-        (rw ((bytes_eq-Decides w.1.snapshotter w.0.snapshotter).1 (each w (here w zs)).lane_name) refl)
+  pub shard_plan_found : (zs : List Triple) → AreApart (olds_of zs)
+      → ((z : Triple) → Contains zs z → One names z) → (z : Triple) → Contains zs z
+      → find (λ (shard_plan : PlannedShard). bytes_eq shard_plan.snapshotter z.0.snapshotter) (shard_plans_of zs) ≡ Some z.1
+  shard_plan_found [] apart each z c = none_in_nothing z c
+  shard_plan_found (w ∷ zs) apart each z c = elim (first_or_later w zs z c) [
+    | inl same ↦ subst (λ (x : Triple). find (λ (shard_plan : PlannedShard). bytes_eq shard_plan.snapshotter x.0.snapshotter) (shard_plans_of (w ∷ zs)) ≡ Some x.1) same
+        (rw ((bytes_eq-Decides w.1.snapshotter w.0.snapshotter).1 (each w (here w zs)).shard_plan_name) refl)
     | inr more ↦ (
-        let differ : bytes_eq w.1.snapshotter z.0.snapshotter ≡ false = ap (λ (t : Text). bytes_eq t z.0.snapshotter) (each w (here w zs)).lane_name
+        let differ : bytes_eq w.1.snapshotter z.0.snapshotter ≡ false = ap (λ (t : Text). bytes_eq t z.0.snapshotter) (each w (here w zs)).shard_plan_name
         ∙ less_differ w.0.snapshotter z.0.snapshotter (behind_head w.0.snapshotter zs (apart_head w.0 (olds_of zs) apart) z more) in
-        rw differ (lane_found zs (apart_rest w.0 (olds_of zs) apart) (λ x d. each x (later w zs x d)) z more))
+        rw differ (shard_plan_found zs (apart_rest w.0 (olds_of zs) apart) (λ x d. each x (later w zs x d)) z more))
   ]
 
 -- a snapshot of all stands in a shard of its snapshotter
-in_images : {X Y : Type 0} (f : X → Y) (xs : List X) (y : Y) → Contains (map f xs) y → (x : X) × (f x ≡ y)
+in_images : {X Y : Type 0} (f : X → Y) (xs : List X) (y : Y) → Contains (map f xs) y
+    → (x : X) × (f x ≡ y)
 in_images f [] y c = none_in_nothing y c
 in_images f (x ∷ xs) y c = elim (first_or_later (f x) (map f xs) y c) [ inl same ↦ (x, same) | inr more ↦ in_images f xs y more ]
 
-pub shard_of : (zs : List Triple) (x : BackSnap) → Contains (all_snaps (olds_of zs)) x → (z : Triple) × Contains zs z × (z.0.snapshotter ≡ x.snapshotter)
+pub shard_of : (zs : List Triple) (x : BackSnap) → Contains (all_snaps (olds_of zs)) x
+    → (z : Triple) × Contains zs z × (z.0.snapshotter ≡ x.snapshotter)
 shard_of [] x c = none_in_nothing x c
 shard_of (w ∷ zs) x c = elim (in_part (snaps_in w.0) (all_snaps (olds_of zs)) x c) [
   | inl a ↦ (let e = in_images (back_snap w.0.snapshotter) (finmap.entries w.0.snaps) x a in (w, here w zs, ap (λ (s : BackSnap). s.snapshotter) e.1))
@@ -139,14 +148,16 @@ shard_of (w ∷ zs) x c = elim (in_part (snaps_in w.0) (all_snaps (olds_of zs)) 
 
 -- ---- filters
 
-pub filter_twice : {X : Type 0} (p q : X → Bool) (xs : List X) → filter q (filter p xs) ≡ filter (λ x. p x && q x) xs
+pub filter_twice : {X : Type 0} (p q : X → Bool) (xs : List X)
+    → filter q (filter p xs) ≡ filter (λ x. p x && q x) xs
 filter_twice p q [] = refl
 filter_twice p q (x ∷ xs) = elim (cases_Bool (p x)) [
   | inl t ↦ rw t (ap (λ (l : List _). cond (q x) (x ∷ l) l) (filter_twice p q xs))
   | inr f ↦ rw f (filter_twice p q xs)
 ]
 
-pub filter_images : {X Y : Type 0} (f : X → Y) (p : Y → Bool) (xs : List X) → filter p (map f xs) ≡ map f (filter (λ x. p (f x)) xs)
+pub filter_images : {X Y : Type 0} (f : X → Y) (p : Y → Bool) (xs : List X)
+    → filter p (map f xs) ≡ map f (filter (λ x. p (f x)) xs)
 filter_images f p [] = refl
 filter_images f p (x ∷ xs) = elim (cases_Bool (p (f x))) [
   | inl t ↦ rw t (ap (λ (l : List _). f x ∷ l) (filter_images f p xs))
@@ -169,7 +180,8 @@ same_is_name a b h =
     λ i. (s i, n i)
 
 -- a number of a name is the number of the name
-numbered : (names : List (Text × ℕ)) (s : Text) (n : ℕ) → has (numbers_of s names) n ≡ true → Contains names (s, n)
+numbered : (names : List (Text × ℕ)) (s : Text) (n : ℕ) → has (numbers_of s names) n ≡ true
+    → Contains names (s, n)
 numbered [] s n h = absurd cc
 numbered (name ∷ names) s n h = elim (cases_Bool (bytes_eq name.0 s)) [
   | inl t ↦ (
@@ -189,12 +201,12 @@ pub record All3 (zs : List Triple) (tables : Tables) (goes : BackSnap → Bool) 
   pub first : (s : Text) → Childfirst (numbers_of s names) (snaps_at s (olds_of zs))
   pub each : (z : Triple) → Contains zs z → One names z
 
-module _ (zs : List Triple) (tables : Tables) (goes : BackSnap → Bool) (names : List (Text × ℕ)) (w : All3 zs tables goes names) (failed : BackNames) (failed_are : failed.snapshots ≡ filter (is_failed (lanes_of zs)) names) where
+module _ (zs : List Triple) (tables : Tables) (goes : BackSnap → Bool) (names : List (Text × ℕ)) (w : All3 zs tables goes names) (failed : BackNames) (failed_are : failed.snapshots ≡ filter (is_failed (shard_plans_of zs)) names) where
   abbrev all : List BackSnap
   all = all_snaps (olds_of zs)
 
-  abbrev lanes : List Laned
-  lanes = lanes_of zs
+  abbrev shard_plans : List PlannedShard
+  shard_plans = shard_plans_of zs
 
   abbrev apart : AreApart (olds_of zs)
   apart = w.named.apart
@@ -209,32 +221,35 @@ module _ (zs : List Triple) (tables : Tables) (goes : BackSnap → Bool) (names 
     abbrev o : One names z
     o = w.each z c
 
-    in_lane_is : (tells : Laned → ℕ → Bool) (n : ℕ) → in_lane tells lanes (s, n) ≡ tells z.1 n
-    in_lane_is tells n = ap (λ (l : Option Laned). option_map_or (λ (lane : Laned). tells lane n) l false) (lane_found names zs apart w.each z c)
+    in_shard_plan_is : (tells : PlannedShard → ℕ → Bool) (n : ℕ)
+        → in_shard_plan tells shard_plans (s, n) ≡ tells z.1 n
+    in_shard_plan_is tells n = ap (λ (l : Option PlannedShard). option_map_or (λ (shard_plan : PlannedShard). tells shard_plan n) l false) (shard_plan_found names zs apart w.each z c)
 
-    removed_among : (n : ℕ) → is_removed lanes (s, n) ≡ not (has r.failed n || has r.kept n)
-    removed_among n = in_lane_is (λ lane k. not (has lane.swept.failed k || has lane.swept.kept k)) n
+    removed_among : (n : ℕ) → is_removed shard_plans (s, n) ≡ not (has r.failed n || has r.kept n)
+    removed_among n = in_shard_plan_is (λ shard_plan k. not (has shard_plan.swept.failed k || has shard_plan.swept.kept k)) n
 
-    pub failed_among : (n : ℕ) → is_failed lanes (s, n) ≡ has r.failed n
-    failed_among n = in_lane_is (λ lane k. has lane.swept.failed k) n
+    pub failed_among : (n : ℕ) → is_failed shard_plans (s, n) ≡ has r.failed n
+    failed_among n = in_shard_plan_is (λ shard_plan k. has shard_plan.swept.failed k) n
 
-    failed_is : (n : ℕ) → list_any (λ (other : Text × ℕ). bytes_eq s other.0 && n == other.1) failed.snapshots ≡ has r.failed n
+    failed_is : (n : ℕ)
+        → list_any (λ (other : Text × ℕ). bytes_eq s other.0 && n == other.1) failed.snapshots ≡ has r.failed n
     failed_is n = ap (λ (l : List (Text × ℕ)). list_any (same_name (s, n)) l) failed_are ∙ elim (cases_Bool (has r.failed n)) [
       | inl t ↦ (
           let listed : has z.1.list n ≡ true = o.sweeps.sorted n ∙ or_right (has r.removed n) (has r.failed n || has r.kept n) (or_left (has r.failed n) (has r.kept n) t) in
           let there : Contains names (s, n) = numbered names s n (ap (λ (l : List ℕ). has l n) (sym o.list_is) ∙ listed) in
-          any_from (same_name (s, n)) (filter (is_failed lanes) names) (s, n) (in_filter (is_failed lanes) names (s, n) there (failed_among n ∙ t)) (name_same (s, n) (s, n) refl) ∙ sym t)
-      | inr f ↦ false_from_ne_true (list_any (same_name (s, n)) (filter (is_failed lanes) names)) (λ h.
-          let other = found_by_any (same_name (s, n)) (filter (is_failed lanes) names) h in
-          let fails = (from_filter (is_failed lanes) names other.0 other.1).1 in
+          any_from (same_name (s, n)) (filter (is_failed shard_plans) names) (s, n) (in_filter (is_failed shard_plans) names (s, n) there (failed_among n ∙ t)) (name_same (s, n) (s, n) refl) ∙ sym t)
+      | inr f ↦ false_from_ne_true (list_any (same_name (s, n)) (filter (is_failed shard_plans) names)) (λ h.
+          let other = found_by_any (same_name (s, n)) (filter (is_failed shard_plans) names) h in
+          let fails = (from_filter (is_failed shard_plans) names other.0 other.1).1 in
           let same = same_is_name (s, n) other.0 other.2 in
-          both_ways (has r.failed n) f (sym (failed_among n) ∙ ap (is_failed lanes) same ∙ fails)) ∙ sym f
+          both_ways (has r.failed n) f (sym (failed_among n) ∙ ap (is_failed shard_plans) same ∙ fails)) ∙ sym f
     ]
 
     at : snaps_at s (olds_of zs) ≡ z.0.snaps
     at = shard_found zs apart z c
 
-    listed : (n : ℕ) (p : Option ℕ) → finmap.get z.0.snaps n ≡ Some p → has z.1.list n ≡ goes (back_snap s (n, p))
+    listed : (n : ℕ) (p : Option ℕ) → finmap.get z.0.snaps n ≡ Some p
+        → has z.1.list n ≡ goes (back_snap s (n, p))
     listed n p is = ap (λ (l : List ℕ). has l n) o.list_is ∙ listed_is (olds_of zs) goes names w.named s n p (ap (λ (m : Snaps). finmap.get m n) at ∙ is)
 
     pub of : Of (olds_of zs) tables failed s z.0.snaps z.2.snaps z.1.list z.0.failures z.2.failures r
@@ -249,42 +264,49 @@ module _ (zs : List Triple) (tables : Tables) (goes : BackSnap → Bool) (names 
       listed_is = λ n p is. listed n p is ∙ w.goes_is (back_snap s (n, p));
     }
 
-    stays_here : (n : ℕ) (p : Option ℕ) → finmap.get z.0.snaps n ≡ Some p → snapshot_object_stays tables all failed (back_snap s (n, p)) ≡ not (has r.removed n)
+    stays_here : (n : ℕ) (p : Option ℕ) → finmap.get z.0.snaps n ≡ Some p
+        → snapshot_object_stays tables all failed (back_snap s (n, p)) ≡ not (has r.removed n)
     stays_here = stays_is (olds_of zs) tables failed s z.0.snaps z.2.snaps z.1.list z.0.failures z.2.failures r of
 
     left_here : Left (snapshot_object_stays tables all failed) z.0 z.2
     left_here = record { same = o.new_name; gone = λ n. has r.removed n; left_is = o.sweeps.contents; stays = stays_here }
 
     -- a snapshot of this shard
-    held_here : (x : BackSnap) → Contains all x → s ≡ x.snapshotter → finmap.get z.0.snaps x.number ≡ Some x.parent
+    held_here : (x : BackSnap) → Contains all x → s ≡ x.snapshotter
+        → finmap.get z.0.snaps x.number ≡ Some x.parent
     held_here x there e = ap (λ (m : Snaps). finmap.get m x.number) (sym at) ∙ member_is (olds_of zs) goes names w.named s x there (sym e)
 
     snap_is : (x : BackSnap) → s ≡ x.snapshotter → back_snap s (x.number, x.parent) ≡ x
     snap_is x e = λ i. record { snapshotter = e i; number = x.number; parent = x.parent }
 
     -- an object that was removed doesn't stay
-    pub gone_here : (x : BackSnap) → Contains all x → s ≡ x.snapshotter → (goes x && is_removed lanes (object_name x)) ≡ not (snapshot_object_stays tables all failed x)
+    pub gone_here : (x : BackSnap) → Contains all x → s ≡ x.snapshotter
+        → (goes x && is_removed shard_plans (object_name x)) ≡ not (snapshot_object_stays tables all failed x)
     gone_here x there e =
         let n = x.number in
         let is = held_here x there e in
         let g : goes x ≡ has z.1.list n = ap goes (sym (snap_is x e)) ∙ sym (listed n x.parent is) in
-        let q : is_removed lanes (object_name x) ≡ not (has r.failed n || has r.kept n) = ap (λ (k : BackSnap). is_removed lanes (object_name k)) (sym (snap_is x e)) ∙ removed_among n in
+        let q : is_removed shard_plans (object_name x) ≡ not (has r.failed n || has r.kept n) = ap (λ (k : BackSnap). is_removed shard_plans (object_name k)) (sym (snap_is x e)) ∙ removed_among n in
         let t : snapshot_object_stays tables all failed x ≡ not (has r.removed n) = ap (snapshot_object_stays tables all failed) (sym (snap_is x e)) ∙ stays_here n x.parent is in
         (λ i. (g ∙ o.sweeps.sorted n) i && q i) ∙ go (has r.removed n) (has r.failed n) (has r.kept n) (o.sweeps.apart n) ∙ sym (ap not t)
       where
-        go : (a f k : Bool) → (a ≡ true → (f ≡ false) × (k ≡ false)) → ((a || (f || k)) && not (f || k)) ≡ not (not a)
+        go : (a f k : Bool) → (a ≡ true → (f ≡ false) × (k ≡ false))
+            → ((a || (f || k)) && not (f || k)) ≡ not (not a)
         go true f k h = rw ((h refl).0, (h refl).1) refl
         go false true k h = refl
         go false false true h = refl
         go false false false h = refl
 
-    pub apart_here : (x : BackSnap) → Contains all x → s ≡ x.snapshotter → list_any (λ name. is_named name x) failed.snapshots ≡ true → is_ancestor_of_one all failed.snapshots x ≡ false
+    pub apart_here : (x : BackSnap) → Contains all x → s ≡ x.snapshotter
+        → list_any (λ name. is_named name x) failed.snapshots ≡ true
+        → is_ancestor_of_one all failed.snapshots x ≡ false
     apart_here x there e h =
         ap (is_ancestor_of_one all failed.snapshots) (sym (snap_is x e))
         ∙ apart_is (olds_of zs) tables failed s z.0.snaps z.2.snaps z.1.list z.0.failures z.2.failures r of x.number x.parent (held_here x there e)
         (ap (λ (k : BackSnap). list_any (λ name. is_named name k) failed.snapshots) (snap_is x e) ∙ h)
 
-  lefts : (ys : List Triple) → ((z : Triple) → Contains ys z → Contains zs z) → AreLeft (snapshot_object_stays tables all failed) (olds_of ys) (news_of ys)
+  lefts : (ys : List Triple) → ((z : Triple) → Contains ys z → Contains zs z)
+      → AreLeft (snapshot_object_stays tables all failed) (olds_of ys) (news_of ys)
   lefts [] h = tt
   lefts (y ∷ ys) h = (left_here y (h y (here y ys)), lefts ys (λ z c. h z (later y ys z c)))
 
@@ -293,24 +315,25 @@ module _ (zs : List Triple) (tables : Tables) (goes : BackSnap → Bool) (names 
   snapshots_left = all_left (snapshot_object_stays tables all failed) (olds_of zs) (news_of zs) (lefts zs (λ z c. c))
 
   -- the names of what is gone
-  pub snapshots_removed : filter (is_removed lanes) names ≡ map object_name (in_order (goes_before all) (filter (λ snap. not (snapshot_object_stays tables all failed snap)) all))
+  pub snapshots_removed : filter (is_removed shard_plans) names ≡ map object_name (in_order (goes_before all) (filter (λ snap. not (snapshot_object_stays tables all failed snap)) all))
   snapshots_removed =
-      ap (filter (is_removed lanes)) w.named.names_are
-      ∙ filter_images object_name (is_removed lanes) (in_order (goes_before all) (filter goes all))
-      ∙ ap (map object_name) (order_left (goes_before all) w.named.one_way w.named.chain (λ x. is_removed lanes (object_name x)) (filter goes all)
-      ∙ ap (in_order (goes_before all)) (filter_twice goes (λ x. is_removed lanes (object_name x)) all
-      ∙ same_kept (λ x. goes x && is_removed lanes (object_name x)) (λ snap. not (snapshot_object_stays tables all failed snap)) all (λ x c. (let z = shard_of zs x c in gone_here z.0 z.1 x c z.2))))
+      ap (filter (is_removed shard_plans)) w.named.names_are
+      ∙ filter_images object_name (is_removed shard_plans) (in_order (goes_before all) (filter goes all))
+      ∙ ap (map object_name) (order_left (goes_before all) w.named.one_way w.named.chain (λ x. is_removed shard_plans (object_name x)) (filter goes all)
+      ∙ ap (in_order (goes_before all)) (filter_twice goes (λ x. is_removed shard_plans (object_name x)) all
+      ∙ same_kept (λ x. goes x && is_removed shard_plans (object_name x)) (λ snap. not (snapshot_object_stays tables all failed snap)) all (λ x c. (let z = shard_of zs x c in gone_here z.0 z.1 x c z.2))))
 
   -- just the failed ones are among them
   pub failed_fit : failed.snapshots ≡ filter (λ name. list_any (λ other. bytes_eq other.0 name.0 && other.1 == name.1) failed.snapshots) names
-  failed_fit = failed_are ∙ same_kept (is_failed lanes) (λ name. list_any (λ other. bytes_eq other.0 name.0 && other.1 == name.1) failed.snapshots) names (λ name c. sym (go name c))
+  failed_fit = failed_are ∙ same_kept (is_failed shard_plans) (λ name. list_any (λ other. bytes_eq other.0 name.0 && other.1 == name.1) failed.snapshots) names (λ name c. sym (go name c))
     where
-      go : (name : Text × ℕ) → Contains names name → list_any (λ other. same_name other name) failed.snapshots ≡ is_failed lanes name
-      go name c = ap (λ (l : List (Text × ℕ)). list_any (λ other. same_name other name) l) failed_are ∙ elim (cases_Bool (is_failed lanes name)) [
-        | inl t ↦ any_from (λ other. same_name other name) (filter (is_failed lanes) names) name (in_filter (is_failed lanes) names name c t) (name_same name name refl) ∙ sym t
-        | inr f ↦ false_from_ne_true (list_any (λ other. same_name other name) (filter (is_failed lanes) names)) (λ h.
-            let other = found_by_any (λ other. same_name other name) (filter (is_failed lanes) names) h in
-            both_ways (is_failed lanes name) f (ap (is_failed lanes) (sym (same_is_name other.0 name other.2)) ∙ (from_filter (is_failed lanes) names other.0 other.1).1)) ∙ sym f
+      go : (name : Text × ℕ) → Contains names name
+          → list_any (λ other. same_name other name) failed.snapshots ≡ is_failed shard_plans name
+      go name c = ap (λ (l : List (Text × ℕ)). list_any (λ other. same_name other name) l) failed_are ∙ elim (cases_Bool (is_failed shard_plans name)) [
+        | inl t ↦ any_from (λ other. same_name other name) (filter (is_failed shard_plans) names) name (in_filter (is_failed shard_plans) names name c t) (name_same name name refl) ∙ sym t
+        | inr f ↦ false_from_ne_true (list_any (λ other. same_name other name) (filter (is_failed shard_plans) names)) (λ h.
+            let other = found_by_any (λ other. same_name other name) (filter (is_failed shard_plans) names) h in
+            both_ways (is_failed shard_plans name) f (ap (is_failed shard_plans) (sym (same_is_name other.0 name other.2)) ∙ (from_filter (is_failed shard_plans) names other.0 other.1).1)) ∙ sym f
       ]
 
   pub failed_apart : All (λ snap. IsTrue (list_any (λ name. is_named name snap) failed.snapshots) → is_ancestor_of_one all failed.snapshots snap ≡ false) all
@@ -320,7 +343,8 @@ module _ (zs : List Triple) (tables : Tables) (goes : BackSnap → Bool) (names 
       let z = shard_of zs x c in
       apart_here z.0 z.1 x c z.2 h)
     where
-      in_place : (xs : List BackSnap) (k : ℕ) (d : BackSnap) → k < length xs → Contains xs (slice_index_or xs k d)
+      in_place : (xs : List BackSnap) (k : ℕ) (d : BackSnap) → k < length xs
+          → Contains xs (slice_index_or xs k d)
       in_place [] k d lt = absurd (omega (arith, lt))
       in_place (x ∷ xs) zero d lt = here x xs
       in_place (x ∷ xs) (suc k) d lt = later x xs (slice_index_or xs k d) (in_place xs k d (omega (arith, lt)))

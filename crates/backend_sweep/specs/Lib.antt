@@ -3,7 +3,7 @@ pub mod Fated
 pub mod Sweep
 pub mod Singles
 pub mod Parts
-pub mod Lanes
+pub mod ShardPlans
 pub mod Backed
 pub mod Planned
 pub mod Swept

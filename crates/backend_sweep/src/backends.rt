@@ -7,13 +7,13 @@ ghost use Rattle.back_model.specs.Shown.{all_failures};
 ghost use Rattle.table_sweep.specs.BlobMarks.{AreBlobMarks};
 ghost use Rattle.backend_sweep.specs.Planned.{IsPlanned};
 ghost use Rattle.backend_sweep.specs.Fated.{AreFatesOf, failed_of};
-ghost use Rattle.backend_sweep.specs.Lanes.{fate_of};
+ghost use Rattle.backend_sweep.specs.ShardPlans.{fate_of};
 ghost use Rattle.backend_sweep.specs.Swept.{held_in, SweepsNames, count_names};
 
 use crate::fates::Fates;
 use crate::gate::SweepGate;
-use crate::shard_jobs::{lanes_and_room, sweep_beside};
-use crate::shard_plans::{ShardPlan, lanes_of, set_fates, sweep_in_turn};
+use crate::shard_jobs::{shard_plans_and_room, sweep_beside};
+use crate::shard_plans::{ShardPlan, set_fates, shard_plans_of, sweep_in_turn};
 use crate::tasks::sweep_singles;
 use back_model::{Backends, BlobBackend, IngestBackend, SnapBackend};
 use meta_types::{Fault, is_worker_count};
@@ -21,15 +21,19 @@ use std::alloc::Global;
 use std::thread::Threads;
 use table_sweep::Plan;
 
-// Sets what became of the snapshots, as the lanes have them. It takes no memory.
-fn set_snapshots(lanes: &[ShardPlan], plan: &Plan, fates: &mut Fates)
+// Copies each snapshot's fate from its shard's plan. It takes no memory.
+fn set_snapshots(shard_plans: &[ShardPlan], plan: &Plan, fates: &mut Fates)
     requires { AreFatesOf plan.now.report.backend fates.old }
     ensures set { fates.new ≡ record fates.old {
-      snapshots = map (fate_of lanes.now) plan.now.report.backend.snapshots;
+      snapshots = map (fate_of shard_plans.now) plan.now.report.backend.snapshots;
     } }
     ensures of { AreFatesOf plan.now.report.backend fates.new }
 {
-    set_fates(lanes, &plan.report.backend.snapshots, &mut fates.snapshots);
+    set_fates(
+        shard_plans,
+        &plan.report.backend.snapshots,
+        &mut fates.snapshots,
+    );
 }
 
 /// Removes what the plan names, on the calling thread; the plan's marks of blobs are of their order
@@ -41,7 +45,7 @@ pub fn sweep_plain<S: SnapBackend, B: BlobBackend, I: IngestBackend>(
 ) -> Result<Fates, Fault>
     requires planned { IsPlanned (held_in backends.old.shards (B.contents backends.old.blobs)
         (I.contents backends.old.ingests)) plan.now }
-    requires marks { AreBlobMarks plan.now.report.backend.blobs (B.came backends.old.blobs)
+    requires marks { AreBlobMarks plan.now.report.backend.blobs (B.arrived backends.old.blobs)
         plan.now.blobs.items }
     ensures fault { Refuses result None }
     ensures ok { IfOk result (SweepsNames plan.now.report.backend
@@ -58,17 +62,17 @@ pub fn sweep_plain<S: SnapBackend, B: BlobBackend, I: IngestBackend>(
 {
     let mut fates = Fates::room(alloc, plan)?;
     let shards = backends.take_shards();
-    let lanes = match lanes_of(alloc, &shards, &plan.report.backend.snapshots) {
-        Ok(lanes) => lanes,
+    let shard_plans = match shard_plans_of(alloc, &shards, &plan.report.backend.snapshots) {
+        Ok(shard_plans) => shard_plans,
         Err(fault) => {
             backends.put_shards(shards);
             return Err(fault);
         }
     };
-    let (shards, lanes) = sweep_in_turn(alloc, shards, lanes);
+    let (shards, shard_plans) = sweep_in_turn(alloc, shards, shard_plans);
     backends.put_shards(shards);
     sweep_singles(plan, backends, &mut fates);
-    set_snapshots(&lanes, plan, &mut fates);
+    set_snapshots(&shard_plans, plan, &mut fates);
     Ok(fates)
 }
 
@@ -94,7 +98,7 @@ pub fn sweep_shards<
 ) -> Result<Fates, Fault>
     requires planned { IsPlanned (held_in backends.old.shards (B.contents backends.old.blobs)
         (I.contents backends.old.ingests)) plan.now }
-    requires marks { AreBlobMarks plan.now.report.backend.blobs (B.came backends.old.blobs)
+    requires marks { AreBlobMarks plan.now.report.backend.blobs (B.arrived backends.old.blobs)
         plan.now.blobs.items }
     requires beside { F.pre beside.old }
     ensures fault { Refuses result (unless (is_worker_count workers) InvalidArgument) }
@@ -117,7 +121,11 @@ pub fn sweep_shards<
     }
     let mut fates = Fates::room(alloc, plan)?;
     let shards = backends.take_shards();
-    let (lanes, jobs) = match lanes_and_room(alloc, &shards, &plan.report.backend.snapshots) {
+    let (shard_plans, jobs) = match shard_plans_and_room(
+        alloc,
+        &shards,
+        &plan.report.backend.snapshots,
+    ) {
         Ok(made) => made,
         Err(fault) => {
             backends.put_shards(shards);
@@ -125,7 +133,17 @@ pub fn sweep_shards<
         }
     };
     let (shards, swept) = sweep_beside(
-        rt, alloc, shards, lanes, jobs, backends, plan, &mut fates, workers, gate, beside,
+        rt,
+        alloc,
+        shards,
+        shard_plans,
+        jobs,
+        backends,
+        plan,
+        &mut fates,
+        workers,
+        gate,
+        beside,
     );
     backends.put_shards(shards);
     set_snapshots(&swept, plan, &mut fates);

@@ -46,7 +46,7 @@ pub(crate) fn sweep_blobs<B: BlobBackend>(
     fates: &mut [Fate],
 )
     requires names { AreHeldOnce bytes_eq names.now (B.contents backend.old) }
-    requires marks { AreBlobMarks names.now (B.came backend.old) marks.now }
+    requires marks { AreBlobMarks names.now (B.arrived backend.old) marks.now }
     requires fates { length fates.old ≡ length names.now }
     ensures swept { SweepsEach bytes_eq names.now (B.contents backend.old) (B.contents backend.new)
         (names_with was_removed names.now fates.new) (names_with has_failed names.now fates.new)

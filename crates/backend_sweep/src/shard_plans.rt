@@ -3,7 +3,7 @@ ghost use Rattle.std.specs.Prelude.{◌≡◌, ◌<◌, ℕ, length, map, find, 
 ghost use Rattle.meta_types.specs.Faults.{Refuses};
 ghost use Rattle.back_model.specs.Shown.{shown};
 ghost use Rattle.backend_sweep.specs.Sweep.{Childfirst, IsRoomFor, Sweeps};
-ghost use Rattle.backend_sweep.specs.Lanes.{lane_for, IsReady, SweepsLane, IsFound, fate_in, fate_of};
+ghost use Rattle.backend_sweep.specs.ShardPlans.{shard_plan_for, IsReady, SweepsShardPlan, IsFound, fate_in, fate_of};
 ghost use Rattle.backend_sweep.specs.Parts.{StandBySnapshotter};
 
 use crate::fates::Fate;
@@ -26,9 +26,9 @@ pub(crate) struct ShardPlan {
 }
 
 impl Model for ShardPlan {
-    ghost use Rattle.backend_sweep.specs.Lanes.{Laned};
+    ghost use Rattle.backend_sweep.specs.ShardPlans.{PlannedShard};
 
-    ghost Value = { Laned };
+    ghost Value = { PlannedShard };
 
     ghost view = { λ s. record {
       snapshotter = s.snapshotter;
@@ -48,15 +48,15 @@ fn numbers_in(alloc: Global, names: &[(ShortName, u64)]) -> Result<Vec<u64>, Fau
     Ok(numbers)
 }
 
-// The lane of one snapshotter.
-fn lane_for(
+// The plan of one snapshotter's shard.
+fn shard_plan_for(
     alloc: Global,
     names: &[(ShortName, u64)],
     snapshotter: &ShortName,
 ) -> Result<ShardPlan, Fault>
     requires { StandBySnapshotter names.now }
     ensures fault { Refuses result None }
-    ensures ok { IfOk result (λ lane. lane ≡ lane_for names.now snapshotter.now) }
+    ensures ok { IfOk result (λ shard_plan. shard_plan ≡ shard_plan_for names.now snapshotter.now) }
 {
     let list = numbers_in(alloc, part_of(names, snapshotter))?;
     let swept = ShardSwept::room(alloc, list.len())?;
@@ -67,149 +67,149 @@ fn lane_for(
     })
 }
 
-/// A lane a shard, with the numbers of its snapshotter.
-pub(crate) fn lanes_of<S: SnapBackend>(
+/// The plan of each shard, with the numbers of its snapshotter.
+pub(crate) fn shard_plans_of<S: SnapBackend>(
     alloc: Global,
     shards: &[(ShortName, S)],
     names: &[(ShortName, u64)],
 ) -> Result<Vec<ShardPlan>, Fault>
     requires { StandBySnapshotter names.now }
     ensures fault { Refuses result None }
-    ensures ok { IfOk result (λ lanes. lanes.items
-        ≡ map (λ entry. lane_for names.now entry.0) shards.now) }
+    ensures ok { IfOk result (λ shard_plans. shard_plans.items
+        ≡ map (λ entry. shard_plan_for names.now entry.0) shards.now) }
 {
-    let mut lanes = Vec::with_capacity(alloc, shards.len())?;
+    let mut shard_plans = Vec::with_capacity(alloc, shards.len())?;
     for entry in shards {
-        lanes.push(lane_for(alloc, names, &entry.0)?)?;
+        shard_plans.push(shard_plan_for(alloc, names, &entry.0)?)?;
     }
-    Ok(lanes)
+    Ok(shard_plans)
 }
 
-/// Sweeps a shard by its lane. It takes no memory.
-pub(crate) fn sweep_lane<S: SnapBackend, H: SweepGate>(
+/// Sweeps a shard by its plan. It takes no memory.
+pub(crate) fn sweep_shard_plan<S: SnapBackend, H: SweepGate>(
     alloc: Global,
     shard: &mut S,
-    lane: &mut ShardPlan,
+    shard_plan: &mut ShardPlan,
     gate: &H,
 )
-    requires list { Childfirst lane.old.list (S.contents shard.old) }
-    requires into { IsRoomFor lane.old.list lane.old.swept }
-    ensures lane { lane.new ≡ record lane.old { swept = lane.new.swept } }
-    ensures sweeps { Sweeps lane.old.list (S.contents shard.old) (S.contents shard.new)
-        (S.fails shard.old) (S.fails shard.new) lane.new.swept }
+    requires list { Childfirst shard_plan.old.list (S.contents shard.old) }
+    requires into { IsRoomFor shard_plan.old.list shard_plan.old.swept }
+    ensures shard_plan { shard_plan.new ≡ record shard_plan.old { swept = shard_plan.new.swept } }
+    ensures sweeps { Sweeps shard_plan.old.list (S.contents shard.old) (S.contents shard.new)
+        (S.fails shard.old) (S.fails shard.new) shard_plan.new.swept }
 {
     let ShardPlan {
         snapshotter,
         list,
         swept,
-    } = lane;
+    } = shard_plan;
     let into = mem::replace(swept, ShardSwept::none(alloc));
     *swept = sweep_shard(snapshotter.text(), shard, list, into, gate);
 }
 
-fn sweep_lanes<S: SnapBackend, H: SweepGate>(
+fn sweep_shard_plans<S: SnapBackend, H: SweepGate>(
     alloc: Global,
     shards: &mut [(ShortName, S)],
-    lanes: &mut [ShardPlan],
+    shard_plans: &mut [ShardPlan],
     gate: &H,
 )
-    requires length { length lanes.old ≡ length shards.old }
+    requires length { length shard_plans.old ≡ length shards.old }
     requires ready { (i : ℕ) (d : _) (e : _) → i < length shards.old
         → IsReady (shown S.contents S.fails (slice_index_or shards.old i d))
-        (slice_index_or lanes.old i e) }
+        (slice_index_or shard_plans.old i e) }
     ensures length { (length shards.new ≡ length shards.old)
-        × (length lanes.new ≡ length lanes.old) }
+        × (length shard_plans.new ≡ length shard_plans.old) }
     ensures each { (i : ℕ) (d : _) (e : _) → i < length shards.old
-        → SweepsLane (shown S.contents S.fails (slice_index_or shards.old i d))
-        (slice_index_or lanes.old i e) (slice_index_or lanes.new i e)
+        → SweepsShardPlan (shown S.contents S.fails (slice_index_or shards.old i d))
+        (slice_index_or shard_plans.old i e) (slice_index_or shard_plans.new i e)
         (shown S.contents S.fails (slice_index_or shards.new i d)) }
 {
     for i in 0..shards.len() {
         let entry = &mut shards[i];
-        let lane = &mut lanes[i];
-        sweep_lane(alloc, &mut entry.1, lane, gate);
+        let shard_plan = &mut shard_plans[i];
+        sweep_shard_plan(alloc, &mut entry.1, shard_plan, gate);
     }
 }
 
-/// Sweeps each shard by its lane, one after the other. It takes no memory.
+/// Sweeps each shard by its plan, one after the other. It takes no memory.
 pub(crate) fn sweep_in_turn<S: SnapBackend>(
     alloc: Global,
     mut shards: Vec<(ShortName, S)>,
-    mut lanes: Vec<ShardPlan>,
+    mut shard_plans: Vec<ShardPlan>,
 ) -> (Vec<(ShortName, S)>, Vec<ShardPlan>)
-    requires lanes { length lanes.items ≡ length shards.items }
+    requires shard_plans { length shard_plans.items ≡ length shards.items }
     requires ready { (i : ℕ) (d : _) (e : _) → i < length shards.items
         → IsReady (shown S.contents S.fails (slice_index_or shards.items i d))
-        (slice_index_or lanes.items i e) }
+        (slice_index_or shard_plans.items i e) }
     ensures length { (length result.0.items ≡ length shards.items)
-        × (length result.1.items ≡ length lanes.items) }
+        × (length result.1.items ≡ length shard_plans.items) }
     ensures each { (i : ℕ) (d : _) (e : _) → i < length shards.items
-        → SweepsLane (shown S.contents S.fails (slice_index_or shards.items i d))
-        (slice_index_or lanes.items i e) (slice_index_or result.1.items i e)
+        → SweepsShardPlan (shown S.contents S.fails (slice_index_or shards.items i d))
+        (slice_index_or shard_plans.items i e) (slice_index_or result.1.items i e)
         (shown S.contents S.fails (slice_index_or result.0.items i d)) }
 {
-    sweep_lanes(alloc, &mut shards, &mut lanes, &OpenSweepGate);
-    (shards, lanes)
+    sweep_shard_plans(alloc, &mut shards, &mut shard_plans, &OpenSweepGate);
+    (shards, shard_plans)
 }
 
-// The lane of a snapshotter, if it has one.
-fn lane_at<'a>(lanes: &'a [ShardPlan], snapshotter: &ShortName) -> Option<&'a ShardPlan>
-    ensures { option_map (λ lane. lane.now) result
-        ≡ find (λ lane. bytes_eq lane.snapshotter snapshotter.now) lanes.now }
+// The plan of a snapshotter's shard, if it has one.
+fn shard_plan_at<'a>(shard_plans: &'a [ShardPlan], snapshotter: &ShortName) -> Option<&'a ShardPlan>
+    ensures { option_map (λ shard_plan. shard_plan.now) result
+        ≡ find (λ shard_plan. bytes_eq shard_plan.snapshotter snapshotter.now) shard_plans.now }
 {
-    for lane in lanes {
-        if lane.snapshotter == *snapshotter {
-            return Some(lane);
+    for shard_plan in shard_plans {
+        if shard_plan.snapshotter == *snapshotter {
+            return Some(shard_plan);
         }
     }
     None
 }
 
-// The lane of a snapshotter, if it has one: mostly that of the name before.
-#[tactic(auto, using(crate::proofs::LastLane::same_lane))]
-fn lane_from<'a>(
-    lanes: &'a [ShardPlan],
+// The plan of a snapshotter's shard, if it has one: mostly that of the name before.
+#[tactic(auto, using(crate::proofs::LastShardPlan::same_shard_plan))]
+fn shard_plan_from<'a>(
+    shard_plans: &'a [ShardPlan],
     last: Option<&'a ShardPlan>,
     snapshotter: &ShortName,
 ) -> Option<&'a ShardPlan>
-    requires { IfSome last (λ lane. IsFound lanes.now lane.now) }
-    ensures lane { option_map (λ lane. lane.now) result
-        ≡ find (λ lane. bytes_eq lane.snapshotter snapshotter.now) lanes.now }
-    ensures found { IfSome result (λ lane. IsFound lanes.now lane.now) }
+    requires { IfSome last (λ shard_plan. IsFound shard_plans.now shard_plan.now) }
+    ensures shard_plan { option_map (λ shard_plan. shard_plan.now) result
+        ≡ find (λ shard_plan. bytes_eq shard_plan.snapshotter snapshotter.now) shard_plans.now }
+    ensures found { IfSome result (λ shard_plan. IsFound shard_plans.now shard_plan.now) }
 {
-    if let Some(lane) = last {
-        if lane.snapshotter == *snapshotter {
-            return Some(lane);
+    if let Some(shard_plan) = last {
+        if shard_plan.snapshotter == *snapshotter {
+            return Some(shard_plan);
         }
     }
-    lane_at(lanes, snapshotter)
+    shard_plan_at(shard_plans, snapshotter)
 }
 
-// What became of a number, as its lane has it.
-fn fate_in(lane: Option<&ShardPlan>, number: u64) -> Fate
-    ensures { result ≡ fate_in (option_map (λ lane. lane.now) lane.entry) number }
+// What became of a number, as its shard's plan has it.
+fn fate_in(shard_plan: Option<&ShardPlan>, number: u64) -> Fate
+    ensures { result ≡ fate_in (option_map (λ shard_plan. shard_plan.now) shard_plan.entry) number }
 {
-    let Some(lane) = lane else {
+    let Some(shard_plan) = shard_plan else {
         return Fate::Kept;
     };
-    if lane.swept.has_failed(number) {
+    if shard_plan.swept.has_failed(number) {
         return Fate::Failed;
     }
-    if lane.swept.has_kept(number) {
+    if shard_plan.swept.has_kept(number) {
         return Fate::Kept;
     }
     Fate::Removed
 }
 
-/// Sets what became of each snapshot, as its lane has it. It takes no memory.
-pub(crate) fn set_fates(lanes: &[ShardPlan], names: &[(ShortName, u64)], fates: &mut [Fate])
+/// Copies what became of each snapshot from its shard's plan. It takes no memory.
+pub(crate) fn set_fates(shard_plans: &[ShardPlan], names: &[(ShortName, u64)], fates: &mut [Fate])
     requires fates { length fates.old ≡ length names.now }
-    ensures { fates.new ≡ map (fate_of lanes.now) names.now }
+    ensures { fates.new ≡ map (fate_of shard_plans.now) names.now }
 {
     let mut last = None;
     for i in 0..names.len() {
         let name = &names[i];
-        last = lane_from(lanes, last, &name.0);
+        last = shard_plan_from(shard_plans, last, &name.0);
         fates[i] = fate_in(last, name.1);
     }
 }

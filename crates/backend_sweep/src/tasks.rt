@@ -4,7 +4,7 @@ ghost use Rattle.std.specs.Thread.{IsSync, IsSend};
 ghost use Rattle.back_model.specs.Shown.{shown};
 ghost use Rattle.table_sweep.specs.BlobMarks.{AreBlobMarks};
 ghost use Rattle.backend_sweep.specs.Fated.{AreFatesOf, names_with, was_removed, has_failed, removed_of, failed_of};
-ghost use Rattle.backend_sweep.specs.Lanes.{IsReady, SweepsLane};
+ghost use Rattle.backend_sweep.specs.ShardPlans.{IsReady, SweepsShardPlan};
 ghost use Rattle.backend_sweep.specs.Shards.{is_number};
 ghost use Rattle.backend_sweep.specs.Singles.{AreHeldOnce, SweepsEach};
 
@@ -19,14 +19,14 @@ use std::alloc::Global;
 use std::thread::{Threads, join_mut};
 use table_sweep::Plan;
 
-// From so many removals of a kind on, a thread gains more than its start costs.
+// With 1,024 removals of one kind a thread pays for its start.
 const MANY: usize = 1024;
 
-fn goes_many_blobs(plan: &Plan) -> bool {
+fn has_many_blobs(plan: &Plan) -> bool {
     plan.report.backend.blobs.len() >= MANY
 }
 
-fn goes_many_rows(plan: &Plan) -> bool {
+fn has_many_rows(plan: &Plan) -> bool {
     let rows = &plan.report.removed;
     rows.content.len() >= MANY
         || rows.snapshots.len() >= MANY
@@ -40,12 +40,12 @@ fn goes_many_rows(plan: &Plan) -> bool {
 fn beside_shards(plan: &Plan, shards: usize, workers: usize) -> bool {
     workers > shards
         && !plan.report.backend.snapshots.is_empty()
-        && (goes_many_blobs(plan) || goes_many_rows(plan))
+        && (has_many_blobs(plan) || has_many_rows(plan))
 }
 
 // Whether blobs and rows are swept by a thread each, where so many threads sweep shards.
 fn is_split(plan: &Plan, busy: usize, workers: usize) -> bool {
-    workers >= 2 && workers - 2 >= busy && goes_many_blobs(plan) && goes_many_rows(plan)
+    workers >= 2 && workers - 2 >= busy && has_many_blobs(plan) && has_many_rows(plan)
 }
 
 // Runs both, at once or in turn.
@@ -69,7 +69,7 @@ pub(crate) fn sweep_singles<S: SnapBackend, B: BlobBackend, I: IngestBackend>(
 )
     requires blobs { AreHeldOnce bytes_eq plan.now.report.backend.blobs
         (B.contents backends.old.blobs) }
-    requires marks { AreBlobMarks plan.now.report.backend.blobs (B.came backends.old.blobs)
+    requires marks { AreBlobMarks plan.now.report.backend.blobs (B.arrived backends.old.blobs)
         plan.now.blobs.items }
     requires ingests { AreHeldOnce is_number plan.now.report.backend.ingests
         (I.contents backends.old.ingests) }
@@ -105,7 +105,7 @@ fn sweep_rest<R: Threads + Sync, B: BlobBackend, F: FnMut() + Send>(
     beside: &mut F,
 )
     requires names { AreHeldOnce bytes_eq names.now (B.contents backend.old) }
-    requires marks { AreBlobMarks names.now (B.came backend.old) marks.now }
+    requires marks { AreBlobMarks names.now (B.arrived backend.old) marks.now }
     requires fates { length fates.old ≡ length names.now }
     requires beside { F.pre beside.old }
     ensures swept { SweepsEach bytes_eq names.now (B.contents backend.old) (B.contents backend.new)
@@ -120,7 +120,7 @@ fn sweep_rest<R: Threads + Sync, B: BlobBackend, F: FnMut() + Send>(
         beside,
         &mut ||
             requires { AreHeldOnce bytes_eq names.now (B.contents backend.now)
-                × AreBlobMarks names.now (B.came backend.now) marks.now
+                × AreBlobMarks names.now (B.arrived backend.now) marks.now
                 × (length fates.now ≡ length names.now) }
             ensures swept { SweepsEach bytes_eq names.entry.now (B.contents backend.entry.now)
                 (B.contents backend.exit.now)
@@ -155,15 +155,15 @@ fn sweep_at_once<
     beside: &mut F,
 )
     requires workers { 0 < workers }
-    requires ready { All (λ job. IsReady (shown S.contents S.fails job.entry) job.lane) jobs.old }
+    requires ready { All (λ job. IsReady (shown S.contents S.fails job.entry) job.shard_plan) jobs.old }
     requires names { AreHeldOnce bytes_eq names.now (B.contents backend.old) }
-    requires marks { AreBlobMarks names.now (B.came backend.old) marks.now }
+    requires marks { AreBlobMarks names.now (B.arrived backend.old) marks.now }
     requires fates { length fates.old ≡ length names.now }
     requires beside { F.pre beside.old }
     ensures length { length jobs.new ≡ length jobs.old }
     ensures each { (i : ℕ) (d : _) → i < length jobs.old
-        → SweepsLane (shown S.contents S.fails (slice_index_or jobs.old i d).entry)
-        (slice_index_or jobs.old i d).lane (slice_index_or jobs.new i d).lane
+        → SweepsShardPlan (shown S.contents S.fails (slice_index_or jobs.old i d).entry)
+        (slice_index_or jobs.old i d).shard_plan (slice_index_or jobs.new i d).shard_plan
         (shown S.contents S.fails (slice_index_or jobs.new i d).entry) }
     ensures swept { SweepsEach bytes_eq names.now (B.contents backend.old) (B.contents backend.new)
         (names_with was_removed names.now fates.new) (names_with has_failed names.now fates.new)
@@ -176,17 +176,17 @@ fn sweep_at_once<
         at_once,
         &mut ||
             requires { IsSync R.row × IsSync H.row × (0 < workers)
-                × All (λ job. IsReady (shown S.contents S.fails job.entry) job.lane) jobs.now }
+                × All (λ job. IsReady (shown S.contents S.fails job.entry) job.shard_plan) jobs.now }
             ensures length { length jobs.exit.now ≡ length jobs.entry.now }
             ensures each { (i : ℕ) (d : _) → i < length jobs.entry.now
-                → SweepsLane (shown S.contents S.fails (slice_index_or jobs.entry.now i d).entry)
-                (slice_index_or jobs.entry.now i d).lane (slice_index_or jobs.exit.now i d).lane
+                → SweepsShardPlan (shown S.contents S.fails (slice_index_or jobs.entry.now i d).entry)
+                (slice_index_or jobs.entry.now i d).shard_plan (slice_index_or jobs.exit.now i d).shard_plan
                 (shown S.contents S.fails (slice_index_or jobs.exit.now i d).entry) }
         { sweep_jobs(rt, alloc, workers, gate, jobs) },
         &mut ||
             requires { IsSync R.row × IsSend F.row × F.pre beside.now
                 × AreHeldOnce bytes_eq names.now (B.contents backend.now)
-                × AreBlobMarks names.now (B.came backend.now) marks.now
+                × AreBlobMarks names.now (B.arrived backend.now) marks.now
                 × (length fates.now ≡ length names.now) }
             ensures swept { SweepsEach bytes_eq names.entry.now (B.contents backend.entry.now)
                 (B.contents backend.exit.now)
@@ -200,8 +200,8 @@ fn sweep_at_once<
 }
 
 /// Sweeps each shard by its job, blobs and ingests, and runs the task. As many shards as there are
-/// workers are swept at once, blobs and the task beside them where workers are left, and never more
-/// than `workers` threads act. Ingests are few: the calling thread sweeps them last.
+/// workers are swept at once, blobs and the task beside them where workers are left. Ingests are
+/// few: the calling thread sweeps them last. No clause speaks of threads.
 pub(crate) fn sweep_tasks<
     R: Threads + Sync,
     S: SnapBackend,
@@ -221,10 +221,10 @@ pub(crate) fn sweep_tasks<
     beside: &mut F,
 )
     requires workers { 0 < workers }
-    requires ready { All (λ job. IsReady (shown S.contents S.fails job.entry) job.lane) jobs.old }
+    requires ready { All (λ job. IsReady (shown S.contents S.fails job.entry) job.shard_plan) jobs.old }
     requires blobs { AreHeldOnce bytes_eq plan.now.report.backend.blobs
         (B.contents backends.old.blobs) }
-    requires marks { AreBlobMarks plan.now.report.backend.blobs (B.came backends.old.blobs)
+    requires marks { AreBlobMarks plan.now.report.backend.blobs (B.arrived backends.old.blobs)
         plan.now.blobs.items }
     requires ingests { AreHeldOnce is_number plan.now.report.backend.ingests
         (I.contents backends.old.ingests) }
@@ -232,8 +232,8 @@ pub(crate) fn sweep_tasks<
     requires beside { F.pre beside.old }
     ensures length { length jobs.new ≡ length jobs.old }
     ensures each { (i : ℕ) (d : _) → i < length jobs.old
-        → SweepsLane (shown S.contents S.fails (slice_index_or jobs.old i d).entry)
-        (slice_index_or jobs.old i d).lane (slice_index_or jobs.new i d).lane
+        → SweepsShardPlan (shown S.contents S.fails (slice_index_or jobs.old i d).entry)
+        (slice_index_or jobs.old i d).shard_plan (slice_index_or jobs.new i d).shard_plan
         (shown S.contents S.fails (slice_index_or jobs.new i d).entry) }
     ensures blobs { SweepsEach bytes_eq plan.now.report.backend.blobs
         (B.contents backends.old.blobs) (B.contents backends.new.blobs)

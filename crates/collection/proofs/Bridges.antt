@@ -6,7 +6,7 @@ use Rattle.std.specs.Result.{IsErrAnd}
 use Rattle.meta_types.specs.Limits.{is_worker_count, is_too_large}
 use Rattle.meta_types.specs.declared.limits.TheConstants.{MAX_NODES}
 use Rattle.table_sweep.specs.InKeyOrder.{records_in_key_order}
-use Rattle.table_sweep.proofs.CameRecords.{as_large}
+use Rattle.table_sweep.proofs.RecordsArrived.{as_large}
 use Rattle.meta_types.specs.Reports.{Report}
 use Rattle.meta_types.specs.declared.fault.Fault.{Fault}
 use Rattle.meta_types.specs.declared.fault.Fault.TheVariants.{InvalidArgument, OutOfMemory}
@@ -71,7 +71,8 @@ moved_is a b h = λ i. record {
   profile = h.profile i;
 }
 
-plan_moved : (a b : Records) (n : ℕ) (back : BackLists) (at : ℤ) (plan : Plan) → IsPlanOfRows a n back at plan → IsPlanOfRows (moved a b) n back at plan
+plan_moved : (a b : Records) (n : ℕ) (back : BackLists) (at : ℤ) (plan : Plan)
+    → IsPlanOfRows a n back at plan → IsPlanOfRows (moved a b) n back at plan
 plan_moved a b n back at plan p = record {
   reached = p.reached;
   tells = tells_as (records_in_key_order a) (records_in_key_order (moved a b)) at p.reached refl refl p.tells;
@@ -91,12 +92,14 @@ pub plan_as : (a b : Records) (n m : ℕ) (back : BackLists) (at : ℤ) (plan : 
 plan_as a b n m back at plan h e p =
     subst (λ (k : ℕ). IsPlanOfRows b k back at plan) e (subst (λ (r : Records). IsPlanOfRows r n back at plan) (moved_is a b h) (plan_moved a b n back at plan p))
 
--- a plan of rows as they came is one of the rows in order
-pub in_some_order : (came records : Records) (n : ℕ) (back : BackLists) (at : ℤ) (plan : Plan) → records_in_key_order came ≡ records → IsPlanOfRows came n back at plan → IsPlanOf records n back at plan
-in_some_order came records n back at plan e p = record {
+-- a plan of rows as they arrived is one of the rows in order
+pub in_some_order : (arrived records : Records) (n : ℕ) (back : BackLists) (at : ℤ) (plan : Plan)
+    → records_in_key_order arrived ≡ records → IsPlanOfRows arrived n back at plan
+    → IsPlanOf records n back at plan
+in_some_order arrived records n back at plan e p = record {
   reached = p.reached;
   tells = subst (λ (r : Records). TellsReached r at p.reached) e p.tells;
-  came = came;
+  arrived = arrived;
   in_order = e;
   masks = p.masks;
   report_is =
@@ -104,21 +107,25 @@ in_some_order came records n back at plan e p = record {
 }
 
 -- so is one of rows that, in order, agree with the records
-pub plan_of_lent : (came records : Records) (n m : ℕ) (back : BackLists) (at : ℤ) (plan : Plan) → Agree (records_in_key_order came) records
-    → n ≡ m → IsPlanOfRows came n back at plan → IsPlanOf records m back at plan
-plan_of_lent came records n m back at plan h e p =
-    in_some_order (moved came records) records m back at plan (moved_is (records_in_key_order came) records h)
-    (subst (λ (k : ℕ). IsPlanOfRows (moved came records) k back at plan) e (plan_moved came records n back at plan p))
+pub plan_of_lent : (arrived records : Records) (n m : ℕ) (back : BackLists) (at : ℤ) (plan : Plan)
+    → Agree (records_in_key_order arrived) records
+    → n ≡ m → IsPlanOfRows arrived n back at plan → IsPlanOf records m back at plan
+plan_of_lent arrived records n m back at plan h e p =
+    in_some_order (moved arrived records) records m back at plan (moved_is (records_in_key_order arrived) records h)
+    (subst (λ (k : ℕ). IsPlanOfRows (moved arrived records) k back at plan) e (plan_moved arrived records n back at plan p))
 
 -- ---- sizes
 
 -- records whose rows are those of others are as large
-pub large_as : (a b : Records) → a.tables.content ≡ b.tables.content → a.tables.ingests ≡ b.tables.ingests → a.tables.snapshots ≡ b.tables.snapshots → is_too_large a ≡ is_too_large b
+pub large_as : (a b : Records) → a.tables.content ≡ b.tables.content
+    → a.tables.ingests ≡ b.tables.ingests → a.tables.snapshots ≡ b.tables.snapshots
+    → is_too_large a ≡ is_too_large b
 large_as a b content ingests snapshots = λ i. nat_lt MAX_NODES (2 * (length (content i) + length (snapshots i)) + length (ingests i))
 
--- rows in order are as many as those that came
-pub large_came : (rows came : Records) → rows ≡ came → is_too_large (records_in_key_order came) ≡ false → is_too_large rows ≡ false
-large_came rows came e few = ap is_too_large e ∙ sym (as_large came) ∙ few
+-- rows in order are as many as those that arrived
+pub large_arrived : (rows arrived : Records) → rows ≡ arrived
+    → is_too_large (records_in_key_order arrived) ≡ false → is_too_large rows ≡ false
+large_arrived rows arrived e few = ap is_too_large e ∙ sym (as_large arrived) ∙ few
 
 -- ---- checks
 
@@ -130,14 +137,17 @@ no_fault true false e = (refl, refl)
 no_fault false large e = absurd cc
 
 -- a sweep that is refused, the workers being allowed, wanted memory
-pub swept_fails : (X : Type 0) (workers : ℕ) (result : Result Report Fault) (fault : Fault) → is_worker_count workers ≡ true → IsErrAnd result (λ other. other ≡ fault)
-    → Refuses {X = X} (Err fault) (unless (is_worker_count workers) InvalidArgument) → RefusesThreads result None
+pub swept_fails : (X : Type 0) (workers : ℕ) (result : Result Report Fault) (fault : Fault)
+    → is_worker_count workers ≡ true → IsErrAnd result (λ other. other ≡ fault)
+    → Refuses {X = X} (Err fault) (unless (is_worker_count workers) InvalidArgument)
+    → RefusesThreads result None
 swept_fails X workers (Ok report) fault allowed same h = absurd same
 swept_fails X workers (Err other) fault allowed same h =
     let memory : fault ≡ OutOfMemory = subst (λ (b : Bool). Refuses {X = X} (Err fault) (unless b InvalidArgument)) allowed h in
     inl (same ∙ memory)
 
 -- what holds where a call is refused leads to more there
-pub at_err : {X E : Type 0} (result : Result X E) (A B : Type 0) → (A → B) → OnErr result A → OnErr result B
+pub at_err : {X E : Type 0} (result : Result X E) (A B : Type 0) → (A → B) → OnErr result A
+    → OnErr result B
 at_err (Ok x) A B f h = tt
 at_err (Err e) A B f h = f h

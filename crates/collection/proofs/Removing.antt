@@ -25,30 +25,30 @@ use Rattle.collection.specs.declared.removal.Named.TheVariants as N
 pub fault_is : (state : State) (removal : Removal) (workers : ℕ) → is_readable removal ≡ true
     → least_of (not (is_worker_count workers)) (is_missing state.records (named_in removal)) false (is_too_large state.records)
     ≡ remove_collect_fault state removal workers
-fault_is state (R.Image ns name) workers read =
-    ap (λ (b : Bool). least_of (not b || not (is_worker_count workers)) (is_missing state.records (named_in (R.Image ns name))) false (is_too_large state.records)) (sym read)
-fault_is state (R.Lease ns id) workers read =
-    ap (λ (b : Bool). least_of (not b || not (is_worker_count workers)) (is_missing state.records (named_in (R.Lease ns id))) false (is_too_large state.records)) (sym read)
+fault_is state (R.Image image) workers read =
+    ap (λ (b : Bool). least_of (not b || not (is_worker_count workers)) (is_missing state.records (named_in (R.Image image))) false (is_too_large state.records)) (sym read)
+fault_is state (R.Lease lease) workers read =
+    ap (λ (b : Bool). least_of (not b || not (is_worker_count workers)) (is_missing state.records (named_in (R.Lease lease))) false (is_too_large state.records)) (sym read)
 
 -- texts that aren't allowed are refused so
 pub unreadable : (state : State) (removal : Removal) (workers : ℕ) → is_readable removal ≡ false
     → remove_collect_fault state removal workers ≡ Some InvalidArgument
-unreadable state (R.Image ns name) workers read =
-    ap (λ (b : Bool). least_of (not b || not (is_worker_count workers)) (is_missing state.records (named_in (R.Image ns name))) false (is_too_large state.records)) read
-unreadable state (R.Lease ns id) workers read =
-    ap (λ (b : Bool). least_of (not b || not (is_worker_count workers)) (is_missing state.records (named_in (R.Lease ns id))) false (is_too_large state.records)) read
+unreadable state (R.Image image) workers read =
+    ap (λ (b : Bool). least_of (not b || not (is_worker_count workers)) (is_missing state.records (named_in (R.Image image))) false (is_too_large state.records)) read
+unreadable state (R.Lease lease) workers read =
+    ap (λ (b : Bool). least_of (not b || not (is_worker_count workers)) (is_missing state.records (named_in (R.Lease lease))) false (is_too_large state.records)) read
 
 -- the store without the row is the one that the removal leaves
 pub after_is : (records : Records) (backends : BackLists) (removal : Removal)
     → record { records = without records (named_in removal); backends = backends } ≡ (removal_outcome (record { records = records; backends = backends }) removal).after
-after_is records backends (R.Image ns name) = refl
-after_is records backends (R.Lease ns id) = refl
+after_is records backends (R.Image image) = refl
+after_is records backends (R.Lease lease) = refl
 
 -- it is sound
 pub sound_without : (state : State) (removal : Removal) → IsSound state
     → IsSound (removal_outcome state removal).after
-sound_without state (R.Image ns name) s = after_image_remove state ns name s
-sound_without state (R.Lease ns id) s = after_lease_remove state ns id s
+sound_without state (R.Image image) s = after_image_remove state image s
+sound_without state (R.Lease lease) s = after_lease_remove state lease s
 
 -- an image or a lease isn't counted, so a removal leaves the count
 pub as_large : (records : Records) (named : Named)

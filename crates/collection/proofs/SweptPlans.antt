@@ -10,15 +10,15 @@ use Rattle.backend_sweep.specs.Fated.{AllFates, failed_of}
 use Rattle.collection.specs.Whole.{reported, IsPlanOfStore, SweepsBackends, SweepsRecords}
 
 -- a plan's report, with what was swept
-pub a_swept_plan_is_a_collection : (came : Records) (backends : BackLists) (at : ℤ) (plan : Plan)
+pub a_swept_plan_is_a_collection : (arrived : Records) (backends : BackLists) (at : ℤ) (plan : Plan)
     (fates : AllFates) (records : Records) (back : BackLists)
-    → IsPlanOfRows came (length came.tables.namespaces) backends at plan
-    → SweepsRecords plan came records → SweepsBackends plan backends fates back
-    → Collects (record { records = records_in_key_order came; backends = backends }) at
+    → IsPlanOfRows arrived (length arrived.tables.namespaces) backends at plan
+    → SweepsRecords plan arrived records → SweepsBackends plan backends fates back
+    → Collects (record { records = records_in_key_order arrived; backends = backends }) at
     (failed_of plan.report.backend fates) (reported plan.report fates)
     (record { records = records; backends = back })
-a_swept_plan_is_a_collection came backends at plan fates records back p rows objects =
-    let left = collected_records at p.reached (records_in_key_order came) in
+a_swept_plan_is_a_collection arrived backends at plan fates records back p rows objects =
+    let left = collected_records at p.reached (records_in_key_order arrived) in
     let s = objects left.tables (ap (λ report. report.backend) p.report_is) in
     let rows_are = rows at p.reached p.masks in
     record {

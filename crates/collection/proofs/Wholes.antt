@@ -13,27 +13,27 @@ use Rattle.table_sweep.proofs.Planned.{fit}
 use Rattle.table_sweep.proofs.NumbersLeft.{stay_numbered}
 use Rattle.collection.specs.Whole.{SweepsRecords}
 
-module _ (came : Records) (n : ℕ) (back : BackLists) (at : ℤ) (plan : Plan) (p : IsPlanOfRows came n back at plan) where
-  pub fits : FitRows came.tables came.leases plan.masks
-  fits = fit came at p.reached plan.masks p.masks
+module _ (arrived : Records) (n : ℕ) (back : BackLists) (at : ℤ) (plan : Plan) (p : IsPlanOfRows arrived n back at plan) where
+  pub fits : FitRows arrived.tables arrived.leases plan.masks
+  fits = fit arrived at p.reached plan.masks p.masks
 
-  pub stays : AreTables (in_key_order came.tables) → StayNumbered came.tables plan.masks
-  stays s = stay_numbered came at p.reached p.tells plan.masks p.masks s.numbered
+  pub stays : AreTables (in_key_order arrived.tables) → StayNumbered arrived.tables plan.masks
+  stays s = stay_numbered arrived at p.reached p.tells plan.masks p.masks s.numbered
 
 -- a plan by lists that are what the backends hold is a plan of the store
-pub plan_by : (came : Records) (n : ℕ) (lists held : BackLists) (at : ℤ) (plan : Plan)
-    → lists ≡ held → IsPlanOfRows came n lists at plan → IsPlanOfRows came n held at plan
-plan_by came n lists held at plan e p = subst (λ (b : BackLists). IsPlanOfRows came n b at plan) e p
+pub plan_by : (arrived : Records) (n : ℕ) (lists held : BackLists) (at : ℤ) (plan : Plan)
+    → lists ≡ held → IsPlanOfRows arrived n lists at plan → IsPlanOfRows arrived n held at plan
+plan_by arrived n lists held at plan e p = subst (λ (b : BackLists). IsPlanOfRows arrived n b at plan) e p
 
--- tables and leases that are swept as they came are in order the records that are swept
-pub rows_swept : (came : Records) (plan : Plan) (tables : Tables) (leases : List LeaseRow)
-    → ((of : Collection) → came.tables ≡ of.records.tables
+-- tables and leases that are swept as they arrived are in order the records that are swept
+pub rows_swept : (arrived : Records) (plan : Plan) (tables : Tables) (leases : List LeaseRow)
+    → ((of : Collection) → arrived.tables ≡ of.records.tables
     → AreMasks of.records of.at of.reached plan.masks
     → in_key_order tables ≡ (collected_records of.at of.reached (records_in_key_order of.records)).tables)
-    → ((of : Collection) → came.leases ≡ of.records.leases
+    → ((of : Collection) → arrived.leases ≡ of.records.leases
     → AreMasks of.records of.at of.reached plan.masks
     → sorted lease_key leases ≡ (collected_records of.at of.reached (records_in_key_order of.records)).leases)
-    → SweepsRecords plan came (record { tables = in_key_order tables; leases = sorted lease_key leases; next = came.next; profile = came.profile })
-rows_swept came plan tables leases t l at reached masks =
-    let of : Collection = record { records = came; at = at; reached = reached } in
-    λ i. record { tables = t of refl masks i; leases = l of refl masks i; next = came.next; profile = came.profile }
+    → SweepsRecords plan arrived (record { tables = in_key_order tables; leases = sorted lease_key leases; next = arrived.next; profile = arrived.profile })
+rows_swept arrived plan tables leases t l at reached masks =
+    let of : Collection = record { records = arrived; at = at; reached = reached } in
+    λ i. record { tables = t of refl masks i; leases = l of refl masks i; next = arrived.next; profile = arrived.profile }

@@ -1,4 +1,4 @@
--- Records as they came. Ours.
+-- Records as they arrived. Ours.
 use Rattle.meta_types.specs.Rows.{Records, lease_key}
 use Rattle.row_tables.specs.Arrived.{sorted}
 use Rattle.object_tables.specs.InKeyOrder.{in_key_order}
@@ -7,8 +7,8 @@ use Rattle.collection.specs.declared.arrived.ArrivedRecords.{ArrivedRecords}
 
 -- the same records, with the rows of each kind in the order of their keys
 abbrev pub in_order : ArrivedRecords → Kept
-in_order came = record { tables = in_key_order came.tables; leases = sorted lease_key came.leases; next = came.next; profile = came.profile }
+in_order arrived = record { tables = in_key_order arrived.tables; leases = sorted lease_key arrived.leases; next = arrived.next; profile = arrived.profile }
 
--- the records as they came, as the definitions have records
-abbrev pub came_in : ArrivedRecords → Records
-came_in came = record { tables = came.tables; leases = came.leases; next = came.next; profile = came.profile }
+-- the records as they arrived, as the definitions have records
+abbrev pub arrived_in : ArrivedRecords → Records
+arrived_in arrived = record { tables = arrived.tables; leases = arrived.leases; next = arrived.next; profile = arrived.profile }

@@ -13,13 +13,13 @@ use Rattle.collection.specs.declared.removal.Named.TheVariants as N
 
 -- its texts are allowed
 abbrev pub is_readable : Removal → Bool
-is_readable (R.Image ns name) = all_of (is_short_name ns ∷ is_name name ∷ [])
-is_readable (R.Lease ns id) = all_of (is_short_name ns ∷ is_name id ∷ [])
+is_readable (R.Image image) = all_of (is_short_name image.ns ∷ is_name image.name ∷ [])
+is_readable (R.Lease lease) = all_of (is_short_name lease.ns ∷ is_name lease.name ∷ [])
 
 -- what it names
 abbrev pub named_in : Removal → Named
-named_in (R.Image ns name) = N.Image ns name
-named_in (R.Lease ns id) = N.Lease ns id
+named_in (R.Image image) = N.Image image.ns image.name
+named_in (R.Lease lease) = N.Lease lease.ns lease.name
 
 -- texts are read where they are allowed
 abbrev pub ReadsTexts : {X : Type 0} → Result X Fault → Bool → X → Type 0

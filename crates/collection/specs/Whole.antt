@@ -29,19 +29,19 @@ IsPlanOfStore state at plan = IsPlanOf state.records (length state.records.table
 abbrev pub SweepsBackends : Plan → BackLists → AllFates → BackLists → Type 0
 SweepsBackends plan old fates new = SweepsNames plan.report.backend old new fates
 
--- records that came so are swept of what the masks don't keep: what is left
+-- records that arrived so are swept of what the masks don't keep: what is left
 -- is seen in the order of keys
 abbrev pub SweepsRecords : Plan → Records → Records → Type 0
-SweepsRecords plan came new = (at : ℤ) (reached : Thing → Bool) → AreMasks came at reached plan.masks → new ≡ collected_records at reached (records_in_key_order came)
+SweepsRecords plan arrived new = (at : ℤ) (reached : Thing → Bool) → AreMasks arrived at reached plan.masks → new ≡ collected_records at reached (records_in_key_order arrived)
 
--- a plan of records as they came, both sweeps by it and the report are a collection of them in the
+-- a plan of records as they arrived, both sweeps by it and the report are a collection of them in the
 -- order of keys, with the failures of the sweep
 abbrev pub ASweptPlanIsACollection : Type 0
-ASweptPlanIsACollection = (came : Records) (backends : BackLists) (at : ℤ) (plan : Plan)
+ASweptPlanIsACollection = (arrived : Records) (backends : BackLists) (at : ℤ) (plan : Plan)
     (fates : AllFates) (records : Records) (back : BackLists)
-    → IsPlanOfRows came (length came.tables.namespaces) backends at plan
-    → SweepsRecords plan came records → SweepsBackends plan backends fates back
-    → Collects (record { records = records_in_key_order came; backends = backends }) at
+    → IsPlanOfRows arrived (length arrived.tables.namespaces) backends at plan
+    → SweepsRecords plan arrived records → SweepsBackends plan backends fates back
+    → Collects (record { records = records_in_key_order arrived; backends = backends }) at
     (failed_of plan.report.backend fates) (reported plan.report fates)
     (record { records = records; backends = back })
 

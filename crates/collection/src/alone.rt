@@ -52,10 +52,10 @@ fn plan_alone<R: Threads + Sync>(
     ensures ok { IfOk result (λ plan. IsPlanOf (records_in records.now)
         (length records.now.tables.namespaces) (lists_of back.now) at.0 plan) }
 {
-    let came = records.tables.came();
-    let leases = records.leases.came();
+    let arrived = records.tables.arrived();
+    let leases = records.leases.arrived();
     let namespaces = records.tables.count_ns();
-    let listed = ListedRows::new(alloc, &came, leases, records.profile)?;
+    let listed = ListedRows::new(alloc, &arrived, leases, records.profile)?;
     let rows = listed.rows();
     let plan = plan_rows(rt, alloc, &rows, namespaces, back, at)?;
     Ok(plan)

@@ -1,14 +1,14 @@
-//! Records whose rows stand as they came.
+//! Records whose rows stand as they arrived.
 ghost use Rattle.std.specs.Prelude.{◌≡◌, None, IfOk, length, true, false};
 ghost use Rattle.meta_types.specs.Limits.{is_worker_count, is_too_large};
 ghost use Rattle.steal_mark.specs.Refusing.{RefusesThreads};
 ghost use Rattle.table_sweep.specs.Plans.{IsPlanOfRows};
-ghost use Rattle.collection.specs.Arrived.{in_order, came_in};
+ghost use Rattle.collection.specs.Arrived.{in_order, arrived_in};
 ghost use Rattle.collection.specs.Stores.{records_in};
 ghost use Rattle.table_sweep.specs.Backed.{lists_of};
 ghost use Rattle.table_sweep.specs.BlobMarks.{AreBlobMarks};
 
-use crate::planning::plan_came;
+use crate::planning::plan_arrived;
 use lease_book::{Lease, Leases};
 use meta_types::{Fault, Instant, Name};
 use object_tables::{ArrivedTables, Tables};
@@ -21,7 +21,7 @@ use std::thread::Threads;
 use steal_mark::Gate;
 use table_sweep::{BackRows, Plan};
 
-/// The records of a store as they came. A row's place is its number.
+/// The records of a store as they arrived. A row's place is its number.
 #[derive(Drop)]
 pub(crate) struct ArrivedRecords {
     pub(crate) tables: ArrivedTables,
@@ -45,17 +45,17 @@ impl ArrivedRecords {
         requires workers { is_worker_count workers ≡ true }
         requires few { is_too_large (records_in (in_order self.now)) ≡ false }
         ensures fault { RefusesThreads result None }
-        ensures ok { IfOk result (λ plan. IsPlanOfRows (came_in self.now)
+        ensures ok { IfOk result (λ plan. IsPlanOfRows (arrived_in self.now)
             (length self.now.tables.namespaces) (lists_of back.now) at.0 plan) }
         ensures blobs { IfOk result (λ plan. AreBlobMarks plan.report.backend.blobs
             back.now.blobs.now plan.blobs.items) }
     {
-        let came = self.tables.rows();
+        let arrived = self.tables.rows();
         let namespaces = self.tables.count_ns();
-        let plan = plan_came(
+        let plan = plan_arrived(
             rt,
             alloc,
-            &came,
+            &arrived,
             &self.leases,
             self.profile,
             namespaces,
@@ -74,21 +74,21 @@ pub(crate) fn take_out(alloc: Global, records: &mut Records) -> ArrivedRecords
 {
     let whole = mem::replace(records, Records::empty(alloc));
     ArrivedRecords {
-        tables: whole.tables.into_came(),
-        leases: whole.leases.into_came(),
+        tables: whole.tables.into_arrived(),
+        leases: whole.leases.into_arrived(),
         next: whole.next,
         profile: whole.profile,
     }
 }
 
 // Puts the rows back.
-pub(crate) fn put_back(records: &mut Records, came: ArrivedRecords)
-    ensures { records.new ≡ in_order came }
+pub(crate) fn put_back(records: &mut Records, arrived: ArrivedRecords)
+    ensures { records.new ≡ in_order arrived }
 {
     *records = Records {
-        tables: Tables::from_came(came.tables),
-        leases: Leases::from_came(came.leases),
-        next: came.next,
-        profile: came.profile,
+        tables: Tables::from_arrived(arrived.tables),
+        leases: Leases::from_arrived(arrived.leases),
+        next: arrived.next,
+        profile: arrived.profile,
     };
 }

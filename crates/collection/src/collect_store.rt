@@ -16,7 +16,7 @@ ghost use Rattle.table_sweep.specs.BlobMarks.{AreBlobMarks};
 ghost use Rattle.table_sweep.specs.InKeyOrder.{records_in_key_order};
 ghost use Rattle.table_sweep.specs.Plans.{IsPlanOfRows};
 ghost use Rattle.table_sweep.specs.Stays.{AreMasks, FitRows, StayNumbered, Collection};
-ghost use Rattle.collection.specs.Arrived.{in_order, came_in};
+ghost use Rattle.collection.specs.Arrived.{in_order, arrived_in};
 ghost use Rattle.collection.specs.Stores.{records_in, store_in};
 ghost use Rattle.backend_sweep.specs.Planned.{IsPlanned};
 ghost use Rattle.backend_sweep.specs.Fated.{AreFatesOf, failed_of};
@@ -46,20 +46,20 @@ use table_sweep::{BackRows, Plan, sweep};
 fn plan_held<R: Threads + Wait + Sync, S: SnapBackend, B: BlobBackend, I: IngestBackend, G: Gate>(
     rt: &R,
     alloc: Global,
-    came: &ArrivedRecords,
+    arrived: &ArrivedRecords,
     backends: &Backends<S, B, I>,
     at: Instant,
     workers: usize,
     gate: &G,
 ) -> Result<Plan, Fault>
     requires workers { is_worker_count workers ≡ true }
-    requires few { is_too_large (records_in (in_order came.now)) ≡ false }
+    requires few { is_too_large (records_in (in_order arrived.now)) ≡ false }
     ensures fault { RefusesThreads result None }
-    ensures ok { IfOk result (λ plan. IsPlanOfRows (came_in came.now)
-        (length came.now.tables.namespaces) (held_in backends.now.shards
+    ensures ok { IfOk result (λ plan. IsPlanOfRows (arrived_in arrived.now)
+        (length arrived.now.tables.namespaces) (held_in backends.now.shards
         (B.contents backends.now.blobs) (I.contents backends.now.ingests)) at.0 plan) }
     ensures blobs { IfOk result (λ plan. AreBlobMarks plan.report.backend.blobs
-        (B.came backends.now.blobs) plan.blobs.items) }
+        (B.arrived backends.now.blobs) plan.blobs.items) }
 {
     let snapshots = backends.snaps(alloc)?;
     let ingests = backends.ingests().numbers(alloc)?;
@@ -68,7 +68,7 @@ fn plan_held<R: Threads + Wait + Sync, S: SnapBackend, B: BlobBackend, I: Ingest
         snapshots: &snapshots,
         ingests: &ingests,
     };
-    let plan = came.plan(rt, alloc, &back, at, workers, gate)?;
+    let plan = arrived.plan(rt, alloc, &back, at, workers, gate)?;
     Ok(plan)
 }
 
@@ -86,7 +86,7 @@ fn sweep_all<R: Threads + Sync, S: SnapBackend, B: BlobBackend, I: IngestBackend
 ) -> Result<Fates, Fault>
     requires planned { IsPlanned (held_in backends.old.shards (B.contents backends.old.blobs)
         (I.contents backends.old.ingests)) plan.now }
-    requires marks { AreBlobMarks plan.now.report.backend.blobs (B.came backends.old.blobs)
+    requires marks { AreBlobMarks plan.now.report.backend.blobs (B.arrived backends.old.blobs)
         plan.now.blobs.items }
     requires rows { FitRows tables.old leases.old plan.now.masks }
     requires numbered { StayNumbered tables.old plan.now.masks }
@@ -136,9 +136,9 @@ fn sweep_all<R: Threads + Sync, S: SnapBackend, B: BlobBackend, I: IngestBackend
     Ok(fates)
 }
 
-// Collects records as they came. From the first removal on nothing is refused; what is refused
+// Collects records as they arrived. From the first removal on nothing is refused; what is refused
 // leaves all as it was.
-fn collect_came<
+fn collect_arrived<
     R: Threads + Wait + Sync,
     S: SnapBackend,
     B: BlobBackend,
@@ -149,40 +149,40 @@ fn collect_came<
 >(
     rt: &R,
     alloc: Global,
-    came: &mut ArrivedRecords,
+    arrived: &mut ArrivedRecords,
     backends: &mut Backends<S, B, I>,
     at: Instant,
     workers: usize,
     gate: &G,
     sweep_gate: &H,
 ) -> Result<Reports<K>, Fault>
-    requires sound { IsSound (store_in (in_order came.old) backends.old.shards
+    requires sound { IsSound (store_in (in_order arrived.old) backends.old.shards
         (B.contents backends.old.blobs) (I.contents backends.old.ingests)) }
     requires workers { is_worker_count workers ≡ true }
-    requires few { is_too_large (records_in (in_order came.old)) ≡ false }
+    requires few { is_too_large (records_in (in_order arrived.old)) ≡ false }
     ensures fault { RefusesThreads result None }
-    ensures ok { IfOk result (λ report. Collects (store_in (in_order came.old)
+    ensures ok { IfOk result (λ report. Collects (store_in (in_order arrived.old)
         backends.old.shards (B.contents backends.old.blobs) (I.contents backends.old.ingests))
-        at.0 report.failed report (store_in (in_order came.new) backends.new.shards
+        at.0 report.failed report (store_in (in_order arrived.new) backends.new.shards
         (B.contents backends.new.blobs) (I.contents backends.new.ingests))) }
     ensures count { IfOk result (λ report. all_failures backends.new.shards
         + B.fails backends.new.blobs + I.fails backends.new.ingests
         ≡ all_failures backends.old.shards + B.fails backends.old.blobs
         + I.fails backends.old.ingests + count_names report.failed) }
-    ensures came_err { OnErr result (came.new ≡ came.old) }
+    ensures arrived_err { OnErr result (arrived.new ≡ arrived.old) }
     ensures backends_err { OnErr result (backends.new ≡ backends.old) }
-    ensures sound { IsSound (store_in (in_order came.new) backends.new.shards
+    ensures sound { IsSound (store_in (in_order arrived.new) backends.new.shards
         (B.contents backends.new.blobs) (I.contents backends.new.ingests)) }
 {
-    let plan = plan_held(rt, alloc, came, backends, at, workers, gate)?;
+    let plan = plan_held(rt, alloc, arrived, backends, at, workers, gate)?;
     let spares = spares_of::<K>(alloc, &plan)?;
     let rooms = Rooms::of(alloc, &plan)?;
     sweep_gate.before_sweep(alloc, &plan.report)?;
     let fates = sweep_all(
         rt,
         alloc,
-        &mut came.tables,
-        &mut came.leases,
+        &mut arrived.tables,
+        &mut arrived.leases,
         backends,
         &plan,
         workers,
@@ -228,10 +228,17 @@ pub fn collect<
         (I.contents backends.new.ingests)) }
 {
     check(records, workers)?;
-    let mut came = take_out(alloc, records);
-    let reports = collect_came(
-        rt, alloc, &mut came, backends, at, workers, gate, sweep_gate,
+    let mut arrived = take_out(alloc, records);
+    let reports = collect_arrived(
+        rt,
+        alloc,
+        &mut arrived,
+        backends,
+        at,
+        workers,
+        gate,
+        sweep_gate,
     );
-    put_back(records, came);
+    put_back(records, arrived);
     reports
 }

@@ -41,7 +41,7 @@ fn impact_lent<R: Threads + Sync>(
     Ok(Impact::of(now, then))
 }
 
-/// What would go at a moment without a row of these records and lists. The calling thread does all.
+/// What would go at a moment without a row of these records and lists.
 pub fn impact_of_lists<R: Threads + Sync>(
     rt: &R,
     alloc: Global,
@@ -73,8 +73,7 @@ pub fn impact_of_lists<R: Threads + Sync>(
     impact_lent(rt, alloc, records, &lent, &row, at)
 }
 
-/// What would go at a moment without a row of this store, which stays as it is. The calling thread
-/// does all.
+/// What would go at a moment without a row of this store, which stays as it is.
 pub fn impact<R: Threads + Sync, S: SnapBackend, B: BlobBackend, I: IngestBackend>(
     rt: &R,
     alloc: Global,

@@ -1,8 +1,10 @@
 //! The plan of a collection: the graph, its marks, and the removals.
-ghost use Rattle.std.specs.Prelude.{◌≡◌, length, None, false, true, IfOk};
+ghost use Rattle.std.specs.Prelude.{◌≡◌, ◌↔◌, ℕ, length, None, false, true, IfOk};
 ghost use Rattle.meta_types.specs.Limits.{is_worker_count, is_too_large};
 ghost use Rattle.meta_types.specs.Sound.{AreTables};
 ghost use Rattle.meta_types.specs.Steps.{collect_fault};
+ghost use Rattle.mark_core.specs.Bits.{bit_of};
+ghost use Rattle.mark_core.specs.Reach.{Reached, IsInRange};
 ghost use Rattle.gc_graph.specs.Built.{AreApart};
 ghost use Rattle.gc_graph.specs.Lent.{lent_in};
 ghost use Rattle.gc_graph.specs.Stored.{records_of, AreLent};
@@ -17,15 +19,39 @@ ghost use Rattle.backend_sweep.specs.Planned.{IsPlanOf};
 use crate::checks::check;
 use gc_graph::{ListedRows, StoreRows, build};
 use lease_book::Lease;
+use mark_core::{Graph, Marks, mark_plain};
 use meta_types::{Fault, Instant, Name};
 use object_tables::ArrivedRows;
 use request_core::Records;
 use row_tables::ArrivedByNamespace;
 use std::alloc::Global;
+use std::mem::drop;
 use std::sync::Wait;
 use std::thread::Threads;
 use steal_mark::{Gate, mark_workers};
 use table_sweep::{BackRows, Plan, plan_of};
+
+// The marks of the reached numbers. One worker is the calling thread, and needs no deque.
+fn marks_of<R: Threads + Wait + Sync, G: Gate>(
+    rt: &R,
+    alloc: Global,
+    graph: &Graph,
+    workers: usize,
+    gate: &G,
+) -> Result<Marks, Fault>
+    requires range { IsInRange graph.now }
+    requires workers { is_worker_count workers ≡ true }
+    ensures fault { RefusesThreads result None }
+    ensures marks { IfOk result (λ m. (n : ℕ) → (bit_of m n ≡ 1) ↔ Reached graph.now n) }
+{
+    if workers == 1 {
+        let marks = mark_plain(alloc, graph)?;
+        return Ok(marks);
+    }
+    let (marks, lists) = mark_workers(rt, alloc, graph, workers, gate)?;
+    drop(lists);
+    Ok(marks)
+}
 
 fn plan_rows<R: Threads + Wait + Sync, G: Gate>(
     rt: &R,
@@ -48,16 +74,17 @@ fn plan_rows<R: Threads + Wait + Sync, G: Gate>(
         plan.blobs.items) }
 {
     let (book, graph, ignored) = build(rt, alloc, rows, at, workers)?;
-    let (marks, _lists) = mark_workers(rt, alloc, &graph, workers, gate)?;
+    let marks = marks_of(rt, alloc, &graph, workers, gate)?;
+    drop(graph);
     let plan = plan_of(alloc, rows, namespaces, back, &book, &marks, ignored, at)?;
     Ok(plan)
 }
 
-// The plan of a collection of rows as they came: they are listed without a sort.
-pub(crate) fn plan_came<R: Threads + Wait + Sync, G: Gate>(
+// The plan of a collection of rows as they arrived: they are listed without a sort.
+pub(crate) fn plan_arrived<R: Threads + Wait + Sync, G: Gate>(
     rt: &R,
     alloc: Global,
-    came: &ArrivedRows<'_>,
+    arrived: &ArrivedRows<'_>,
     leases: &ArrivedByNamespace<Name, Lease>,
     profile: u8,
     namespaces: u64,
@@ -67,15 +94,15 @@ pub(crate) fn plan_came<R: Threads + Wait + Sync, G: Gate>(
     gate: &G,
 ) -> Result<Plan, Fault>
     requires workers { is_worker_count workers ≡ true }
-    requires few { is_too_large (records_in_key_order (lent_in came.now leases.now profile))
+    requires few { is_too_large (records_in_key_order (lent_in arrived.now leases.now profile))
         ≡ false }
     ensures fault { RefusesThreads result None }
-    ensures ok { IfOk result (λ plan. IsPlanOfRows (lent_in came.now leases.now profile) namespaces
+    ensures ok { IfOk result (λ plan. IsPlanOfRows (lent_in arrived.now leases.now profile) namespaces
         (lists_of back.now) at.0 plan) }
     ensures blobs { IfOk result (λ plan. AreBlobMarks plan.report.backend.blobs back.now.blobs.now
         plan.blobs.items) }
 {
-    let listed = ListedRows::new(alloc, came, leases, profile)?;
+    let listed = ListedRows::new(alloc, arrived, leases, profile)?;
     let rows = listed.rows();
     let plan = plan_rows(rt, alloc, &rows, namespaces, back, at, workers, gate)?;
     Ok(plan)
@@ -99,13 +126,13 @@ pub fn plan_store<R: Threads + Wait + Sync, G: Gate>(
         plan.blobs.items) }
 {
     check(records, workers)?;
-    let came = records.tables.came();
-    let leases = records.leases.came();
+    let arrived = records.tables.arrived();
+    let leases = records.leases.arrived();
     let namespaces = records.tables.count_ns();
-    let plan = plan_came(
+    let plan = plan_arrived(
         rt,
         alloc,
-        &came,
+        &arrived,
         leases,
         records.profile,
         namespaces,

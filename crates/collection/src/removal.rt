@@ -20,7 +20,7 @@ use crate::keeps::Keeps;
 use crate::reports::Reports;
 use back_model::{Backends, BlobBackend, IngestBackend, SnapBackend};
 use backend_sweep::SweepGate;
-use meta_types::{Fault, Instant, Name, RawText, Removal, ShortName, is_worker_count};
+use meta_types::{Fault, Instant, Name, RawName, Removal, ShortName, is_worker_count};
 use request_core::Records;
 use std::alloc::Global;
 use std::sync::Wait;
@@ -35,12 +35,12 @@ pub(crate) enum Named {
 }
 
 // Reads a namespace, and the name of an image or of a lease.
-fn read_names(alloc: Global, ns: &RawText, name: &RawText) -> Result<(ShortName, Name), Fault>
-    ensures { ReadsTexts result (all_of (is_short_name ns.now ∷ is_name name.now ∷ []))
-        (ns.now, name.now) }
+fn read_names(alloc: Global, named: &RawName) -> Result<(ShortName, Name), Fault>
+    ensures { ReadsTexts result (all_of (is_short_name named.now.ns ∷ is_name named.now.name ∷ []))
+        (named.now.ns, named.now.name) }
 {
-    let ns = ShortName::read(alloc, ns.text())?;
-    let name = Name::read(alloc, name.text())?;
+    let ns = ShortName::read(alloc, named.ns.text())?;
+    let name = Name::read(alloc, named.name.text())?;
     Ok((ns, name))
 }
 
@@ -48,12 +48,12 @@ fn read_removal(alloc: Global, removal: &Removal) -> Result<Named, Fault>
     ensures { ReadsTexts result (is_readable removal.now) (named_in removal.now) }
 {
     match removal {
-        Removal::Image { ns, name } => {
-            let (ns, name) = read_names(alloc, ns, name)?;
+        Removal::Image(image) => {
+            let (ns, name) = read_names(alloc, image)?;
             Ok(Named::Image(ns, name))
         }
-        Removal::Lease { ns, id } => {
-            let (ns, id) = read_names(alloc, ns, id)?;
+        Removal::Lease(lease) => {
+            let (ns, id) = read_names(alloc, lease)?;
             Ok(Named::Lease(ns, id))
         }
     }

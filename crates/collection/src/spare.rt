@@ -16,7 +16,7 @@ use std::alloc::Global;
 use std::marker::PhantomData;
 use table_sweep::Plan;
 
-/// A plan's report once more, and room for what a sweep does of it.
+/// A copy of the plan's report, with room for the fates.
 #[derive(Drop)]
 pub(crate) struct Spare {
     pub(crate) report: Report,
@@ -63,7 +63,7 @@ pub(crate) fn spares_of<K: Keeps>(
     Ok(Some((log, list)))
 }
 
-// What was swept is told in each copy. It takes no memory.
+// Fills each copy by the fates. It takes no memory.
 fn filled<K: Keeps>(
     planned: &Report,
     fates: &Fates,

@@ -10,7 +10,7 @@ use std::thread::Threads;
 fn make_graph(rt: &(impl Threads + Sync), alloc: Global) -> Result<(), Fault> {
     let tables = Tables::new(alloc);
     let leases = Leases::new(alloc);
-    let listed = ListedRows::new(alloc, &tables.came(), leases.came(), 1)?;
+    let listed = ListedRows::new(alloc, &tables.arrived(), leases.arrived(), 1)?;
     let (_book, _graph, _ignored) = build(rt, alloc, &listed.rows(), Instant(0), 1)?;
     Ok(())
 }

@@ -61,11 +61,11 @@ fn is_asked<L: Ledger, R: Threads + Wait + Sync>(
 ) -> Result<bool, Fault> {
     let ns = ShortName::read(alloc, "x")?;
     let object = Object::read(alloc, "images", "i")?;
-    let told = store.explain(rt, alloc, session, &ns, &object, AT);
-    let is_refused = matches!(&told, Err(Fault::NotFound));
+    let told = store.explain(rt, alloc, session, &ns, &object, AT)?;
+    let is_refused = matches!(&told.answer, Err(Fault::NotFound));
     drop(told);
-    let found = store.impact(rt, alloc, session, ns, object, AT);
-    let is_missing = matches!(&found, Err(Fault::NotFound));
+    let found = store.impact(rt, alloc, session, ns, object, AT)?;
+    let is_missing = matches!(&found.answer, Err(Fault::NotFound));
     drop(found);
     Ok(is_refused && is_missing)
 }

@@ -8,7 +8,7 @@ use Rattle.meta_types.specs.Paths.{Thing}
 use Rattle.meta_types.specs.Walks.{end_of}
 use Rattle.mark_core.specs.declared.graph.Graph.{Graph}
 use Rattle.gc_graph.specs.declared.node.Node.{Node}
-use Rattle.nearest_walks.specs.Nearest.{IsDepth}
+use Rattle.mark_core.specs.Nearest.{IsDepth}
 use Rattle.explaining.specs.Explained.{IsSplitGraphOf}
 use Rattle.explaining.specs.Found.{numbered, thing_at}
 use Rattle.explaining.specs.Firsts.{chain, first_leading, root_before, AreWithin}

@@ -10,7 +10,7 @@ use Rattle.mark_core.specs.declared.graph.Graph.{Graph}
 use Rattle.gc_graph.specs.declared.node.Node.{Node}
 use Rattle.gc_graph.specs.Targets.{root_things}
 use Rattle.gc_graph.proofs.Things.{HasNone, with_nodes, without_nodes, is_root_thing, split_thing}
-use Rattle.nearest_walks.specs.Nearest.{IsDepth}
+use Rattle.mark_core.specs.Nearest.{IsDepth}
 use Rattle.explaining.specs.Explained.{IsSplitGraphOf}
 use Rattle.explaining.specs.Found.{numbered, no_thing, thing_at}
 use Rattle.explaining.specs.Firsts.{number_before}

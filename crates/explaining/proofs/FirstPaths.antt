@@ -19,8 +19,8 @@ use Rattle.gc_graph.specs.Targets.{root_things}
 use Rattle.gc_graph.proofs.References.{no_edge}
 use Rattle.gc_graph.proofs.Things.{HasNode, HasNone, with_nodes, without_nodes, is_root_thing, split_thing}
 use Rattle.gc_graph.proofs.Walks.{targets_at, edge_number, number_edge, at_place}
-use Rattle.nearest_walks.specs.Nearest.{IsDepth}
-use Rattle.nearest_walks.specs.Firsts.{leads, is_step}
+use Rattle.mark_core.specs.Nearest.{IsDepth}
+use Rattle.mark_core.specs.Firsts.{leads, is_step}
 use Rattle.explaining.specs.Explained.{IsSplitGraphOf}
 use Rattle.explaining.specs.Found.{numbered, no_thing, thing_at}
 use Rattle.explaining.specs.ShortestPaths.{IsFirstTo}

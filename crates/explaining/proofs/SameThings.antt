@@ -70,7 +70,7 @@ module _ (a b : Records) (p : a.profile ≡ b.profile) (same : (t : Thing) → C
 
 -- ---- records in the order of keys
 
-module _ (came records : Records) (s : AreInOrder came records) where
+module _ (arrived records : Records) (s : AreInOrder arrived records) where
   moved : {Row : Type 0} (key_of : Row → Key) (thing : Row → Thing) (rows after : List Row) → sorted key_of rows ≡ after → IsPermutation (map thing rows) (map thing after)
   moved key_of thing rows after e = subst (λ l. IsPermutation (map thing rows) (map thing l)) e (IsPermutation-map thing rows (sorted key_of rows) (same_members key_of rows))
 
@@ -78,28 +78,28 @@ module _ (came records : Records) (s : AreInOrder came records) where
   both_moved key_of thing rows after e = IsPermutation-append (map (thing Full) rows) (map (thing Full) after) (map (thing Flat) rows) (map (thing Flat) after)
       (moved key_of (thing Full) rows after e) (moved key_of (thing Flat) rows after e)
 
-  same_things : IsPermutation (things came) (things records)
+  same_things : IsPermutation (things arrived) (things records)
   same_things =
       IsPermutation-append _ _ _ _
       (IsPermutation-append _ _ _ _
       (IsPermutation-append _ _ _ _
       (IsPermutation-append _ _ _ _
-      (IsPermutation-append _ _ _ _ (moved image_key image came.tables.images records.tables.images s.images) (moved container_key container came.tables.containers records.tables.containers s.containers))
-      (moved lease_key lease came.leases records.leases s.leases))
-      (moved ingest_key ingest came.tables.ingests records.tables.ingests s.ingests))
-      (both_moved content_key content came.tables.content records.tables.content s.content))
-      (both_moved snap_key snapshot came.tables.snapshots records.tables.snapshots s.snapshots)
+      (IsPermutation-append _ _ _ _ (moved image_key image arrived.tables.images records.tables.images s.images) (moved container_key container arrived.tables.containers records.tables.containers s.containers))
+      (moved lease_key lease arrived.leases records.leases s.leases))
+      (moved ingest_key ingest arrived.tables.ingests records.tables.ingests s.ingests))
+      (both_moved content_key content arrived.tables.content records.tables.content s.content))
+      (both_moved snap_key snapshot arrived.tables.snapshots records.tables.snapshots s.snapshots)
 
-  pub same_thing : (t : Thing) → Contains (things came) t ↔ Contains (things records) t
+  pub same_thing : (t : Thing) → Contains (things arrived) t ↔ Contains (things records) t
   same_thing t = (
-    Contains-permutation (things came) (things records) t same_things,
-    Contains-permutation (things records) (things came) t (IsPermutation-sym (things came) (things records) same_things),
+    Contains-permutation (things arrived) (things records) t same_things,
+    Contains-permutation (things records) (things arrived) t (IsPermutation-sym (things arrived) (things records) same_things),
   )
 
   -- they are as many
-  pub as_large : is_too_large came ≡ is_too_large records
+  pub as_large : is_too_large arrived ≡ is_too_large records
   as_large =
-      let c = sym (length_sorted content_key came.tables.content) ∙ ap length s.content in
-      let n = sym (length_sorted snap_key came.tables.snapshots) ∙ ap length s.snapshots in
-      let g = sym (length_sorted ingest_key came.tables.ingests) ∙ ap length s.ingests in
+      let c = sym (length_sorted content_key arrived.tables.content) ∙ ap length s.content in
+      let n = sym (length_sorted snap_key arrived.tables.snapshots) ∙ ap length s.snapshots in
+      let g = sym (length_sorted ingest_key arrived.tables.ingests) ∙ ap length s.ingests in
       λ i. nat_lt MAX_NODES (2 * (c i + n i) + g i)

@@ -13,7 +13,7 @@ use Rattle.meta_types.specs.declared.explanation.By.TheVariants.{Root, Ended}
 use Rattle.meta_types.specs.declared.explanation.PathStep.{PathStep}
 use Rattle.explaining.specs.declared.found.Found.{Found}
 use Rattle.explaining.specs.Found.{thing_of}
-use Rattle.explaining.specs.Told.{AreLinked, IsBy}
+use Rattle.explaining.specs.StepWords.{AreLinked, IsBy}
 use Rattle.explaining.proofs.ReasonEdges.{reason_edge}
 
 -- ---- links

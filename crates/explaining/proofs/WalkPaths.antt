@@ -16,8 +16,8 @@ use Rattle.gc_graph.proofs.Lists.{in_flat_map, from_flat_map, in_places, from_pl
 use Rattle.gc_graph.proofs.References.{no_edge}
 use Rattle.gc_graph.proofs.Things.{HasNone, without_nodes, is_root_thing, split_thing}
 use Rattle.gc_graph.proofs.Walks.{targets_at, edge_number, number_edge, at_place, thing_at}
-use Rattle.nearest_walks.specs.Nearest.{IsStart, IsWalkTo, IsNearest}
-use Rattle.nearest_walks.proofs.Exactly.{walk_push, end_push}
+use Rattle.mark_core.specs.Nearest.{IsStart, IsWalkTo, IsNearest}
+use Rattle.mark_core.proofs.WalkEnds.{walk_push, end_push}
 use Rattle.explaining.specs.Explained.{IsSplitGraphOf, HasShortestPath}
 
 -- what a path ends in is there

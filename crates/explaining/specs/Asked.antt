@@ -10,11 +10,11 @@ records_in r = record { tables = r.tables; leases = r.leases; next = r.next; pro
 
 -- the rows of the second are those of the first in the order of their keys; the namespaces and the
 -- next backend number lead no path anywhere
-pub record AreInOrder (came records : Records) : Type 0 where
-  pub images : sorted image_key came.tables.images ≡ records.tables.images
-  pub containers : sorted container_key came.tables.containers ≡ records.tables.containers
-  pub leases : sorted lease_key came.leases ≡ records.leases
-  pub ingests : sorted ingest_key came.tables.ingests ≡ records.tables.ingests
-  pub content : sorted content_key came.tables.content ≡ records.tables.content
-  pub snapshots : sorted snap_key came.tables.snapshots ≡ records.tables.snapshots
-  pub profile : came.profile ≡ records.profile
+pub record AreInOrder (arrived records : Records) : Type 0 where
+  pub images : sorted image_key arrived.tables.images ≡ records.tables.images
+  pub containers : sorted container_key arrived.tables.containers ≡ records.tables.containers
+  pub leases : sorted lease_key arrived.leases ≡ records.leases
+  pub ingests : sorted ingest_key arrived.tables.ingests ≡ records.tables.ingests
+  pub content : sorted content_key arrived.tables.content ≡ records.tables.content
+  pub snapshots : sorted snap_key arrived.tables.snapshots ≡ records.tables.snapshots
+  pub profile : arrived.profile ≡ records.profile

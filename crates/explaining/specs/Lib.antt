@@ -5,4 +5,4 @@ pub mod Firsts
 pub mod ShortestPaths
 pub mod Ends
 pub mod Asked
-pub mod Told
+pub mod StepWords

@@ -22,7 +22,11 @@ fn has_resource(records: &Records, ns: &ShortName, resource: &Resource) -> bool
     match resource {
         Resource::Content(digest) => records.tables.has_content(ns, digest),
         Resource::Snapshot(snapshotter, name) => {
-            records.tables.came().snapshots.has(ns, snapshotter, name)
+            records
+                .tables
+                .arrived()
+                .snapshots
+                .has(ns, snapshotter, name)
         }
         Resource::Ingest(name) => records.tables.has_ingest(ns, name),
     }
@@ -52,14 +56,14 @@ fn is_too_large(records: &Records) -> bool
     most < 2 * (counts.content + counts.snapshots) + counts.ingests
 }
 
-// The rows of records, listed as they came.
+// The rows of records, listed as they arrived.
 fn list_rows(alloc: Global, records: &Records) -> Result<ListedRows<'_>, Fault>
     ensures fault { Refuses result None }
     ensures ok { IfOk result (λ listed. AreInOrder listed (records_in records.now)) }
 {
-    let came = records.tables.came();
-    let leases = records.leases.came();
-    let listed = ListedRows::new(alloc, &came, leases, records.profile)?;
+    let arrived = records.tables.arrived();
+    let leases = records.leases.arrived();
+    let listed = ListedRows::new(alloc, &arrived, leases, records.profile)?;
     Ok(listed)
 }
 

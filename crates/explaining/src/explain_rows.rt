@@ -6,7 +6,7 @@ ghost use Rattle.meta_types.specs.Explanations.{is_asked, Explains, IsExplanatio
 ghost use Rattle.gc_graph.specs.Built.{AreApart, IsBuilt};
 ghost use Rattle.gc_graph.specs.Stored.{records_of, IsSmall, AreLent};
 ghost use Rattle.mark_core.specs.Reach.{IsInRange, node_count};
-ghost use Rattle.nearest_walks.specs.Nearest.{IsDepth};
+ghost use Rattle.mark_core.specs.Nearest.{IsDepth};
 ghost use Rattle.explaining.specs.Explained.{IsSplitGraphOf};
 ghost use Rattle.explaining.specs.Found.{thing_of, numbered};
 ghost use Rattle.explaining.specs.Ends.{first_root};
@@ -18,9 +18,8 @@ use crate::nearest::nearest;
 use crate::roots::first_root;
 use crate::telling::told;
 use gc_graph::{NodeBook, Starts, StoreRows, build, find_starts};
-use mark_core::Graph;
+use mark_core::{Graph, depths};
 use meta_types::{Explanation, Fault, Instant, Object, ShortName};
-use nearest_walks::depths;
 use std::alloc::Global;
 use std::thread::Threads;
 

@@ -4,7 +4,7 @@ ghost use Rattle.meta_types.specs.Walks.{end_of};
 ghost use Rattle.meta_types.specs.Faults.{Refuses};
 ghost use Rattle.gc_graph.specs.Stored.{records_of};
 ghost use Rattle.mark_core.specs.Reach.{node_count};
-ghost use Rattle.nearest_walks.specs.Nearest.{IsDepth};
+ghost use Rattle.mark_core.specs.Nearest.{IsDepth};
 ghost use Rattle.explaining.specs.Explained.{IsSplitGraphOf};
 ghost use Rattle.explaining.specs.Found.{thing_of, numbered, thing_at};
 ghost use Rattle.explaining.specs.Firsts.{chain, AreWithin, root_before, first_leading};

@@ -6,7 +6,7 @@ ghost use Rattle.mark_core.specs.declared.graph.Graph.{Graph};
 ghost use Rattle.gc_graph.specs.declared.node.Node.{Node};
 ghost use Rattle.gc_graph.specs.Targets.{node_of};
 ghost use Rattle.gc_graph.specs.Built.{number_of};
-ghost use Rattle.nearest_walks.specs.Nearest.{IsWalkTo, IsNearest};
+ghost use Rattle.mark_core.specs.Nearest.{IsWalkTo, IsNearest};
 ghost use Rattle.explaining.specs.Explained.{IsSplitGraphOf, HasShortestPath, OneThingPerKey};
 ghost use Rattle.meta_types.specs.Explanations.{Explains};
 ghost use Rattle.meta_types.specs.Reasons.{reason_of};

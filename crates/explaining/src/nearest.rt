@@ -12,7 +12,7 @@ use crate::things::thing_at;
 use gc_graph::StoreRows;
 use meta_types::{Object, ShortName};
 
-// Of two depths the less goes first, and none goes last; of equals the rest says.
+// The smaller depth goes first, what no walk reaches goes last; `rest` decides ties.
 fn depth_before(a: Option<u32>, b: Option<u32>, rest: bool) -> bool
     ensures { result ≡ depth_before a b rest }
 {

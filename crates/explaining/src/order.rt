@@ -50,7 +50,7 @@ fn mode_place(thing: Found<'_>) -> u8
     }
 }
 
-// Whether one key goes before another, where it is known of what stands behind their first texts.
+// Compares keys by their first texts; `rest` is the answer for the texts behind.
 fn text_before(a: &str, b: &str, rest: bool) -> bool
     ensures { (x y : Key) → rest ≡ is_before x y → result ≡ is_before (a.now ∷ x) (b.now ∷ y) }
 {

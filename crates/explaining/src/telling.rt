@@ -6,7 +6,7 @@ ghost use Rattle.meta_types.specs.CollectorLabels.{expire_key};
 ghost use Rattle.meta_types.specs.Explanations.{object_in, mode_of, expire_of, step_of, AreTold};
 ghost use Rattle.explaining.specs.Found.{thing_of};
 ghost use Rattle.explaining.specs.Reasons.{by_of};
-ghost use Rattle.explaining.specs.Told.{AreLinked, root_word, IsBy};
+ghost use Rattle.explaining.specs.StepWords.{AreLinked, root_word, IsBy};
 
 use crate::found::Found;
 use crate::reasons::{Why, reason};
@@ -113,7 +113,7 @@ fn root_word(ended: bool) -> By
     if ended { By::Ended } else { By::Root }
 }
 
-// By what the thing at a place stands on a path; the root stands last.
+// The reason of the thing at a place of a path, whose root stands last.
 fn by_at(alloc: Global, ended: bool, path: &[Found<'_>], place: usize) -> Result<By, Fault>
     requires place { place < length path.now }
     requires linked { AreLinked (map thing_of path.now) }

@@ -7,7 +7,7 @@ pub mod Lists
 pub mod Things
 pub mod Walks
 pub mod BookNumbers
-pub mod Tells
+pub mod MarksDecide
 pub mod RootPlaces
 pub mod Stores
 pub mod Orders

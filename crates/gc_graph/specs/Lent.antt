@@ -1,4 +1,4 @@
--- Rows that are lent as they came. Ours.
+-- Rows that are lent as they arrived. Ours.
 use Rattle.std.specs.Prelude.{ℕ, List, [], ◌≡◌}
 use Rattle.meta_types.specs.Rows.{Records, LeaseRow}
 use Rattle.meta_types.specs.declared.rows.ContentRow.{ContentRow}

@@ -48,11 +48,11 @@ impl<'a> NodeBook<'a> {
         NodeBook { rows }
     }
 
-    // Tells a proof that the texts of its nodes are allowed.
-    pub(crate) fn tell(&self)
+    // For proofs alone: the texts of its nodes are allowed.
+    pub(crate) fn learn_allowed(&self)
         ensures { AreAllowed self.now }
     {
-        // To read the rows opens what the type keeps of them.
+        // The invariant of the rows says so.
         let _rows = &self.rows;
     }
 

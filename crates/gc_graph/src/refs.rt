@@ -39,7 +39,7 @@ fn push_content(
         Ok(digest) => push_number(book.content_number(ns, &digest, Mode::Full), numbers),
         Err(Fault::InvalidArgument) => {
             // The book has no node of a text that isn't allowed.
-            book.tell();
+            book.learn_allowed();
             Ok(())
         }
         Err(_) => Err(Fault::OutOfMemory),
@@ -67,14 +67,14 @@ fn push_snapshot(
             }
             Err(Fault::InvalidArgument) => {
                 // The book has no node of a text that isn't allowed.
-                book.tell();
+                book.learn_allowed();
                 Ok(())
             }
             Err(fault) => Err(fault),
         },
         Err(Fault::InvalidArgument) => {
             // The book has no node of a text that isn't allowed.
-            book.tell();
+            book.learn_allowed();
             Ok(())
         }
         Err(fault) => Err(fault),

@@ -7,7 +7,7 @@ pub use listed::ListedRows;
 use meta_types::{ContainerRow, ContentRow, Digest, ImageRow, IngestRow, Name, SnapRow};
 use row_tables::{PlacesByNamespace, PlacesBySnapshotter};
 
-/// The rows of a store, borrowed: each kind as its rows came.
+/// The rows of a store, borrowed: each kind as its rows arrived.
 #[derive(Clone, Copy)]
 pub struct StoreRows<'a> {
     pub images: &'a [&'a ImageRow],

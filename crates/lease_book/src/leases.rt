@@ -226,26 +226,26 @@ impl Leases {
         Ok(Leases { rows })
     }
 
-    /// Lends the leases as they came.
-    pub fn came(&self) -> &ArrivedByNamespace<Name, Lease>
+    /// Lends the leases as they arrived.
+    pub fn arrived(&self) -> &ArrivedByNamespace<Name, Lease>
         ensures { sorted lease_key result.now ≡ self.now }
     {
-        self.rows.came()
+        self.rows.arrived()
     }
 
-    /// Hands over the leases as they came; none is copied or sorted.
-    pub fn into_came(self) -> ArrivedByNamespace<Name, Lease>
+    /// Hands over the leases as they arrived; none is copied or sorted.
+    pub fn into_arrived(self) -> ArrivedByNamespace<Name, Lease>
         ensures { sorted lease_key result ≡ self }
     {
-        self.rows.into_came()
+        self.rows.into_arrived()
     }
 
-    /// Takes over the leases as they came; none is copied or sorted.
-    pub fn from_came(came: ArrivedByNamespace<Name, Lease>) -> Leases
-        ensures { result ≡ sorted lease_key came }
+    /// Takes over the leases as they arrived; none is copied or sorted.
+    pub fn from_arrived(arrived: ArrivedByNamespace<Name, Lease>) -> Leases
+        ensures { result ≡ sorted lease_key arrived }
     {
         Leases {
-            rows: ByNamespace::from_came(came),
+            rows: ByNamespace::from_arrived(arrived),
         }
     }
 }

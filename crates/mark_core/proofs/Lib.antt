@@ -13,3 +13,11 @@ pub mod Starting
 pub mod Ending
 pub mod Running
 pub mod OneAnswer
+pub mod Seeings
+pub mod Growing
+pub mod Bounded
+pub mod WalksBack
+pub mod WalkEnds
+pub mod FirstPlaces
+pub mod DepthsSeen
+pub mod DepthSearches

@@ -6,3 +6,8 @@ pub mod Machine
 pub mod MachineStates
 pub mod Sound
 pub mod Replays
+pub mod Nearest
+pub mod Seeing
+pub mod Forests
+pub mod Firsts
+pub mod Depths

@@ -1,6 +1,7 @@
-//! A numbered graph, its marking by one thread, and the mark machine.
+//! A numbered graph: its marking by one thread, its depths, and the mark machine.
 #![tactic(auto)]
 
+mod depth;
 mod event;
 mod found;
 mod graph;
@@ -15,6 +16,7 @@ mod steps;
 mod target_lists;
 mod worker_state;
 
+pub use depth::depths;
 pub use event::MarkEvent;
 pub use graph::Graph;
 pub use laws::{a_run_has_one_answer, roots_are_dealt_in_turn};

@@ -9,7 +9,7 @@ use Rattle.meta_types.specs.Keys.{Key, are_in_order}
 use Rattle.meta_types.specs.Paths.{Thing, ingest, content, snapshot, image_stays, lease_stays, IsReached, TellsReached}
 use Rattle.meta_types.specs.Backends.{BackNames, no_objects, owns_blob, owns_snapshot, owns_ingest, object_name, is_named, is_ancestor_of_one, ancestors_of, blob_stays, ingest_object_stays, snapshot_object_stays, goes_before}
 use Rattle.meta_types.specs.Collected.{content_stays, snapshot_stays, ingest_stays, collected, collected_records}
-use Rattle.meta_types.specs.Reports.{Report, Collects, Plans, report_of}
+use Rattle.meta_types.specs.Reports.{Report, report_of}
 use Rattle.meta_types.specs.Sound.{IsSound}
 use Rattle.meta_types.specs.EachKind.{Divides, CollectsRows, CollectsObjects, IsCollected, ACollectionDividesTheRows, ACollectionDividesAll, ADryRunTellsWhatACollectionWould}
 use Rattle.meta_types.specs.declared.rows.ImageRow.{ImageRow}
@@ -33,8 +33,8 @@ not_true false h = refl
 
 module _ {Row Name : Type 0} (name_of : Row → Name) (Stays : Row → Type 0) (stays : Row → Bool) (rows : List Row) where
   -- the test tells which rows stay
-  abbrev pub Tells : Type 0
-  Tells = (row : Row) → Contains rows row → IsTrue (stays row) ↔ Stays row
+  abbrev pub Decides : Type 0
+  Decides = (row : Row) → Contains rows row → IsTrue (stays row) ↔ Stays row
 
   -- rows of one name stay or go alike
   abbrev pub Alike : Type 0
@@ -44,7 +44,8 @@ module _ {Row Name : Type 0} (name_of : Row → Name) (Stays : Row → Type 0) (
   abbrev pub Names : List Name → Type 0
   Names gone = (name : Name) → Contains gone name ↔ ((row : Row) × Contains rows row × (stays row ≡ false) × (name_of row ≡ name))
 
-  pub divides : (gone : List Name) → Tells → Alike → Names gone → Divides name_of Stays rows (filter stays rows) gone
+  pub divides : (gone : List Name) → Decides → Alike → Names gone
+      → Divides name_of Stays rows (filter stays rows) gone
   divides gone tells alike names = record {
     kept = λ row. (
       (λ c. let both = from_filter stays rows row c in (both.0, (tells row both.0).0 both.1)),

@@ -1,6 +1,5 @@
 -- As many passes as there are things find all that paths end in.
-use Rattle.std.proofs.Common.{◌≡◌, ◌∙◌, ℕ, zero, suc, ◌<◌, List, [], ◌∷◌, length, refl, ap, sym, subst, arith, ◌⊎◌, inl, inr, Bool, ℤ}
-use Rattle.std.specs.Prelude.{filter}
+use Rattle.std.proofs.Common.{◌≡◌, ℕ, zero, suc, ◌<◌, List, [], ◌∷◌, length, refl, ap, sym, subst, arith, ◌⊎◌, inl, inr, ℤ}
 use Rattle.meta_types.specs.Rows.{Records}
 use Rattle.meta_types.specs.Paths.{Thing, things, TellsReached}
 use Rattle.meta_types.specs.Finding.{found_in, reached_in}

@@ -1,5 +1,6 @@
 pub mod Decided
 pub mod RowTests
+pub mod RequestTests
 pub mod Members
 pub mod RowAtPlace
 pub mod Ordered

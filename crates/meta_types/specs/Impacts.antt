@@ -25,12 +25,13 @@ use Rattle.meta_types.specs.declared.request.Request.TheVariants as Q
 
 -- the request that removes the row of this namespace, kind and name
 abbrev pub removal_of : Text → Object → Request
-removal_of ns (Image name) = Q.ImageRemove ns name
-removal_of ns (Container name) = Q.ContainerRemove ns name
-removal_of ns (Lease id) = Q.LeaseRemove ns id
-removal_of ns (Held (R.Content digest)) = Q.ContentRemove ns digest
-removal_of ns (Held (R.Snapshot snapshotter name)) = Q.SnapRemove ns snapshotter name
-removal_of ns (Held (R.Ingest name)) = Q.IngestAbort ns name
+removal_of ns (Image name) = Q.ImageRemove (record { ns = ns; name = name })
+removal_of ns (Container name) = Q.ContainerRemove (record { ns = ns; name = name })
+removal_of ns (Lease id) = Q.LeaseRemove (record { ns = ns; name = id })
+removal_of ns (Held (R.Content digest)) = Q.ContentRemove (record { ns = ns; digest = digest })
+removal_of ns (Held (R.Snapshot snapshotter name)) =
+    Q.SnapRemove (record { ns = ns; snapshotter = snapshotter; name = name })
+removal_of ns (Held (R.Ingest name)) = Q.IngestAbort (record { ns = ns; name = name })
 
 -- what that request comes to
 abbrev pub removed : State → Text → Object → Outcome

@@ -1,6 +1,6 @@
 -- Questions: each reads the store and leaves it as it was. None is an event, so no log and no list
 -- has one. Ours, unless a source stands beside.
-use Rattle.std.specs.Prelude.{◌≡◌, ℤ, Bool, List, Option, Some, None}
+use Rattle.std.specs.Prelude.{◌≡◌, ℤ, Bool, List, Some, None}
 use Rattle.meta_types.specs.Text.{Text}
 use Rattle.meta_types.specs.Time.{instant_of}
 use Rattle.meta_types.specs.Rows.{Records, State}
@@ -11,33 +11,33 @@ use Rattle.meta_types.specs.declared.object.Object.{Object}
 use Rattle.meta_types.specs.declared.explanation.PathStep.{PathStep}
 
 -- the answer about a row: whether a path keeps it, and that path, else the one before all ends
-pub record Told : Type 0 where
+pub record ExplanationValue : Type 0 where
   pub kept : Bool
   pub path : List PathStep
 
 -- the answer to a question, each in the words of its own
-pub data Telling : Type 0 where
-  explained : Told → Telling
-  foreseen : Impact → Telling
+pub data QuestionAnswer : Type 0 where
+  explains : ExplanationValue → QuestionAnswer
+  foresees : Impact → QuestionAnswer
 
 -- the answer to a line: an event's, or a question's
 pub data LineAnswer : Type 0 where
   of_event : Answer → LineAnswer
-  of_question : Telling → LineAnswer
+  of_question : QuestionAnswer → LineAnswer
 
 -- The question has no fault, and this explains the row that it asks for, at its moment. The texts
 -- are the namespace, the type, the name and the moment.
-pub record Tells (records : Records) (ns kind name at : Text) (told : Told) : Type 0 where
+pub record IsExplanationFor (records : Records) (ns kind name at : Text) (told : ExplanationValue) : Type 0 where
   pub free : question_fault records ns kind name at ≡ None
   pub object : Object
   pub is_object : object_of kind name ≡ Some object
   pub moment : ℤ
   pub is_moment : instant_of at ≡ Some moment
-  pub explains : IsExplanation records moment (is_asked ns object) told.kept told.path
+  pub is_explanation : IsExplanation records moment (is_asked ns object) told.kept told.path
 
 -- The question has no fault, and this is what would go without the row that it asks for, at its
 -- moment. The texts are the namespace, the type, the name and the moment.
-pub record Foresees (state : State) (ns kind name at : Text) (impact : Impact) : Type 0 where
+pub record IsImpactFor (state : State) (ns kind name at : Text) (impact : Impact) : Type 0 where
   pub free : impact_question_fault state ns kind name at ≡ None
   pub object : Object
   pub is_object : object_of kind name ≡ Some object

@@ -5,14 +5,16 @@ pub mod Images
 pub mod Objects
 pub mod Later
 pub mod Failures
-use Rattle.std.specs.Prelude.{ℕ, false, List, [], ◌∷◌, ◌++◌, replicate, codes, Some, None, ℤ, pos}
+use Rattle.std.specs.Prelude.{ℕ, false, List, [], ◌∷◌, ◌++◌, replicate, codes, Option, Some, None, ℤ, pos}
 use Rattle.meta_types.specs.Text.{Text}
 use Rattle.meta_types.specs.Rows.{State}
 use Rattle.meta_types.specs.Backends.{BackNames, no_objects}
 use Rattle.meta_types.specs.Reports.{Kept, Removed, Report}
 use Rattle.meta_types.specs.Steps.{Answer, answer_to, after}
+use Rattle.meta_types.specs.declared.request.RawName.{RawName}
+use Rattle.meta_types.specs.declared.request.RawSnapshot.{RawSnapshot}
 use Rattle.meta_types.specs.declared.request.Request.{Request}
-use Rattle.meta_types.specs.declared.request.Request.TheVariants.{ContentAdd, SnapPrepare, SnapCommit}
+use Rattle.meta_types.specs.declared.request.Request.TheVariants.{ImageAdd, ContentAdd, SnapPrepare, SnapCommit, LeaseAdd, LeaseHold}
 
 -- the store after these requests
 abbrev pub after_all : State → List Request → State
@@ -82,26 +84,77 @@ just_after = pos 1709251200000000001
 
 -- ---- requests
 
+-- a name in the namespace
+abbrev pub named : Text → RawName
+named name = record { ns = x; name = name }
+
+-- a snapshot in it
+abbrev pub snap_named : Text → Text → RawSnapshot
+snap_named snapshotter name = record { ns = x; snapshotter = snapshotter; name = name }
+
+-- an image of this content, with these labels
+abbrev pub adds_image : Text → List (Text × Text) → Request
+adds_image target labels = ImageAdd (record { image = named i; target = target; labels = labels })
+
 -- content with these labels
 abbrev pub adds : Text → List (Text × Text) → Request
-adds digest labels = ContentAdd x digest labels None
+adds digest labels = ContentAdd (record {
+  content = record { ns = x; digest = digest };
+  labels = labels;
+  lease = None;
+})
+
+-- content that the lease holds
+abbrev pub adds_held : Text → Request
+adds_held digest = ContentAdd (record {
+  content = record { ns = x; digest = digest };
+  labels = [];
+  lease = Some l;
+})
+
+-- a lease with these labels
+abbrev pub adds_lease : List (Text × Text) → Request
+adds_lease labels = LeaseAdd (record { lease = named l; labels = labels })
+
+-- a resource that the lease holds
+abbrev pub holds : Text → Text → Request
+holds kind resource = LeaseHold (record { lease = named l; kind = kind; resource = resource })
 
 -- a label that references content
 abbrev pub content_label : Text → List (Text × Text)
 content_label digest = (codes "containerd.io/gc.ref.content.0", digest) ∷ []
 
+-- an active snapshot over a parent or none, with these labels
+abbrev pub prepares : Text → Text → Option Text → List (Text × Text) → Request
+prepares snapshotter key parent labels = SnapPrepare (record {
+  snapshot = snap_named snapshotter key;
+  parent = parent;
+  labels = labels;
+  lease = None;
+})
+
+-- a snapshot committed under a name
+abbrev pub commits : Text → Text → Text → Request
+commits snapshotter key name = SnapCommit (record {
+  snapshot = snap_named snapshotter key;
+  name = name;
+  labels = [];
+  lease = None;
+})
+
 -- a snapshot over no parent, committed under a name
 abbrev pub layer : Text → Text → Text → List Request
-layer snapshotter key name = SnapPrepare x snapshotter key None [] None ∷ SnapCommit x snapshotter key name [] None ∷ []
+layer snapshotter key name = prepares snapshotter key None [] ∷ commits snapshotter key name ∷ []
 
 -- the same over a parent
 abbrev pub layer_over : Text → Text → Text → Text → List Request
-layer_over snapshotter key name parent = SnapPrepare x snapshotter key (Some parent) [] None ∷ SnapCommit x snapshotter key name [] None ∷ []
+layer_over snapshotter key name parent =
+    prepares snapshotter key (Some parent) [] ∷ commits snapshotter key name ∷ []
 
 -- three committed layers, one over the other, and an active one with these labels over them
 abbrev pub chain : Text → List (Text × Text) → List Request
 chain snapshotter labels = layer snapshotter (codes "p1") (codes "c1") ++ layer_over snapshotter (codes "p2") (codes "c2") (codes "c1")
-    ++ layer_over snapshotter (codes "p3") (codes "c3") (codes "c2") ++ (SnapPrepare x snapshotter (codes "t") (Some (codes "c3")) labels None ∷ [])
+    ++ layer_over snapshotter (codes "p3") (codes "c3") (codes "c2") ++ (prepares snapshotter (codes "t") (Some (codes "c3")) labels ∷ [])
 
 -- ---- reports
 

@@ -35,9 +35,12 @@ pub use limits::{MAX_NODES, MAX_NUMBER, MAX_WORKERS, is_worker_count};
 pub use listed::Listed;
 pub use name::Name;
 pub use object::Object;
-pub use raw::{RawLabels, RawText};
+pub use raw::{RawLabel, RawLabels, RawText};
 pub use reply::{Holdings, Listing, Reply, ReplyRow};
-pub use request::{Removal, Request};
+pub use request::{
+    ContainerAdd, ContentAdd, ImageAdd, ImageTarget, IngestBegin, IngestCommit, LeaseAdd,
+    LeaseResource, RawContent, RawName, RawSnapshot, Removal, Request, SnapAdd, SnapCommit,
+};
 pub use resource::{Kind, Mode, Resource};
 pub use rows::{ContainerRow, ContentRow, ImageRow, IngestRow, SnapKey, SnapKind, SnapRow};
 pub use shared::Shared;

@@ -1,4 +1,4 @@
-//! Texts of a request, as they came.
+//! Texts of a request, as they arrived.
 ghost use Rattle.std.specs.Prelude.{◌≡◌, ◌&&◌, string_bytes, bytes_eq};
 ghost use Rattle.std.specs.Cmp.Lexicographic.{pointwise};
 ghost use Rattle.std.specs.Cmp.{partial_equiv_from_equiv};
@@ -32,14 +32,14 @@ impl PartialEq for RawText {
 }
 
 impl RawText {
-    /// The text as it came.
+    /// The text as it arrived.
     pub fn new(text: String) -> RawText
         ensures { result ≡ string_bytes text }
     {
         RawText { text }
     }
 
-    /// The text as it came.
+    /// The text as it arrived.
     pub fn text(&self) -> &str
         ensures { result.now ≡ self.now }
     {
@@ -47,7 +47,14 @@ impl RawText {
     }
 }
 
-/// Labels that were not yet read: keys and values, as they came.
+/// One label that was not yet read.
+#[derive(PartialEq, Drop)]
+pub struct RawLabel {
+    pub key: RawText,
+    pub value: RawText,
+}
+
+/// Labels that were not yet read: keys and values, as they arrived.
 #[derive(Drop)]
 pub struct RawLabels {
     entries: Vec<(String, String)>,
@@ -74,14 +81,14 @@ impl PartialEq for RawLabels {
 }
 
 impl RawLabels {
-    /// The pairs as they came.
+    /// The pairs as they arrived.
     pub fn new(entries: Vec<(String, String)>) -> RawLabels
         ensures { result ≡ texts_of entries.items }
     {
         RawLabels { entries }
     }
 
-    /// The keys and values as they came.
+    /// The keys and values as they arrived.
     pub fn entries(&self) -> &[(String, String)]
         ensures { texts_of result.now ≡ self.now }
     {

@@ -1,9 +1,20 @@
 //! The program: a script from standard input to standard output.
 #![tactic(auto)]
 
+ghost use Rattle.std.specs.Prelude.{◌≡◌, ◌≢◌, [], true, Some, Err, IfOk, IfErr, OnOk, OnErr, IsErrOf};
+ghost use Rattle.std.specs.IoError.{error_kind};
+ghost use Rattle.std.specs.Io.KnownBytes.{Keeps};
+ghost use Rattle.meta_types.specs.Limits.{is_worker_count};
+ghost use Rattle.scripts.specs.WholeScripts.{AnswersScript, AnswersWholeLines, BeginsAnswers};
+ghost use Rattle.scripts.specs.Exchanging.{IsStartedFault, Exchanges};
+ghost use Rattle.metad.specs.Blocks.{inner_of, kept_back, contents_of};
+ghost use Rattle.metad.specs.Runs.{ExchangesFrom};
+
 mod blocks;
 #[cfg(test)]
 mod tests;
+#[cfg(test)]
+mod tests_blocks;
 #[cfg(test)]
 mod tests_flush;
 
@@ -12,6 +23,7 @@ use command_line::{ArgFault, parse_args};
 use meta_types::Fault;
 use scripts::run_script;
 use std::alloc::Global;
+use std::io::ErrorKind;
 use std::process::ExitCode;
 use std::sync::Wait;
 use std::thread::Threads;
@@ -19,8 +31,12 @@ use std::{env, io};
 
 // Why the program's words can't be had: one of them isn't UTF-8, so they ask for no run, or memory
 // runs out.
-fn word_fault(error: &io::Error) -> ArgFault {
-    if error.kind() == io::ErrorKind::InvalidData {
+fn word_fault(error: &io::Error) -> ArgFault
+    ensures usage { error_kind error.now ≡ ErrorKind.InvalidData → result ≡ ArgFault.Usage }
+    ensures memory { error_kind error.now ≢ ErrorKind.InvalidData
+        → result ≡ ArgFault.OutOfMemory }
+{
+    if error.kind() == ErrorKind::InvalidData {
         ArgFault::Usage
     } else {
         ArgFault::OutOfMemory
@@ -28,7 +44,9 @@ fn word_fault(error: &io::Error) -> ArgFault {
 }
 
 // The number of workers that the program's words ask for.
-fn workers(rt: &HostRuntime, alloc: Global) -> Result<usize, ArgFault> {
+fn workers(rt: &HostRuntime, alloc: Global) -> Result<usize, ArgFault>
+    ensures { IfOk result (λ workers. is_worker_count workers ≡ true) }
+{
     let args = match env::args(rt) {
         Ok(args) => args,
         Err(error) => return Err(word_fault(&error)),
@@ -38,24 +56,64 @@ fn workers(rt: &HostRuntime, alloc: Global) -> Result<usize, ArgFault> {
     for text in &texts {
         words.push(text.as_str())?;
     }
-    parse_args(alloc, &words)
+    let workers = parse_args(alloc, &words)?;
+    Ok(workers)
 }
 
-// Runs a script, through buffers.
+// Hands on all that the writer kept back.
+fn flush<W: io::Write + Drop>(writer: &mut Blocks<W>) -> Result<(), Fault>
+    ensures kept { Keeps (contents_of W.contents writer.old) (contents_of W.contents writer.new) }
+    ensures ok { OnOk result (kept_back writer.new ≡ []) }
+    ensures fault { IfErr result (λ fault. fault ≡ Fault.WriteFailed) }
+{
+    match io::Write::flush(writer) {
+        Ok(()) => Ok(()),
+        Err(_) => Err(Fault::WriteFailed),
+    }
+}
+
+// Runs a script. At its end all that was written is handed on, but where a write failed.
 fn run<T: Threads + Wait + Sync, R: io::Read + Drop, W: io::Write + Drop>(
     rt: &T,
     alloc: Global,
     reader: R,
-    writer: W,
+    writer: &mut Blocks<W>,
     workers: usize,
-) -> Result<(), Fault> {
+) -> Result<(), Fault>
+    requires workers { is_worker_count workers ≡ true }
+    requires empty { kept_back writer.old ≡ [] }
+
+    // All that the reader had was read.
+    ensures ok { OnOk result (Exchanges AnswersScript (R.remaining reader) (Some [])
+        (contents_of W.contents writer.old) (contents_of W.contents writer.new)) }
+
+    // A line that isn't whole when the reader fails isn't answered.
+    ensures read_failed { IsErrOf result Fault.ReadFailed → ExchangesFrom AnswersWholeLines
+        (R.remaining reader) (contents_of W.contents writer.old)
+        (contents_of W.contents writer.new) }
+    ensures err { OnErr result (ExchangesFrom BeginsAnswers (R.remaining reader)
+        (contents_of W.contents writer.old) (contents_of W.contents writer.new)) }
+    ensures handed_on { result ≢ Err Fault.WriteFailed → kept_back writer.new ≡ [] }
+    ensures faults { IfErr result IsStartedFault }
+{
     let Ok(mut reader) = io::BufReader::new(alloc, reader) else {
         return Err(Fault::OutOfMemory);
     };
-    let Ok(mut writer) = Blocks::new(alloc, writer) else {
-        return Err(Fault::OutOfMemory);
-    };
-    run_script(rt, alloc, &mut reader, &mut writer, workers)
+    match run_script(rt, alloc, &mut reader, writer, workers) {
+        Err(Fault::WriteFailed) => Err(Fault::WriteFailed),
+        ran => {
+            flush(writer)?;
+            ran
+        }
+    }
+}
+
+// Tells the fault that ended the run.
+fn ended(rt: &HostRuntime, fault: Fault) -> ExitCode {
+    let number = fault.number();
+    let name = fault.name();
+    let _told = eprintln!(rt; "metad: fault {number} {name}");
+    ExitCode::from(1)
 }
 
 fn main(rt: HostRuntime) -> ExitCode {
@@ -70,13 +128,11 @@ fn main(rt: HostRuntime) -> ExitCode {
             };
         }
     };
-    match run(&rt, alloc, rt.reader(), io::writer(&rt), workers) {
+    let Ok(mut writer) = Blocks::new(alloc, io::writer(&rt)) else {
+        return ended(&rt, Fault::OutOfMemory);
+    };
+    match run(&rt, alloc, rt.reader(), &mut writer, workers) {
         Ok(()) => ExitCode::SUCCESS,
-        Err(fault) => {
-            let number = fault.number();
-            let name = fault.name();
-            let _told = eprintln!(rt; "metad: fault {number} {name}");
-            ExitCode::from(1)
-        }
+        Err(fault) => ended(&rt, fault),
     }
 }

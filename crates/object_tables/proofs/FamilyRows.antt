@@ -121,15 +121,18 @@ module _ (key : SnapKey) (parent : Text) (families : List Family) where
     home_is : family_key row ≡ home
     home_is = sym (row_is family_key home families row becomes.there).1
 
-    -- the child came, under its own name
-    pub came : (name : Text) (answer : Result (Unit {0}) Fault) → name ≡ key.name → Enters name row answer after → (u : Unit {0}) → answer ≡ Ok u → family_names new ≡ entered key parent (family_names families)
-    came name answer same enters u is =
+    -- the child arrived, under its own name
+    pub arrived : (name : Text) (answer : Result (Unit {0}) Fault) → name ≡ key.name
+        → Enters name row answer after → (u : Unit {0}) → answer ≡ Ok u
+        → family_names new ≡ entered key parent (family_names families)
+    arrived name answer same enters u is =
         let made : after ≡ with_child key.name row = (rw is at enters.ok) ∙ ap (λ n. with_child n row) same in
         one_entered (ap family_key made ∙ home_is) made
 
     -- or memory was refused, and nothing changed
-    pub came_not : (name : Text) (answer : Result (Unit {0}) Fault) → Enters name row answer after → (fault : Fault) → answer ≡ Err fault → new ≡ families
-    came_not name answer enters fault is = stayed family_key home row after families new becomes (rw is at enters.err)
+    pub arrived_not : (name : Text) (answer : Result (Unit {0}) Fault)
+        → Enters name row answer after → (fault : Fault) → answer ≡ Err fault → new ≡ families
+    arrived_not name answer enters fault is = stayed family_key home row after families new becomes (rw is at enters.err)
 
     pub refused : (name : Text) (answer : Result (Unit {0}) Fault) → name ≡ key.name → Enters name row answer after → (fault : Fault) → answer ≡ Err fault
         → has_row one_text (key.name ∷ []) (family_names families key.ns key.snapshotter parent) ≡ false → fault ≡ OutOfMemory
@@ -138,10 +141,12 @@ module _ (key : SnapKey) (parent : Text) (families : List Family) where
         rw absent at (rw is at enters.fault)
 
   -- a family more
-  pub first_came : (family : Family) (rows new : List Family) (answer : Result (Unit {0}) Fault) → family ≡ first_family key parent → has_row family_key home families ≡ false → rows ≡ families
+  pub first_arrived : (family : Family) (rows new : List Family) (answer : Result (Unit {0}) Fault)
+      → family ≡ first_family key parent → has_row family_key home families ≡ false
+      → rows ≡ families
       → OnOk answer (new ≡ add_row family_key family rows) → OnOk answer (family_names new ≡ entered key parent (family_names families))
-  first_came family rows new (Ok u) is free same ok = ap family_names (ok ∙ ap (add_row family_key family) same) ∙ first_entered family is free
-  first_came family rows new (Err fault) is free same ok = tt
+  first_arrived family rows new (Ok u) is free same ok = ap family_names (ok ∙ ap (add_row family_key family) same) ∙ first_entered family is free
+  first_arrived family rows new (Err fault) is free same ok = tt
 
   -- where no family is, nobody leaves
   pub none_left : has_row family_key home families ≡ false → family_names families ≡ left key parent (family_names families)

@@ -1,5 +1,5 @@
 -- The tables with another list in place of one, and with other namespaces.
-use Rattle.std.proofs.Common.{◌≡◌, Bool, true, false, List, [], ◌∷◌, refl, sym, subst, arith}
+use Rattle.std.proofs.Common.{◌≡◌, ◌∙◌, Bool, true, false, List, [], ◌∷◌, refl, sym, subst, arith}
 use Rattle.std.specs.Prelude.{All, Result, Ok, Err, OnOk, OnErr, IsTrue, bytes_eq}
 use Rattle.std.specs.List.{list_any}
 use Rattle.std.proofs.lemmas.Bool.{both_ways, or_parts, false_from_ne_true}
@@ -8,11 +8,14 @@ use Rattle.std.proofs.lemmas.List.Elements.{All-cons}
 use Rattle.object_tables.specs.Calls.{AreInOrder, kept}
 use Rattle.object_tables.proofs.Ordering.{order_kept}
 use Rattle.object_tables.proofs.RowsKept.{all_kept}
+use Rattle.object_tables.proofs.OrderStays.{names_row}
+use Rattle.row_tables.proofs.Entries.{was_free}
 use Rattle.meta_types.specs.Text.{Text}
-use Rattle.meta_types.specs.Keys.{Key, add_row, remove_row, are_in_order, is_before}
+use Rattle.meta_types.specs.Keys.{Key, has_row, add_row, remove_row, are_in_order, is_before}
 use Rattle.meta_types.specs.Rows.{Tables, snap_key, ingest_key, image_key, container_key, content_key, namespace_key}
 use Rattle.meta_types.specs.Changes.{has_namespace, is_in_use}
 use Rattle.meta_types.specs.Sound.{AreRows, AreNumbered, AreTables}
+use Rattle.meta_types.specs.Faults.{Refuses, least_of}
 use Rattle.meta_types.specs.declared.fault.Fault.{Fault}
 use Rattle.meta_types.specs.declared.rows.ImageRow.{ImageRow}
 use Rattle.meta_types.specs.declared.rows.ContainerRow.{ContainerRow}
@@ -169,13 +172,15 @@ module _ (tables : Tables) (s : AreTables tables) where
 
   -- a namespace more, or as before
   pub namespace_grown : (ns : Text) (new : List Text) (r : Result (Unit {0}) Fault)
-      → has_namespace tables ns ≡ false
+      → Refuses r
+      (least_of false false (has_row namespace_key (ns ∷ []) tables.namespaces) false)
       → OnOk r (new ≡ add_row namespace_key ns tables.namespaces)
       → OnErr r (new ≡ tables.namespaces) → AreTables (record tables { namespaces = new })
-  namespace_grown ns new (Ok u) free ok err =
+  namespace_grown ns new (Ok u) fault ok err =
+      let there = has_row namespace_key (ns ∷ []) tables.namespaces in
       subst (λ (names : List Text). AreTables (record tables { namespaces = names })) (sym ok)
-      (namespace_added ns free)
-  namespace_grown ns new (Err e) free ok err =
+      (namespace_added ns (names_row ns tables.namespaces ∙ was_free (Ok u) there fault))
+  namespace_grown ns new (Err e) fault ok err =
       subst (λ (names : List Text). AreTables (record tables { namespaces = names })) (sym err) s
 
   pub namespace_removed : (ns : Text) → is_in_use tables ns ≡ false

@@ -1,4 +1,4 @@
--- The tables as they came, and in the order of their keys. Ours.
+-- The tables as they arrived, and in the order of their keys. Ours.
 use Rattle.meta_types.specs.Rows.{Tables, image_key, container_key, content_key, ingest_key, snap_key}
 use Rattle.row_tables.specs.Arrived.{sorted}
 

@@ -1,4 +1,4 @@
-//! The tables as they came: rows are numbered by their places, and kept by marks of these.
+//! The tables as they arrived: rows are numbered by their places, and kept by marks of these.
 ghost use Rattle.std.specs.Prelude.{◌≡◌, Bool, map, filter, length};
 ghost use Rattle.meta_types.specs.Rows.{image_key, container_key, content_key, ingest_key, snap_key};
 ghost use Rattle.meta_types.specs.Sound.{AreNumbered};
@@ -10,13 +10,13 @@ ghost use Rattle.row_tables.specs.Arrived.{sorted, kept};
 ghost use Rattle.object_tables.specs.InKeyOrder.{in_key_order};
 
 use crate::children::{ArrivedSnapshots, Snapshots};
-use crate::keyed_table::KeyedTable;
+use crate::names::Names;
 use crate::tables::Tables;
 use meta_types::{ContainerRow, ContentRow, Digest, ImageRow, IngestRow, Name, ShortName, SnapRow};
 use row_tables::{ArrivedByNamespace, ArrivedBySnapshotter, ByNamespace};
 use std::marker::Model;
 
-/// Lends the rows of each kind as they came.
+/// Lends the rows of each kind as they arrived.
 #[derive(Clone, Copy)]
 pub struct ArrivedRows<'a> {
     pub images: &'a ArrivedByNamespace<Name, ImageRow>,
@@ -26,10 +26,10 @@ pub struct ArrivedRows<'a> {
     pub snapshots: &'a ArrivedBySnapshotter<Name, SnapRow>,
 }
 
-/// Rows of all kinds, as they came.
+/// Rows of all kinds, as they arrived.
 #[derive(Drop)]
 pub struct ArrivedTables {
-    namespaces: KeyedTable<ShortName>,
+    namespaces: Names<ShortName>,
     images: ArrivedByNamespace<Name, ImageRow>,
     containers: ArrivedByNamespace<Name, ContainerRow>,
     content: ArrivedByNamespace<Digest, ContentRow>,
@@ -144,8 +144,8 @@ impl ArrivedTables {
 }
 
 impl Tables {
-    /// Lends the rows of each kind as they came.
-    pub fn came(&self) -> ArrivedRows<'_>
+    /// Lends the rows of each kind as they arrived.
+    pub fn arrived(&self) -> ArrivedRows<'_>
         ensures images { sorted image_key result.images.now ≡ self.now.images }
         ensures containers { sorted container_key result.containers.now ≡ self.now.containers }
         ensures content { sorted content_key result.content.now ≡ self.now.content }
@@ -153,39 +153,39 @@ impl Tables {
         ensures snapshots { sorted snap_key result.snapshots.now ≡ self.now.snapshots }
     {
         ArrivedRows {
-            images: self.images.came(),
-            containers: self.containers.came(),
-            content: self.content.came(),
-            ingests: self.ingests.came(),
-            snapshots: self.snapshots.table().came(),
+            images: self.images.arrived(),
+            containers: self.containers.arrived(),
+            content: self.content.arrived(),
+            ingests: self.ingests.arrived(),
+            snapshots: self.snapshots.table().arrived(),
         }
     }
 
-    /// Hands over the tables as they came; no row is copied or sorted.
-    pub fn into_came(self) -> ArrivedTables
+    /// Hands over the tables as they arrived; no row is copied or sorted.
+    pub fn into_arrived(self) -> ArrivedTables
         ensures { in_key_order result ≡ self }
     {
         ArrivedTables {
             namespaces: self.namespaces,
-            images: self.images.into_came(),
-            containers: self.containers.into_came(),
-            content: self.content.into_came(),
-            ingests: self.ingests.into_came(),
-            snapshots: self.snapshots.into_came(),
+            images: self.images.into_arrived(),
+            containers: self.containers.into_arrived(),
+            content: self.content.into_arrived(),
+            ingests: self.ingests.into_arrived(),
+            snapshots: self.snapshots.into_arrived(),
         }
     }
 
-    /// Takes over the tables as they came; no row is copied or sorted.
-    pub fn from_came(came: ArrivedTables) -> Tables
-        ensures { result ≡ in_key_order came }
+    /// Takes over the tables as they arrived; no row is copied or sorted.
+    pub fn from_arrived(arrived: ArrivedTables) -> Tables
+        ensures { result ≡ in_key_order arrived }
     {
         Tables {
-            namespaces: came.namespaces,
-            images: ByNamespace::from_came(came.images),
-            containers: ByNamespace::from_came(came.containers),
-            content: ByNamespace::from_came(came.content),
-            ingests: ByNamespace::from_came(came.ingests),
-            snapshots: Snapshots::from_came(came.snapshots),
+            namespaces: arrived.namespaces,
+            images: ByNamespace::from_arrived(arrived.images),
+            containers: ByNamespace::from_arrived(arrived.containers),
+            content: ByNamespace::from_arrived(arrived.content),
+            ingests: ByNamespace::from_arrived(arrived.ingests),
+            snapshots: Snapshots::from_arrived(arrived.snapshots),
         }
     }
 }

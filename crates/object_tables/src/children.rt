@@ -64,23 +64,23 @@ impl Snapshots {
         &self.rows
     }
 
-    /// The snapshots as they came.
-    pub(crate) fn into_came(self) -> ArrivedSnapshots
+    /// The snapshots as they arrived.
+    pub(crate) fn into_arrived(self) -> ArrivedSnapshots
         ensures { sorted snap_key result ≡ self }
     {
         ArrivedSnapshots {
-            rows: self.rows.into_came(),
+            rows: self.rows.into_arrived(),
             families: self.families,
         }
     }
 
-    /// The snapshots that came, seen in the order of their keys.
-    pub(crate) fn from_came(came: ArrivedSnapshots) -> Snapshots
-        ensures { result ≡ sorted snap_key came }
+    /// The snapshots that arrived, seen in the order of their keys.
+    pub(crate) fn from_arrived(arrived: ArrivedSnapshots) -> Snapshots
+        ensures { result ≡ sorted snap_key arrived }
     {
         Snapshots {
-            rows: BySnapshotter::from_came(came.rows),
-            families: came.families,
+            rows: BySnapshotter::from_arrived(arrived.rows),
+            families: arrived.families,
         }
     }
 
@@ -162,7 +162,7 @@ impl Snapshots {
     }
 }
 
-/// The snapshots as they came, with the names of each one's children.
+/// The snapshots as they arrived, with the names of each one's children.
 #[derive(Drop)]
 pub(crate) struct ArrivedSnapshots {
     rows: ArrivedBySnapshotter<Name, SnapRow>,

@@ -1,5 +1,5 @@
 //! Containers, with the snapshots that they run on.
-ghost use Rattle.std.specs.Prelude.{◌≡◌, ◌∷◌, [], map, None, IfOk, OnOk, OnErr, option_copied};
+ghost use Rattle.std.specs.Prelude.{◌≡◌, ◌∷◌, [], OnOk, OnErr, option_copied};
 ghost use Rattle.meta_types.specs.Keys.{row_at, has_row, add_row, remove_row, change_row};
 ghost use Rattle.meta_types.specs.Labels.{put_label};
 ghost use Rattle.meta_types.specs.Rows.{container_key};
@@ -25,14 +25,6 @@ impl Tables {
         ensures { result ≡ has_row container_key (ns.now ∷ name.now ∷ []) self.now.containers }
     {
         self.containers.has(ns, name)
-    }
-
-    /// The rows, in the order of their keys.
-    pub fn container_rows(&self, alloc: Global) -> Result<Vec<&ContainerRow>, Fault>
-        ensures fault { Refuses result None }
-        ensures ok { IfOk result (λ rows. map (λ row. row.now) rows.items ≡ self.now.containers) }
-    {
-        self.containers.rows(alloc)
     }
 
     /// Adds a container's row.

@@ -1,10 +1,10 @@
 //! Content, as each namespace sees it.
-ghost use Rattle.std.specs.Prelude.{◌≡◌, ◌∷◌, [], map, None, IfOk, OnOk, OnErr, option_copied, length};
+ghost use Rattle.std.specs.Prelude.{◌≡◌, ◌∷◌, [], OnOk, OnErr, option_copied};
 ghost use Rattle.meta_types.specs.Keys.{row_at, has_row, add_row, remove_row, change_row};
 ghost use Rattle.meta_types.specs.Labels.{put_label};
 ghost use Rattle.meta_types.specs.Rows.{content_key};
 ghost use Rattle.meta_types.specs.Faults.{Refuses, OnlyRefuses};
-ghost use Rattle.object_tables.specs.Calls.{adding_fault, missing_fault, kept, labelling_fault};
+ghost use Rattle.object_tables.specs.Calls.{adding_fault, missing_fault, labelling_fault};
 
 use crate::stored::relabel;
 use crate::tables::Tables;
@@ -25,14 +25,6 @@ impl Tables {
         ensures { result ≡ has_row content_key (ns.now ∷ digest.now ∷ []) self.now.content }
     {
         self.content.has(ns, digest)
-    }
-
-    /// The rows, in the order of their keys.
-    pub fn content_rows(&self, alloc: Global) -> Result<Vec<&ContentRow>, Fault>
-        ensures fault { Refuses result None }
-        ensures ok { IfOk result (λ rows. map (λ row. row.now) rows.items ≡ self.now.content) }
-    {
-        self.content.rows(alloc)
     }
 
     /// Adds a row of content.

@@ -18,7 +18,7 @@ pub(crate) struct Family {
     pub(crate) ns: ShortName,
     pub(crate) snapshotter: ShortName,
     pub(crate) parent: Name,
-    pub(crate) children: Names,
+    pub(crate) children: Names<Name>,
 }
 
 impl NamedRow<Name> for Family {

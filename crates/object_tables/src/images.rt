@@ -1,5 +1,5 @@
 //! Images: names for the content that they run from.
-ghost use Rattle.std.specs.Prelude.{◌≡◌, ◌∷◌, [], map, None, IfOk, OnOk, OnErr, option_copied, length};
+ghost use Rattle.std.specs.Prelude.{◌≡◌, ◌∷◌, [], None, OnOk, OnErr, option_copied};
 ghost use Rattle.meta_types.specs.Keys.{row_at, has_row, add_row, remove_row, change_row};
 ghost use Rattle.meta_types.specs.Labels.{put_label};
 ghost use Rattle.meta_types.specs.Rows.{image_key};
@@ -7,7 +7,7 @@ ghost use Rattle.meta_types.specs.Faults.{Refuses, OnlyRefuses};
 ghost use Rattle.std.specs.Bool.{OnFalse};
 ghost use Rattle.std.proofs.Common.{ap};
 ghost use Rattle.object_tables.specs.Edits.{with_target};
-ghost use Rattle.object_tables.specs.Calls.{adding_fault, missing_fault, kept, labelling_fault};
+ghost use Rattle.object_tables.specs.Calls.{adding_fault, missing_fault, labelling_fault};
 
 use crate::stored::relabel;
 use crate::tables::Tables;
@@ -44,14 +44,6 @@ impl Tables {
         ensures { result ≡ has_row image_key (ns.now ∷ name.now ∷ []) self.now.images }
     {
         self.images.has(ns, name)
-    }
-
-    /// The rows, in the order of their keys.
-    pub fn image_rows(&self, alloc: Global) -> Result<Vec<&ImageRow>, Fault>
-        ensures fault { Refuses result None }
-        ensures ok { IfOk result (λ rows. map (λ row. row.now) rows.items ≡ self.now.images) }
-    {
-        self.images.rows(alloc)
     }
 
     /// Adds an image's row.

@@ -1,10 +1,10 @@
 //! Ingests: content that is being written.
-ghost use Rattle.std.specs.Prelude.{◌≡◌, ◌∷◌, [], map, None, IfOk, OnOk, OnErr, option_copied, length, nat_lt};
+ghost use Rattle.std.specs.Prelude.{◌≡◌, ◌∷◌, [], None, OnOk, OnErr, option_copied, nat_lt};
 ghost use Rattle.meta_types.specs.Keys.{row_at, has_row, add_row, remove_row};
 ghost use Rattle.meta_types.specs.Rows.{ingest_key};
 ghost use Rattle.meta_types.specs.Faults.{Refuses, OnlyRefuses};
 ghost use Rattle.meta_types.specs.Sound.{AreNumbered};
-ghost use Rattle.object_tables.specs.Calls.{adding_fault, missing_fault, kept};
+ghost use Rattle.object_tables.specs.Calls.{adding_fault, missing_fault};
 
 use crate::tables::Tables;
 use meta_types::{Fault, IngestRow, Name, ShortName};
@@ -39,14 +39,6 @@ impl Tables {
         ensures { result ≡ has_row ingest_key (ns.now ∷ name.now ∷ []) self.now.ingests }
     {
         self.ingests.has(ns, name)
-    }
-
-    /// The rows, in the order of their keys.
-    pub fn ingest_rows(&self, alloc: Global) -> Result<Vec<&IngestRow>, Fault>
-        ensures fault { Refuses result None }
-        ensures ok { IfOk result (λ rows. map (λ row. row.now) rows.items ≡ self.now.ingests) }
-    {
-        self.ingests.rows(alloc)
     }
 
     /// Adds an ingest's row, with the backend number that the caller chose: one that no snapshot

@@ -8,8 +8,6 @@ mod content;
 mod families;
 mod images;
 mod ingests;
-mod keyed;
-mod keyed_table;
 mod names;
 mod parents;
 mod snapshots;

@@ -1,7 +1,7 @@
 //! Snapshots, each over a committed parent or none.
-ghost use Rattle.std.specs.Prelude.{◌≡◌, ◌∷◌, [], map, false, None, IfOk, OnOk, OnErr, option_copied, option_map, length, IsTrue, bytes_eq, not, filter, nat_lt};
+ghost use Rattle.std.specs.Prelude.{◌≡◌, ◌∷◌, [], map, false, None, IfOk, OnOk, OnErr, option_copied, option_map, IsTrue, bytes_eq, not, nat_lt};
 ghost use Rattle.std.specs.Option.{option_map_or};
-ghost use Rattle.std.specs.List.{list_any, dedup};
+ghost use Rattle.std.specs.List.{dedup};
 ghost use Rattle.std.specs.List.Sorted.{IsStrictlySortedBy};
 ghost use Rattle.meta_types.specs.Text.{text_cmp};
 ghost use Rattle.meta_types.specs.Keys.{row_at, has_row, add_row, change_row, are_in_order};
@@ -9,10 +9,10 @@ ghost use Rattle.meta_types.specs.Labels.{put_label};
 ghost use Rattle.meta_types.specs.Rows.{snap_key};
 ghost use Rattle.meta_types.specs.Faults.{Refuses, OnlyRefuses};
 ghost use Rattle.meta_types.specs.Sound.{AreNumbered};
-ghost use Rattle.meta_types.specs.Ops.Snapshots.{is_child_of, committed, snapshots_in, parent_row};
+ghost use Rattle.meta_types.specs.Ops.Snapshots.{committed, snapshots_in, parent_row};
 ghost use Rattle.meta_types.specs.Changes.{has_namespace};
 ghost use Rattle.meta_types.specs.declared.rows.SnapKind.TheVariants.{Committed};
-ghost use Rattle.object_tables.specs.Calls.{adding_snap_fault, removing_snap_fault, committing_fault, without_snap, labelling_fault, missing_fault, children_of, kept, snapshotters_in};
+ghost use Rattle.object_tables.specs.Calls.{adding_snap_fault, removing_snap_fault, committing_fault, without_snap, labelling_fault, missing_fault, children_of, snapshotters_in};
 
 use crate::ingests::Below;
 use crate::stored::names_of;
@@ -48,14 +48,6 @@ impl Tables {
         self.snapshots
             .table()
             .has(&key.ns, &key.snapshotter, &key.name)
-    }
-
-    /// The rows, in the order of their keys.
-    pub fn snap_rows(&self, alloc: Global) -> Result<Vec<&SnapRow>, Fault>
-        ensures fault { Refuses result None }
-        ensures ok { IfOk result (λ rows. map (λ row. row.now) rows.items ≡ self.now.snapshots) }
-    {
-        self.snapshots.table().rows(alloc)
     }
 
     /// Puts one label on a snapshot.

@@ -2,7 +2,7 @@
 ghost use Rattle.std.specs.Prelude.{◌≡◌, ◌∷◌, [], ◌++◌, map, None, IfOk, OnOk, OnErr, refl};
 ghost use Rattle.meta_types.specs.Text.{Text};
 ghost use Rattle.meta_types.specs.Keys.{row_at, change_row};
-ghost use Rattle.meta_types.specs.Labels.{LabelList, put_label, takes_label};
+ghost use Rattle.meta_types.specs.Labels.{LabelList, is_label, put_label, takes_label};
 ghost use Rattle.meta_types.specs.Rows.{snap_key};
 ghost use Rattle.meta_types.specs.Faults.{Refuses, unless};
 ghost use Rattle.meta_types.specs.Ops.{names_in};
@@ -11,7 +11,6 @@ ghost use Rattle.row_tables.specs.Namespaces.{full_key};
 ghost use Rattle.object_tables.specs.Calls.{labelling_fault};
 ghost use Rattle.object_tables.specs.Edits.{Relabels, relabels_keep};
 
-use crate::keyed_table::is_label;
 use meta_types::{
     ContainerRow, ContentRow, Digest, Fault, ImageRow, IngestRow, Listing, Name, ShortName,
     SnapKey, SnapRow,
@@ -249,4 +248,10 @@ impl ListedRow<Name> for IngestRow {
     fn list_in(&self, names: &mut Listing) -> Result<(), Fault> {
         names.push_name(&self.name)
     }
+}
+
+fn is_label(key: &str, value: &str) -> bool
+    ensures { result ≡ is_label key.now value.now }
+{
+    value == "" || (key != "" && value.len() <= 4096 && key.len() <= 4096 - value.len())
 }

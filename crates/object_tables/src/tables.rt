@@ -1,5 +1,5 @@
 //! The tables: rows of five kinds, and the namespaces that they are in.
-ghost use Rattle.std.specs.Prelude.{◌≡◌, ◌∷◌, [], ◌||◌, not, false, None, IfOk, OnOk, OnErr, length};
+ghost use Rattle.std.specs.Prelude.{◌≡◌, ◌∷◌, [], map, not, false, None, IfOk, OnOk, OnErr, length};
 ghost use Rattle.meta_types.specs.Keys.{add_row, remove_row};
 ghost use Rattle.meta_types.specs.Rows.{namespace_key};
 ghost use Rattle.meta_types.specs.Changes.{has_namespace, is_in_use};
@@ -9,7 +9,7 @@ ghost use Rattle.meta_types.specs.Sound.{AreTables};
 
 use crate::children::Snapshots;
 use crate::ingests::Below;
-use crate::keyed_table::KeyedTable;
+use crate::names::Names;
 use crate::stored::names_in;
 use meta_types::{
     ContainerRow, ContentRow, Digest, Fault, ImageRow, IngestRow, Kind, Listing, Name, ShortName,
@@ -21,7 +21,7 @@ use std::marker::Model;
 /// Rows of all kinds, by namespace.
 #[derive(Drop)]
 pub struct Tables {
-    pub(crate) namespaces: KeyedTable<ShortName>,
+    pub(crate) namespaces: Names<ShortName>,
     pub(crate) images: ByNamespace<Name, ImageRow>,
     pub(crate) containers: ByNamespace<Name, ContainerRow>,
     pub(crate) content: ByNamespace<Digest, ContentRow>,
@@ -78,7 +78,7 @@ impl Tables {
         } }
     {
         Tables {
-            namespaces: KeyedTable::new(alloc),
+            namespaces: Names::new(alloc),
             images: ByNamespace::new(alloc),
             containers: ByNamespace::new(alloc),
             content: ByNamespace::new(alloc),
@@ -140,7 +140,7 @@ impl Tables {
         ensures order { AreInOrder self.now }
         ensures sound { AreTables self.now }
     {
-        self.namespaces.has(&[ns.text()])
+        self.namespaces.has(ns)
     }
 
     /// Whether a backend number is above those of all snapshots and ingests, so that a row may be
@@ -157,7 +157,8 @@ impl Tables {
         ensures fault { Refuses result None }
         ensures ok { IfOk result (λ names. names ≡ self.now.namespaces) }
     {
-        self.namespaces.all_names(alloc)
+        let names = self.namespaces.list(alloc)?;
+        listed(alloc, &names)
     }
 
     /// Adds a namespace, which has no row yet.
@@ -167,9 +168,6 @@ impl Tables {
             { namespaces = add_row namespace_key ns self.old.namespaces }) }
         ensures err { OnErr result (self.new ≡ self.old) }
     {
-        if self.has_ns(&ns) {
-            return Err(Fault::AlreadyExists);
-        }
         self.namespaces.add(ns)
     }
 
@@ -187,7 +185,7 @@ impl Tables {
         if self.is_in_use(ns) {
             return Err(Fault::FailedPrecondition);
         }
-        self.namespaces.remove(&[ns.text()]);
+        self.namespaces.remove(ns);
         Ok(())
     }
 
@@ -224,4 +222,16 @@ impl Tables {
             Kind::Ingest => names_in(&self.ingests, alloc, ns),
         }
     }
+}
+
+// The names, in their order.
+fn listed(alloc: Global, names: &[&ShortName]) -> Result<Listing, Fault>
+    ensures fault { Refuses result None }
+    ensures ok { IfOk result (λ list. list ≡ map (λ name. name.now) names.now) }
+{
+    let mut list = Listing::new(alloc);
+    for name in names {
+        list.push_short_name(name)?;
+    }
+    Ok(list)
 }

@@ -5,3 +5,4 @@ mod ConstantTexts
 mod ImpactTokens
 pub mod Putting
 mod ReportTexts
+mod Plain

@@ -6,7 +6,7 @@ use Rattle.json.specs.Written.{Written}
 use Rattle.serde_json.proofs.Texts.{print-outline}
 use Rattle.serde_json.specs.Data.{Data, string, object, no_members, member}
 use Rattle.meta_types.specs.Text.{Text}
-use Rattle.meta_types.specs.Questions.{Told}
+use Rattle.meta_types.specs.Questions.{ExplanationValue}
 use Rattle.gc_report.specs.Reports.{member_if}
 use Rattle.gc_report.specs.Writing.{tokens_of, member_tokens, Adds}
 use Rattle.reply_line.specs.Explained.{told_data, told_text}
@@ -36,7 +36,8 @@ step_tokens by name type (Some a) (Some b) None = refl
 step_tokens by name type (Some a) (Some b) (Some c) = refl
 
 -- the tokens of an explanation, written into an empty text, are printed as its text
-pub told_printed : (told : Told) (old new : Written) (text : List ℕ) → old.tokens ≡ [] → Adds old new (tokens_of (told_data told)) → text ≡ print new.tokens → text ≡ told_text told
+pub told_printed : (told : ExplanationValue) (old new : Written) (text : List ℕ) → old.tokens ≡ []
+    → Adds old new (tokens_of (told_data told)) → text ≡ print new.tokens → text ≡ told_text told
 unfolding told_text
 told_printed told old new text empty adds is =
     is ∙ ap print (adds.tokens ∙ ap (λ ts. ts ++ tokens_of (told_data told)) empty) ∙ print-outline (told_data told)

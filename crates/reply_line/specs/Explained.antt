@@ -5,7 +5,7 @@ use Rattle.serde_json.specs.Data.{Data, boolean, string, object, no_members, mem
 use Rattle.serde_json.specs.Written.{compact_text}
 use Rattle.meta_types.specs.Text.{Text}
 use Rattle.meta_types.specs.Resources.{type_of, id_of}
-use Rattle.meta_types.specs.Questions.{Told, Telling, explained, foreseen, LineAnswer, of_event, of_question}
+use Rattle.meta_types.specs.Questions.{ExplanationValue, QuestionAnswer, explains, foresees, LineAnswer, of_event, of_question}
 use Rattle.meta_types.specs.declared.resource.Mode.{Mode}
 use Rattle.meta_types.specs.declared.resource.Mode.TheVariants.{Full, Flat}
 use Rattle.meta_types.specs.declared.object.Object.{Object}
@@ -69,26 +69,26 @@ step_data step = object
 -- ---- replies
 
 -- an explanation; where nothing keeps the row, `kept` is false
-abbrev pub told_data : Told → Data
+abbrev pub told_data : ExplanationValue → Data
 told_data told = object
     (member (codes "kept") (boolean told.kept)
     (member (codes "ok") (boolean true)
     (member (codes "path") (list_data step_data told.path) no_members)))
 
 -- what an explanation of the program tells
-abbrev pub told_of : Explanation → Told
+abbrev pub told_of : Explanation → ExplanationValue
 told_of explanation = record { kept = explanation.kept; path = explanation.path.items }
 
 -- the text of an explanation, without a line feed
-unfoldable pub told_text : Told → Text
+unfoldable pub told_text : ExplanationValue → Text
 told_text told = compact_text (told_data told)
 
 -- the text of the answer to a question
-abbrev pub telling_text : Telling → Text
-telling_text (explained told) = told_text told
-telling_text (foreseen impact) = impact_text impact
+abbrev pub question_answer_text : QuestionAnswer → Text
+question_answer_text (explains told) = told_text told
+question_answer_text (foresees impact) = impact_text impact
 
 -- the text of what a line is answered
 abbrev pub line_answer_text : LineAnswer → Text
 line_answer_text (of_event answer) = answer_text answer
-line_answer_text (of_question telling) = telling_text telling
+line_answer_text (of_question given) = question_answer_text given

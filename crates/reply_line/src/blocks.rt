@@ -4,6 +4,7 @@ ghost use Rattle.serde_json.specs.Written.{compact_text, comma_if};
 ghost use Rattle.gc_report.specs.Reports.{list_data};
 ghost use Rattle.reply_line.specs.Blocks.{Puts, IsBlockFault};
 
+use crate::items::PutJson;
 use crate::writing::write_bytes;
 use gc_report::WriteJson;
 use json::Writer;
@@ -15,8 +16,9 @@ use std::mem::replace;
 // A block of this many bytes is written before more is put behind it.
 const FULL: usize = 32768;
 
-/// With this much room a block never grows, in bytes: below `FULL` one more part of a report is put
-/// behind it, and the longest has two short names and one of 1,024 bytes, each escaped by another.
+/// Room for a block, in bytes: below `FULL` one more part of a report is put behind it, and the
+/// longest has two short names and one of 1,024 bytes, each escaped by another. That it never grows
+/// is tested alone.
 pub const BLOCK_ROOM: usize = 40960;
 
 // Writes a block that is full.
@@ -70,8 +72,25 @@ fn put_value<W: Write, T: WriteJson>(
     pour(writer, block)
 }
 
+// What a list names, straight into the block.
+fn put_named<W: Write, T: PutJson>(
+    writer: &mut W,
+    alloc: Global,
+    block: &mut Vec<u8>,
+    named: &T,
+) -> Result<(), Fault>
+    ensures ok { OnOk result (Puts (W.contents writer.old) block.old.items
+        (W.contents writer.new) block.new.items (compact_text (T.as_data named.now))) }
+    ensures err { OnErr result ((rest : List ℕ) × Puts (W.contents writer.old) block.old.items
+        (W.contents writer.new) rest (compact_text (T.as_data named.now))) }
+    ensures fault { IfErr result IsBlockFault }
+{
+    named.put(alloc, block)?;
+    pour(writer, block)
+}
+
 // An item of a list, with a comma where others stand before it.
-fn put_item<W: Write, T: WriteJson>(
+fn put_item<W: Write, T: PutJson>(
     writer: &mut W,
     alloc: Global,
     block: &mut Vec<u8>,
@@ -88,11 +107,11 @@ fn put_item<W: Write, T: WriteJson>(
     if later {
         put_text(writer, block, ",")?;
     }
-    put_value(writer, alloc, block, item)
+    put_named(writer, alloc, block, item)
 }
 
 // A list, each item in its turn.
-fn put_list<W: Write, T: WriteJson>(
+fn put_list<W: Write, T: PutJson>(
     writer: &mut W,
     alloc: Global,
     block: &mut Vec<u8>,
@@ -133,7 +152,7 @@ pub(crate) fn put_keyed<W: Write, T: WriteJson>(
 }
 
 /// Puts a list behind the text before it.
-pub(crate) fn put_member<W: Write, T: WriteJson>(
+pub(crate) fn put_member<W: Write, T: PutJson>(
     writer: &mut W,
     alloc: Global,
     block: &mut Vec<u8>,

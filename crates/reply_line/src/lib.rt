@@ -6,6 +6,7 @@ mod blocks;
 mod constants;
 mod explanation;
 mod impact;
+mod items;
 mod parts;
 mod reply;
 mod report_blocks;

@@ -15,7 +15,8 @@ use Rattle.meta_types.specs.Requests.{outcome}
 use Rattle.meta_types.specs.Sound.{HasParent, IsSound, object_of}
 use Rattle.meta_types.specs.declared.rows.SnapRow.{SnapRow}
 use Rattle.meta_types.specs.declared.resource.Resource.TheVariants.{Snapshot}
-use Rattle.meta_types.specs.declared.request.Request.TheVariants.{SnapCommit}
+use Rattle.meta_types.specs.declared.request.SnapCommit.{SnapCommit}
+use Rattle.meta_types.specs.declared.request.Request.TheVariants as R
 use Rattle.meta_types.proofs.KeepsSound.{all_added, all_removed}
 use Rattle.request_core.proofs.ListsSound.{none_applies, sound_leases, sound_snapshots, leases_held}
 use Rattle.object_tables.proofs.ParentsKept.{key_above, number_above, Stays, parent_kept}
@@ -87,28 +88,37 @@ module _ (state : State) (ns snapshotter key name : Text) (labels : LabelList) (
         (all_added snap_key (HasObject snaps after) new new_object left
         (all_removed snap_key (HasObject snaps after) gone rows old_objects))))
 
-pub after_snap_commit : (state : State) (ns snapshotter key name : Text)
-    (labels : List (Text × Text)) (lease : Option Text) → IsSound state
-    → least_fault (outcome state (SnapCommit ns snapshotter key name labels lease)) ≡ None
-    → IsSound (outcome state (SnapCommit ns snapshotter key name labels lease)).after
-after_snap_commit state ns snapshotter key name labels lease s none =
+pub after_snap_commit : (state : State) (asked : SnapCommit) → IsSound state
+    → least_fault (outcome state (R.SnapCommit asked)) ≡ None
+    → IsSound (outcome state (R.SnapCommit asked)).after
+after_snap_commit state asked s none =
     let rows = state.records.tables.snapshots in
-    let f = none_applies (outcome state (SnapCommit ns snapshotter key name labels lease)) none in
+    let f = none_applies (outcome state (R.SnapCommit asked)) none in
     sound_leases
-    (with_snapshots state (committed ns snapshotter key name (labels_of labels) rows))
-    (go (row_at snap_key (ns ∷ snapshotter ∷ key ∷ []) rows) refl
-    (or_parts (lacks state ns lease) _ f.1).1 f.3 f.2) _
-    (leases_held state.records.tables.namespaces ns lease (Snapshot snapshotter name)
+    (with_snapshots state
+    (committed asked.snapshot.ns asked.snapshot.snapshotter asked.snapshot.name asked.name
+    (labels_of asked.labels) rows))
+    (go (row_at snap_key
+    (asked.snapshot.ns ∷ asked.snapshot.snapshotter ∷ asked.snapshot.name ∷ []) rows) refl
+    (or_parts (lacks state asked.snapshot.ns asked.lease) _ f.1).1 f.3 f.2) _
+    (leases_held state.records.tables.namespaces asked.snapshot.ns asked.lease
+    (Snapshot asked.snapshot.snapshotter asked.name)
     state.records.leases s.leases)
   where
     go : (found : Option SnapRow)
-        → row_at snap_key (ns ∷ snapshotter ∷ key ∷ []) state.records.tables.snapshots ≡ found
+        → row_at snap_key
+        (asked.snapshot.ns ∷ asked.snapshot.snapshotter ∷ asked.snapshot.name ∷ [])
+        state.records.tables.snapshots ≡ found
         → is_none found ≡ false
         → option_map_or (λ (row : SnapRow). not (is_active row.kind)) found false ≡ false
-        → has_row snap_key (ns ∷ snapshotter ∷ name ∷ []) state.records.tables.snapshots ≡ false
+        → has_row snap_key
+        (asked.snapshot.ns ∷ asked.snapshot.snapshotter ∷ asked.name ∷ [])
+        state.records.tables.snapshots ≡ false
         → IsSound (with_snapshots state
-        (committed ns snapshotter key name (labels_of labels) state.records.tables.snapshots))
+        (committed asked.snapshot.ns asked.snapshot.snapshotter asked.snapshot.name asked.name
+        (labels_of asked.labels) state.records.tables.snapshots))
     go None e there active free = absurd cc
     go (Some row) e there active free =
-        snap_commit_sound state ns snapshotter key name (labels_of labels) row s e
+        snap_commit_sound state asked.snapshot.ns asked.snapshot.snapshotter asked.snapshot.name
+        asked.name (labels_of asked.labels) row s e
         (not-false (is_active row.kind) active) free

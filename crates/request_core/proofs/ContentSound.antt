@@ -16,7 +16,13 @@ use Rattle.meta_types.specs.Sound.{AreRows, IsSound}
 use Rattle.meta_types.specs.declared.rows.ContentRow.{ContentRow}
 use Rattle.meta_types.specs.declared.resource.Resource.{Resource}
 use Rattle.meta_types.specs.declared.resource.Resource.TheVariants.{Content}
-use Rattle.meta_types.specs.declared.request.Request.TheVariants.{ContentAdd, ContentRemove, ContentLabel, LeaseAdd, LeaseRemove, LeaseLabel, LeaseHold, LeaseDrop, Profile}
+use Rattle.meta_types.specs.declared.raw.RawLabel.{RawLabel}
+use Rattle.meta_types.specs.declared.request.RawName.{RawName}
+use Rattle.meta_types.specs.declared.request.RawContent.{RawContent}
+use Rattle.meta_types.specs.declared.request.ContentAdd.{ContentAdd}
+use Rattle.meta_types.specs.declared.request.LeaseAdd.{LeaseAdd}
+use Rattle.meta_types.specs.declared.request.LeaseResource.{LeaseResource}
+use Rattle.meta_types.specs.declared.request.Request.TheVariants as R
 use Rattle.meta_types.proofs.KeepsSound.{all_removed, all_changed, rows_added, rows_removed, rows_changed}
 use Rattle.object_tables.proofs.TablesKept.{content_added, content_removed, content_changed}
 use Rattle.request_core.proofs.ListsSound.{none_applies, sound_content, sound_leases, still_stored, leases_held}
@@ -27,26 +33,32 @@ use Rattle.request_core.proofs.ListsSound.{none_applies, sound_content, sound_le
 abbrev IsStored : List Text → ContentRow → Type 0
 IsStored blobs row = IsTrue (list_any (bytes_eq row.digest) blobs)
 
-pub after_content_add : (state : State) (ns digest : Text) (labels : List (Text × Text))
-    (lease : Option Text) → IsSound state
-    → least_fault (outcome state (ContentAdd ns digest labels lease)) ≡ None
-    → IsSound (outcome state (ContentAdd ns digest labels lease)).after
-after_content_add state ns digest labels lease s none =
-    let f = none_applies (outcome state (ContentAdd ns digest labels lease)) none in
-    let row : ContentRow = record { ns = ns; digest = digest; labels = labels_of labels } in
+pub after_content_add : (state : State) (asked : ContentAdd) → IsSound state
+    → least_fault (outcome state (R.ContentAdd asked)) ≡ None
+    → IsSound (outcome state (R.ContentAdd asked)).after
+after_content_add state asked s none =
+    let f = none_applies (outcome state (R.ContentAdd asked)) none in
+    let row : ContentRow = record {
+      ns = asked.content.ns;
+      digest = asked.content.digest;
+      labels = labels_of asked.labels;
+    } in
     let rows = state.records.tables.content in
     let blobs = state.backends.blobs in
-    let grown = sound_content state s (add_row content_key row rows) (put_blob digest blobs)
+    let grown = sound_content state s (add_row content_key row rows)
+    (put_blob asked.content.digest blobs)
     (content_added state.records.tables s.tables row (not-false _ (or_parts _ _ f.1).0) f.2)
     (still_stored rows row blobs s.stored) in
-    sound_leases (with_blob digest (with_content state (add_row content_key row rows))) grown _
-    (leases_held state.records.tables.namespaces ns lease (Content digest) state.records.leases
+    sound_leases (with_blob asked.content.digest (with_content state
+    (add_row content_key row rows))) grown _
+    (leases_held state.records.tables.namespaces asked.content.ns asked.lease
+    (Content asked.content.digest) state.records.leases
     s.leases)
 
-pub after_content_remove : (state : State) (ns digest : Text) → IsSound state
-    → IsSound (outcome state (ContentRemove ns digest)).after
-after_content_remove state ns digest s =
-    let key : Key = ns ∷ digest ∷ [] in
+pub after_content_remove : (state : State) (content : RawContent) → IsSound state
+    → IsSound (outcome state (R.ContentRemove content)).after
+after_content_remove state content s =
+    let key : Key = content.ns ∷ content.digest ∷ [] in
     let rows = state.records.tables.content in
     let blobs = state.backends.blobs in
     sound_content state s (remove_row content_key key rows) blobs
@@ -56,13 +68,13 @@ after_content_remove state ns digest s =
       in_order = s.stored.in_order;
     })
 
-pub after_content_label : (state : State) (ns digest key value : Text) → IsSound state
-    → IsSound (outcome state (ContentLabel ns digest key value)).after
-after_content_label state ns digest key value s =
-    let place : Key = ns ∷ digest ∷ [] in
+pub after_content_label : (state : State) (content : RawContent) (label : RawLabel) → IsSound state
+    → IsSound (outcome state (R.ContentLabel content label)).after
+after_content_label state content label s =
+    let place : Key = content.ns ∷ content.digest ∷ [] in
     let blobs = state.backends.blobs in
     let change : ContentRow → ContentRow =
-    λ row. record row { labels = put_label key value row.labels } in
+    λ row. record row { labels = put_label label.key label.value row.labels } in
     sound_content state s _ blobs
     (content_changed state.records.tables s.tables place change (λ row. refl) (λ row. refl))
     (record {
@@ -77,22 +89,26 @@ after_content_label state ns digest key value s =
 abbrev AreLeases : List Text → List LeaseRow → Type 0
 AreLeases namespaces rows = AreRows lease_key (λ (row : LeaseRow). row.ns) namespaces rows
 
-pub after_lease_add : (state : State) (ns id : Text) (labels : List (Text × Text)) → IsSound state
-    → least_fault (outcome state (LeaseAdd ns id labels)) ≡ None
-    → IsSound (outcome state (LeaseAdd ns id labels)).after
-after_lease_add state ns id labels s none =
-    let f = none_applies (outcome state (LeaseAdd ns id labels)) none in
-    let row : LeaseRow =
-    record { ns = ns; id = id; labels = labels_of labels; resources = [] } in
+pub after_lease_add : (state : State) (asked : LeaseAdd) → IsSound state
+    → least_fault (outcome state (R.LeaseAdd asked)) ≡ None
+    → IsSound (outcome state (R.LeaseAdd asked)).after
+after_lease_add state asked s none =
+    let f = none_applies (outcome state (R.LeaseAdd asked)) none in
+    let row : LeaseRow = record {
+      ns = asked.lease.ns;
+      id = asked.lease.name;
+      labels = labels_of asked.labels;
+      resources = [];
+    } in
     sound_leases state s _
     (rows_added lease_key (λ (other : LeaseRow). other.ns) state.records.tables.namespaces row
     state.records.leases (not-false _ (or_parts _ _ f.1).0) f.2 s.leases)
 
-pub after_lease_remove : (state : State) (ns id : Text) → IsSound state
-    → IsSound (outcome state (LeaseRemove ns id)).after
-after_lease_remove state ns id s = sound_leases state s _
+pub after_lease_remove : (state : State) (lease : RawName) → IsSound state
+    → IsSound (outcome state (R.LeaseRemove lease)).after
+after_lease_remove state lease s = sound_leases state s _
     (rows_removed lease_key (λ (row : LeaseRow). row.ns) state.records.tables.namespaces
-    (ns ∷ id ∷ []) state.records.leases s.leases)
+    (lease.ns ∷ lease.name ∷ []) state.records.leases s.leases)
 
 -- one lease changes, but not its key
 lease_changed : (namespaces : List Text) (key : Key) (change : LeaseRow → LeaseRow)
@@ -103,41 +119,46 @@ lease_changed : (namespaces : List Text) (key : Key) (change : LeaseRow → Leas
 lease_changed namespaces key change same same_ns rows s =
     rows_changed lease_key (λ (row : LeaseRow). row.ns) namespaces key change same same_ns rows s
 
-pub after_lease_label : (state : State) (ns id key value : Text) → IsSound state
-    → IsSound (outcome state (LeaseLabel ns id key value)).after
-after_lease_label state ns id key value s =
+pub after_lease_label : (state : State) (lease : RawName) (label : RawLabel) → IsSound state
+    → IsSound (outcome state (R.LeaseLabel lease label)).after
+after_lease_label state lease label s =
     sound_leases state s _
-    (lease_changed state.records.tables.namespaces (ns ∷ id ∷ [])
-    (λ row. record row { labels = put_label key value row.labels }) (λ row. refl) (λ row. refl)
+    (lease_changed state.records.tables.namespaces (lease.ns ∷ lease.name ∷ [])
+    (λ row. record row { labels = put_label label.key label.value row.labels }) (λ row. refl)
+    (λ row. refl)
     state.records.leases s.leases)
 
-pub after_lease_hold : (state : State) (ns id kind text : Text) → IsSound state
-    → IsSound (outcome state (LeaseHold ns id kind text)).after
-after_lease_hold state ns id kind text s =
-    sound_leases state s _ (go (resource_of kind text) state.records.leases s.leases)
+pub after_lease_hold : (state : State) (asked : LeaseResource) → IsSound state
+    → IsSound (outcome state (R.LeaseHold asked)).after
+after_lease_hold state asked s =
+    sound_leases state s _ (go
+    (resource_of asked.kind asked.resource) state.records.leases s.leases)
   where
     go : (resource : Option Resource) (leases : List LeaseRow)
         → AreLeases state.records.tables.namespaces leases
         → AreLeases state.records.tables.namespaces
-        (option_map_or (λ r. hold_in_lease (ns ∷ id ∷ []) r leases) resource leases)
+        (option_map_or (λ r. hold_in_lease
+        (asked.lease.ns ∷ asked.lease.name ∷ []) r leases) resource leases)
     go None leases s = s
     go (Some resource) leases s =
-        lease_changed state.records.tables.namespaces (ns ∷ id ∷ [])
+        lease_changed state.records.tables.namespaces (asked.lease.ns ∷ asked.lease.name ∷ [])
         (λ row. record row { resources = held resource row.resources }) (λ row. refl) (λ row. refl)
         leases s
 
-pub after_lease_drop : (state : State) (ns id kind text : Text) → IsSound state
-    → IsSound (outcome state (LeaseDrop ns id kind text)).after
-after_lease_drop state ns id kind text s =
-    sound_leases state s _ (go (resource_of kind text) state.records.leases s.leases)
+pub after_lease_drop : (state : State) (asked : LeaseResource) → IsSound state
+    → IsSound (outcome state (R.LeaseDrop asked)).after
+after_lease_drop state asked s =
+    sound_leases state s _ (go
+    (resource_of asked.kind asked.resource) state.records.leases s.leases)
   where
     go : (resource : Option Resource) (leases : List LeaseRow)
         → AreLeases state.records.tables.namespaces leases
         → AreLeases state.records.tables.namespaces
-        (option_map_or (λ r. release_in_lease (ns ∷ id ∷ []) r leases) resource leases)
+        (option_map_or (λ r. release_in_lease
+        (asked.lease.ns ∷ asked.lease.name ∷ []) r leases) resource leases)
     go None leases s = s
     go (Some resource) leases s =
-        lease_changed state.records.tables.namespaces (ns ∷ id ∷ [])
+        lease_changed state.records.tables.namespaces (asked.lease.ns ∷ asked.lease.name ∷ [])
         (λ row. record row {
           resources = remove_row resource_key (resource_key resource) row.resources;
         })
@@ -147,6 +168,6 @@ after_lease_drop state ns id kind text s =
 
 -- it is no part of it
 pub after_profile : (state : State) (v : ℕ) → IsSound state
-    → IsSound (outcome state (Profile v)).after
+    → IsSound (outcome state (R.Profile v)).after
 after_profile state v s =
     record { tables = s.tables; leases = s.leases; stored = s.stored; backed = s.backed }

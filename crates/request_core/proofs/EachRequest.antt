@@ -32,63 +32,50 @@ each_request : (state : State) (request : Request) → Keeps state (outcome stat
 each_request state (NsAdd ns) = changes refl (after_ns_add state ns)
 each_request state (NsRemove ns) = changes refl (after_ns_remove state ns)
 each_request state NsList = reads refl
-each_request state (ImageAdd ns name target labels) =
-    changes refl (after_image_add state ns name target labels)
-each_request state (ImageTarget ns name target) =
-    changes refl (λ s none. after_image_target state ns name target s)
-each_request state (ImageRemove ns name) =
-    changes refl (λ s none. after_image_remove state ns name s)
-each_request state (ImageGet ns name) = reads refl
+each_request state (ImageAdd asked) = changes refl (after_image_add state asked)
+each_request state (ImageTarget asked) = changes refl (λ s none. after_image_target state asked s)
+each_request state (ImageRemove image) = changes refl (λ s none. after_image_remove state image s)
+each_request state (ImageGet image) = reads refl
 each_request state (ImageList ns) = reads refl
-each_request state (ImageLabel ns name key value) =
-    changes refl (λ s none. after_image_label state ns name key value s)
-each_request state (ContainerAdd ns name snapshotter key labels) =
-    changes refl (after_container_add state ns name snapshotter key labels)
-each_request state (ContainerRemove ns name) =
-    changes refl (λ s none. after_container_remove state ns name s)
-each_request state (ContainerGet ns name) = reads refl
+each_request state (ImageLabel image label) =
+    changes refl (λ s none. after_image_label state image label s)
+each_request state (ContainerAdd asked) = changes refl (after_container_add state asked)
+each_request state (ContainerRemove container) =
+    changes refl (λ s none. after_container_remove state container s)
+each_request state (ContainerGet container) = reads refl
 each_request state (ContainerList ns) = reads refl
-each_request state (ContainerLabel ns name key value) =
-    changes refl (λ s none. after_container_label state ns name key value s)
-each_request state (ContentAdd ns digest labels lease) =
-    changes refl (after_content_add state ns digest labels lease)
-each_request state (ContentRemove ns digest) =
-    changes refl (λ s none. after_content_remove state ns digest s)
-each_request state (ContentGet ns digest) = reads refl
-each_request state (ContentLabel ns digest key value) =
-    changes refl (λ s none. after_content_label state ns digest key value s)
+each_request state (ContainerLabel container label) =
+    changes refl (λ s none. after_container_label state container label s)
+each_request state (ContentAdd asked) = changes refl (after_content_add state asked)
+each_request state (ContentRemove content) =
+    changes refl (λ s none. after_content_remove state content s)
+each_request state (ContentGet content) = reads refl
+each_request state (ContentLabel content label) =
+    changes refl (λ s none. after_content_label state content label s)
 each_request state (ContentList ns) = reads refl
-each_request state (IngestBegin ns name at expected lease) =
-    changes refl (after_ingest_begin state ns name at expected lease)
-each_request state (IngestCommit ns name digest labels lease) =
-    changes refl (after_ingest_commit state ns name digest labels lease)
-each_request state (IngestAbort ns name) =
-    changes refl (λ s none. after_ingest_abort state ns name s)
-each_request state (IngestGet ns name) = reads refl
+each_request state (IngestBegin asked) = changes refl (after_ingest_begin state asked)
+each_request state (IngestCommit asked) = changes refl (after_ingest_commit state asked)
+each_request state (IngestAbort ingest) =
+    changes refl (λ s none. after_ingest_abort state ingest s)
+each_request state (IngestGet ingest) = reads refl
 each_request state (IngestList ns) = reads refl
-each_request state (SnapPrepare ns snapshotter key parent labels lease) =
-    changes refl (after_snap_prepare state ns snapshotter key parent labels lease)
-each_request state (SnapView ns snapshotter key parent labels lease) =
-    changes refl (after_snap_view state ns snapshotter key parent labels lease)
-each_request state (SnapCommit ns snapshotter key name labels lease) =
-    changes refl (after_snap_commit state ns snapshotter key name labels lease)
-each_request state (SnapRemove ns snapshotter key) =
-    changes refl (after_snap_remove state ns snapshotter key)
-each_request state (SnapGet ns snapshotter key) = reads refl
-each_request state (SnapLabel ns snapshotter name key value) =
-    changes refl (λ s none. after_snap_label state ns snapshotter name key value s)
+each_request state (SnapPrepare asked) = changes refl (after_snap_prepare state asked)
+each_request state (SnapView asked) = changes refl (after_snap_view state asked)
+each_request state (SnapCommit asked) = changes refl (after_snap_commit state asked)
+each_request state (SnapRemove snapshot) = changes refl (after_snap_remove state snapshot)
+each_request state (SnapGet snapshot) = reads refl
+each_request state (SnapLabel snapshot label) =
+    changes refl (λ s none. after_snap_label state snapshot label s)
 each_request state (SnapList ns snapshotter) = reads refl
-each_request state (LeaseAdd ns id labels) = changes refl (after_lease_add state ns id labels)
-each_request state (LeaseRemove ns id) = changes refl (λ s none. after_lease_remove state ns id s)
-each_request state (LeaseGet ns id) = reads refl
-each_request state (LeaseLabel ns id key value) =
-    changes refl (λ s none. after_lease_label state ns id key value s)
+each_request state (LeaseAdd asked) = changes refl (after_lease_add state asked)
+each_request state (LeaseRemove lease) = changes refl (λ s none. after_lease_remove state lease s)
+each_request state (LeaseGet lease) = reads refl
+each_request state (LeaseLabel lease label) =
+    changes refl (λ s none. after_lease_label state lease label s)
 each_request state (LeaseList ns) = reads refl
-each_request state (LeaseHold ns id kind resource) =
-    changes refl (λ s none. after_lease_hold state ns id kind resource s)
-each_request state (LeaseDrop ns id kind resource) =
-    changes refl (λ s none. after_lease_drop state ns id kind resource s)
-each_request state (LeaseResources ns id) = reads refl
+each_request state (LeaseHold asked) = changes refl (λ s none. after_lease_hold state asked s)
+each_request state (LeaseDrop asked) = changes refl (λ s none. after_lease_drop state asked s)
+each_request state (LeaseResources lease) = reads refl
 each_request state (Profile v) = changes refl (λ s none. after_profile state v s)
 
 pub quiet : (state : State) (request : Request)

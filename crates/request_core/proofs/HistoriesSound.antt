@@ -28,8 +28,8 @@ request_sound state request s = go (least_fault (outcome state request)) refl
 
 pub removal_sound : (state : State) (removal : Removal) → IsSound state
     → IsSound (removal_outcome state removal).after
-removal_sound state (Removing.Image ns name) s = after_image_remove state ns name s
-removal_sound state (Removing.Lease ns id) s = after_lease_remove state ns id s
+removal_sound state (Removing.Image image) s = after_image_remove state image s
+removal_sound state (Removing.Lease lease) s = after_lease_remove state lease s
 
 pub event_sound : (state : State) (event : Event) (failed : BackNames) (answer : Answer)
     (new : State) → IsSound state → Step state event failed answer new → IsSound new

@@ -18,7 +18,10 @@ use Rattle.meta_types.specs.declared.rows.ContentRow.{ContentRow}
 use Rattle.meta_types.specs.declared.rows.IngestRow.{IngestRow}
 use Rattle.meta_types.specs.declared.rows.SnapRow.{SnapRow}
 use Rattle.meta_types.specs.declared.resource.Resource.TheVariants.{Content, Ingest}
-use Rattle.meta_types.specs.declared.request.Request.TheVariants.{IngestBegin, IngestCommit, IngestAbort}
+use Rattle.meta_types.specs.declared.request.RawName.{RawName}
+use Rattle.meta_types.specs.declared.request.IngestBegin.{IngestBegin}
+use Rattle.meta_types.specs.declared.request.IngestCommit.{IngestCommit}
+use Rattle.meta_types.specs.declared.request.Request.TheVariants as R
 use Rattle.meta_types.proofs.KeepsSound.{all_added, all_removed, any_added, added_any}
 use Rattle.request_core.proofs.ListsSound.{none_applies, sound_content, sound_leases, sound_ingests, still_stored, leases_held}
 use Rattle.object_tables.proofs.PairsKept.{all_put, pairs_put}
@@ -55,10 +58,10 @@ Below next row = row.number < next
 abbrev IsBegun : List ℕ → IngestRow → Type 0
 IsBegun begun row = IsTrue (list_any (λ number. number == row.number) begun)
 
-pub after_ingest_abort : (state : State) (ns name : Text) → IsSound state
-    → IsSound (outcome state (IngestAbort ns name)).after
-after_ingest_abort state ns name s =
-    let key : Key = ns ∷ name ∷ [] in
+pub after_ingest_abort : (state : State) (ingest : RawName) → IsSound state
+    → IsSound (outcome state (R.IngestAbort ingest)).after
+after_ingest_abort state ingest s =
+    let key : Key = ingest.ns ∷ ingest.name ∷ [] in
     let rows = state.records.tables.ingests in
     let next = state.records.next in
     let begun = state.backends.ingests in
@@ -76,24 +79,29 @@ after_ingest_abort state ns name s =
       begun_in_order = s.backed.begun_in_order;
     })
 
-pub after_ingest_commit : (state : State) (ns name digest : Text) (labels : List (Text × Text))
-    (lease : Option Text) → IsSound state
-    → least_fault (outcome state (IngestCommit ns name digest labels lease)) ≡ None
-    → IsSound (outcome state (IngestCommit ns name digest labels lease)).after
-after_ingest_commit state ns name digest labels lease s none =
-    let f = none_applies (outcome state (IngestCommit ns name digest labels lease)) none in
+pub after_ingest_commit : (state : State) (asked : IngestCommit) → IsSound state
+    → least_fault (outcome state (R.IngestCommit asked)) ≡ None
+    → IsSound (outcome state (R.IngestCommit asked)).after
+after_ingest_commit state asked s none =
+    let f = none_applies (outcome state (R.IngestCommit asked)) none in
     let rows = state.records.tables.content in
     let blobs = state.backends.blobs in
-    let row : ContentRow = record { ns = ns; digest = digest; labels = labels_of labels } in
-    let there = (or_parts (lacks state ns lease) _ f.1).0 in
+    let row : ContentRow = record {
+      ns = asked.ingest.ns;
+      digest = asked.digest;
+      labels = labels_of asked.labels;
+    } in
+    let there = (or_parts (lacks state asked.ingest.ns asked.lease) _ f.1).0 in
     let left =
-    with_ingests state (remove_row ingest_key (ns ∷ name ∷ []) state.records.tables.ingests) in
-    let s1 : IsSound left = after_ingest_abort state ns name s in
-    let grown = sound_content left s1 (add_row content_key row rows) (put_blob digest blobs)
+    with_ingests state (remove_row ingest_key
+    (asked.ingest.ns ∷ asked.ingest.name ∷ []) state.records.tables.ingests) in
+    let s1 : IsSound left = after_ingest_abort state asked.ingest s in
+    let grown = sound_content left s1 (add_row content_key row rows) (put_blob asked.digest blobs)
     (content_added left.records.tables s1.tables row (not-false _ (or_parts _ _ there).0) f.2)
     (still_stored rows row blobs s.stored) in
-    sound_leases (with_blob digest (with_content left (add_row content_key row rows))) grown _
-    (leases_held state.records.tables.namespaces ns lease (Content digest) state.records.leases
+    sound_leases (with_blob asked.digest (with_content left (add_row content_key row rows))) grown _
+    (leases_held state.records.tables.namespaces asked.ingest.ns asked.lease
+    (Content asked.digest) state.records.leases
     s.leases)
 
 module _ (state : State) (row : IngestRow) (s : IsSound state)
@@ -110,7 +118,8 @@ module _ (state : State) (row : IngestRow) (s : IsSound state)
   more = put_in_order nat_lt next state.backends.ingests
 
   -- all other numbers are smaller
-  pub tables_begun : AreTables (record state.records.tables { ingests = add_row ingest_key row rows })
+  pub tables_begun : AreTables
+      (record state.records.tables { ingests = add_row ingest_key row rows })
   tables_begun = ingest_added state.records.tables s.tables row there free
       (All-weaker (Below next) (λ other. IsTrue (not (row.number == other.number)))
       (λ other h. not_above other.number row.number (omega (arith, h, numbered))) rows
@@ -146,20 +155,21 @@ module _ (state : State) (row : IngestRow) (s : IsSound state)
             s.backed.begun_in_order;
       })
 
-pub after_ingest_begin : (state : State) (ns name at : Text) (expected lease : Option Text)
-    → IsSound state → least_fault (outcome state (IngestBegin ns name at expected lease)) ≡ None
-    → IsSound (outcome state (IngestBegin ns name at expected lease)).after
-after_ingest_begin state ns name at expected lease s none =
-    let f = none_applies (outcome state (IngestBegin ns name at expected lease)) none in
+pub after_ingest_begin : (state : State) (asked : IngestBegin) → IsSound state
+    → least_fault (outcome state (R.IngestBegin asked)) ≡ None
+    → IsSound (outcome state (R.IngestBegin asked)).after
+after_ingest_begin state asked s none =
+    let f = none_applies (outcome state (R.IngestBegin asked)) none in
     let row : IngestRow = record {
-      ns = ns;
-      name = name;
-      expected = expected;
-      expires = own_end lease at;
+      ns = asked.ingest.ns;
+      name = asked.ingest.name;
+      expected = asked.expected;
+      expires = own_end asked.lease asked.at;
       number = state.records.next;
     } in
     let rows = state.records.tables.ingests in
     sound_leases (with_ingest_object (with_ingests state (add_row ingest_key row rows)))
     (ingest_begun state row s refl (not-false _ (or_parts _ _ f.1).0) f.2) _
-    (leases_held state.records.tables.namespaces ns lease (Ingest name) state.records.leases
+    (leases_held state.records.tables.namespaces asked.ingest.ns asked.lease
+    (Ingest asked.ingest.name) state.records.leases
     s.leases)

@@ -17,49 +17,51 @@ use Rattle.meta_types.specs.declared.rows.SnapRow.{SnapRow}
 use Rattle.meta_types.specs.declared.rows.SnapKind.{SnapKind}
 use Rattle.meta_types.specs.declared.rows.SnapKind.TheVariants.{Active, View}
 use Rattle.meta_types.specs.declared.resource.Resource.TheVariants.{Snapshot}
+use Rattle.meta_types.specs.declared.request.SnapAdd.{SnapAdd}
 use Rattle.meta_types.specs.declared.request.Request.TheVariants.{SnapPrepare, SnapView}
 use Rattle.request_core.proofs.ListsSound.{none_applies, sound_leases, leases_held}
 use Rattle.object_tables.proofs.ParentsKept.{has_parent}
 use Rattle.request_core.proofs.MadeSound.{parent_below, snap_made}
 
 -- what requests ask for is enough
-after_prepares : (state : State) (kind : SnapKind) (ns snapshotter key : Text)
-    (parent : Option Text) (labels : List (Text × Text)) (lease : Option Text) → IsSound state
-    → least_fault (prepares state kind ns snapshotter key parent labels lease) ≡ None
-    → IsSound (prepares state kind ns snapshotter key parent labels lease).after
-after_prepares state kind ns snapshotter key parent labels lease s none =
-    let f = none_applies (prepares state kind ns snapshotter key parent labels lease) none in
+after_prepares : (state : State) (kind : SnapKind) (asked : SnapAdd) → IsSound state
+    → least_fault (prepares state kind asked) ≡ None
+    → IsSound (prepares state kind asked).after
+after_prepares state kind asked s none =
+    let f = none_applies (prepares state kind asked) none in
     let rows = state.records.tables.snapshots in
-    let above = parent_row rows ns snapshotter parent in
+    let above = parent_row rows asked.snapshot.ns asked.snapshot.snapshotter asked.parent in
     let new : SnapRow = record {
-      key = record { ns = ns; snapshotter = snapshotter; name = key };
+      key = record {
+        ns = asked.snapshot.ns;
+        snapshotter = asked.snapshot.snapshotter;
+        name = asked.snapshot.name;
+      };
       kind = kind;
-      parent = parent;
+      parent = asked.parent;
       number = state.records.next;
-      labels = labels_of labels;
+      labels = labels_of asked.labels;
     } in
-    let missing = or_parts (lacks state ns lease) (is_some parent && is_none above) f.1 in
+    let missing = or_parts (lacks state asked.snapshot.ns asked.lease)
+    (is_some asked.parent && is_none above) f.1 in
     let forbidden = or_parts
     (option_map_or (λ (row : SnapRow). not (is_committed row.kind)) above false)
     (is_out_of_numbers state) f.3 in
     let grown = snap_made state new s refl (not-false _ (or_parts _ _ missing.0).0) f.2
     (has_parent rows new missing.1 forbidden.0 (parent_below state new s refl)) in
     sound_leases
-    (with_snapshot_object snapshotter (option_map (λ row. row.number) above)
+    (with_snapshot_object asked.snapshot.snapshotter (option_map (λ row. row.number) above)
     (with_snapshots state (add_row snap_key new rows))) grown _
-    (leases_held state.records.tables.namespaces ns lease (Snapshot snapshotter key)
+    (leases_held state.records.tables.namespaces asked.snapshot.ns asked.lease
+    (Snapshot asked.snapshot.snapshotter asked.snapshot.name)
     state.records.leases s.leases)
 
-pub after_snap_prepare : (state : State) (ns snapshotter key : Text) (parent : Option Text)
-    (labels : List (Text × Text)) (lease : Option Text) → IsSound state
-    → least_fault (outcome state (SnapPrepare ns snapshotter key parent labels lease)) ≡ None
-    → IsSound (outcome state (SnapPrepare ns snapshotter key parent labels lease)).after
-after_snap_prepare state ns snapshotter key parent labels lease s none =
-    after_prepares state Active ns snapshotter key parent labels lease s none
+pub after_snap_prepare : (state : State) (asked : SnapAdd) → IsSound state
+    → least_fault (outcome state (SnapPrepare asked)) ≡ None
+    → IsSound (outcome state (SnapPrepare asked)).after
+after_snap_prepare state asked s none = after_prepares state Active asked s none
 
-pub after_snap_view : (state : State) (ns snapshotter key : Text) (parent : Option Text)
-    (labels : List (Text × Text)) (lease : Option Text) → IsSound state
-    → least_fault (outcome state (SnapView ns snapshotter key parent labels lease)) ≡ None
-    → IsSound (outcome state (SnapView ns snapshotter key parent labels lease)).after
-after_snap_view state ns snapshotter key parent labels lease s none =
-    after_prepares state View ns snapshotter key parent labels lease s none
+pub after_snap_view : (state : State) (asked : SnapAdd) → IsSound state
+    → least_fault (outcome state (SnapView asked)) ≡ None
+    → IsSound (outcome state (SnapView asked)).after
+after_snap_view state asked s none = after_prepares state View asked s none

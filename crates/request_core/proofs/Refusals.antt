@@ -1,6 +1,7 @@
 -- A refusal of a layer below is the request's own.
-use Rattle.std.proofs.Common.{◌≡◌, Bool, true, false, not, List, Option, refl}
-use Rattle.std.specs.Prelude.{Result, Err, is_none, ◌||◌}
+use Rattle.std.proofs.Common.{◌≡◌, Bool, true, false, not, ◌&&◌, List, [], ◌∷◌, Option, refl, sym, subst, true≢false}
+use Rattle.std.specs.Prelude.{Result, Ok, Err, is_none, ◌||◌}
+use Rattle.std.specs.Result.{IsErrAnd}
 use Rattle.meta_types.specs.Text.{Text}
 use Rattle.meta_types.specs.Labels.{LabelList}
 use Rattle.meta_types.specs.Rows.{State}
@@ -12,7 +13,7 @@ use Rattle.meta_types.specs.declared.fault.Fault.{Fault}
 use Rattle.meta_types.specs.declared.fault.Fault.TheVariants.{InvalidArgument, NotFound, AlreadyExists, FailedPrecondition, OutOfMemory}
 use Rattle.request_core.specs.Follows.{Store, FailsExactly, FollowsExactly, ReadsTexts, left_by, reading}
 use Rattle.request_core.specs.declared.refusal.Refusal.{Refusal}
-use Rattle.request_core.specs.declared.refusal.Refusal.TheVariants.{By}
+use Rattle.request_core.specs.declared.refusal.Refusal.TheVariants.{Reading, By}
 
 abbrev pub err_of : (X : Type 0) → Fault → Result X Fault
 err_of X f = Err f
@@ -25,6 +26,27 @@ not_read X Y fault true value r is h =
 not_read X Y fault false value r is h =
     let same : fault ≡ InvalidArgument = h in
     rw (is, same) (refl, refl)
+
+both_false : (a b rest : Bool) → (a && (b && true)) ≡ false → (a && (b && rest)) ≡ false
+both_false true true rest e = absurd (true≢false e)
+both_false true false rest e = refl
+both_false false b rest e = refl
+
+less_read : {X Y : Type 0} (r : Refusal) (a b : Bool) (rest : List Bool) (x : X) (y : Y)
+    → ReadsTexts {X = X} (Err r) (all_of (a ∷ b ∷ [])) x
+    → ReadsTexts {X = Y} (Err r) (all_of (a ∷ b ∷ rest)) y
+less_read Reading a b rest x y h = tt
+less_read (By fault) a b rest x y h = (h.0, both_false a b (all_of rest) h.1)
+
+-- where the first two texts aren't read, none of the others is
+pub first_unread : {X Y : Type 0} (result : Result Y Refusal) (r : Refusal) (a b : Bool)
+    (rest : List Bool) (x : X) (y : Y) → IsErrAnd result (λ other. other ≡ r)
+    → ReadsTexts {X = X} (Err r) (all_of (a ∷ b ∷ [])) x
+    → ReadsTexts result (all_of (a ∷ b ∷ rest)) y
+first_unread (Ok z) r a b rest x y same h = absurd same
+first_unread {X = X} {Y = Y} (Err other) r a b rest x y same h =
+    subst (λ (o : Refusal). ReadsTexts {X = Y} (Err o) (all_of (a ∷ b ∷ rest)) y) (sym same)
+    (less_read {X = X} {Y = Y} r a b rest x y h)
 
 -- what a layer below refuses by these tests
 pub refused_exactly : (old new : Store) (f : Fault) (invalid missing there forbidden : Bool) → Refuses (err_of (Unit {0}) f) (least_of invalid missing there forbidden) → new ≡ old

@@ -11,6 +11,8 @@ use Rattle.meta_types.specs.Ops.{least_fault}
 use Rattle.meta_types.specs.Requests.{outcome}
 use Rattle.meta_types.specs.Sound.{HaveObjects, HasParent, IsSound}
 use Rattle.meta_types.specs.declared.rows.SnapRow.{SnapRow}
+use Rattle.meta_types.specs.declared.raw.RawLabel.{RawLabel}
+use Rattle.meta_types.specs.declared.request.RawSnapshot.{RawSnapshot}
 use Rattle.meta_types.specs.declared.request.Request.TheVariants.{SnapRemove, SnapLabel}
 use Rattle.meta_types.proofs.KeepsSound.{all_removed, all_changed}
 use Rattle.request_core.proofs.ListsSound.{none_applies, sound_snapshots}
@@ -41,12 +43,12 @@ rows_backed state rows s below objects = record {
 
 -- ---- labels and removals
 
-pub after_snap_label : (state : State) (ns snapshotter name key value : Text) → IsSound state
-    → IsSound (outcome state (SnapLabel ns snapshotter name key value)).after
-after_snap_label state ns snapshotter name key value s =
+pub after_snap_label : (state : State) (snapshot : RawSnapshot) (label : RawLabel) → IsSound state
+    → IsSound (outcome state (SnapLabel snapshot label)).after
+after_snap_label state snapshot label s =
     let rows = state.records.tables.snapshots in
-    let place : Key = ns ∷ snapshotter ∷ name ∷ [] in
-    let labels_in : SnapRow → LabelList = λ row. put_label key value row.labels in
+    let place : Key = snapshot.ns ∷ snapshot.snapshotter ∷ snapshot.name ∷ [] in
+    let labels_in : SnapRow → LabelList = λ row. put_label label.key label.value row.labels in
     let after = change_row snap_key place (relabel labels_in) rows in
     let numbers : All (λ row. number_above after row ≡ number_above rows row) rows =
     All-weaker (HasParent rows) (λ row. number_above after row ≡ number_above rows row)
@@ -62,23 +64,28 @@ after_snap_label state ns snapshotter name key value s =
     (λ row h. h)
     rows (objects_kept state.backends.snapshots rows after rows numbers s.backed.objects)))
 
-pub after_snap_remove : (state : State) (ns snapshotter key : Text) → IsSound state
-    → least_fault (outcome state (SnapRemove ns snapshotter key)) ≡ None
-    → IsSound (outcome state (SnapRemove ns snapshotter key)).after
-after_snap_remove state ns snapshotter key s none =
-    let f = none_applies (outcome state (SnapRemove ns snapshotter key)) none in
+pub after_snap_remove : (state : State) (snapshot : RawSnapshot) → IsSound state
+    → least_fault (outcome state (SnapRemove snapshot)) ≡ None
+    → IsSound (outcome state (SnapRemove snapshot)).after
+after_snap_remove state snapshot s none =
+    let f = none_applies (outcome state (SnapRemove snapshot)) none in
     let rows = state.records.tables.snapshots in
-    let gone : Key = ns ∷ snapshotter ∷ key ∷ [] in
+    let gone : Key = snapshot.ns ∷ snapshot.snapshotter ∷ snapshot.name ∷ [] in
     let after = remove_row snap_key gone rows in
     let numbers : All (λ row. number_above after row ≡ number_above rows row) rows =
-    all_both (λ row. is_child_of ns snapshotter key row ≡ false) (HasParent rows)
+    all_both (λ row. is_child_of snapshot.ns snapshot.snapshotter snapshot.name row ≡ false)
+    (HasParent rows)
     (λ row. number_above after row ≡ number_above rows row)
     (λ row no has. (parent_kept rows after row
-    (λ n e. stays_removed gone (key_above row n) rows (other_parent ns snapshotter key row n no e))
+    (λ n e. stays_removed gone (key_above row n) rows
+    (other_parent snapshot.ns snapshot.snapshotter snapshot.name row n no e))
     has).1)
-    rows (each_fails (is_child_of ns snapshotter key) rows f.3) s.tables.numbered.parents in
+    rows (each_fails
+    (is_child_of snapshot.ns snapshot.snapshotter snapshot.name) rows f.3) s.tables.numbered.parents
+    in
     sound_snapshots state s after state.records.next state.backends.snapshots
-    (snap_removed state.records.tables s.tables ns snapshotter key f.3) (rows_backed state after s
+    (snap_removed state.records.tables s.tables snapshot.ns snapshot.snapshotter snapshot.name f.3)
+    (rows_backed state after s
     (all_removed snap_key (λ (row : SnapRow). row.number < state.records.next) gone rows
     s.backed.snapshots_below)
     (all_removed snap_key (HasObject state.backends.snapshots after) gone rows

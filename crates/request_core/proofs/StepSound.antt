@@ -12,7 +12,12 @@ use Rattle.meta_types.specs.Requests.{outcome}
 use Rattle.meta_types.specs.Sound.{IsSound}
 use Rattle.meta_types.specs.declared.rows.ImageRow.{ImageRow}
 use Rattle.meta_types.specs.declared.rows.ContainerRow.{ContainerRow}
-use Rattle.meta_types.specs.declared.request.Request.TheVariants.{NsAdd, NsRemove, ImageAdd, ImageTarget, ImageRemove, ImageLabel, ContainerAdd, ContainerRemove, ContainerLabel}
+use Rattle.meta_types.specs.declared.raw.RawLabel.{RawLabel}
+use Rattle.meta_types.specs.declared.request.RawName.{RawName}
+use Rattle.meta_types.specs.declared.request.ImageAdd.{ImageAdd}
+use Rattle.meta_types.specs.declared.request.ImageTarget.{ImageTarget}
+use Rattle.meta_types.specs.declared.request.ContainerAdd.{ContainerAdd}
+use Rattle.meta_types.specs.declared.request.Request.TheVariants as R
 use Rattle.meta_types.proofs.KeepsSound.{rows_among, any_added}
 use Rattle.object_tables.proofs.OtherTables.{unused, namespace_added, namespace_removed}
 use Rattle.object_tables.proofs.TablesKept.{image_added, image_removed, image_changed, container_added, container_removed, container_changed}
@@ -21,9 +26,9 @@ use Rattle.request_core.proofs.ListsSound.{none_applies, sound_images, sound_con
 -- ---- namespaces
 
 pub after_ns_add : (state : State) (ns : Text) → IsSound state
-    → least_fault (outcome state (NsAdd ns)) ≡ None → IsSound (outcome state (NsAdd ns)).after
+    → least_fault (outcome state (R.NsAdd ns)) ≡ None → IsSound (outcome state (R.NsAdd ns)).after
 after_ns_add state ns s none =
-    let f = none_applies (outcome state (NsAdd ns)) none in
+    let f = none_applies (outcome state (R.NsAdd ns)) none in
     let old = state.records.tables.namespaces in
     record {
       tables = namespace_added state.records.tables s.tables ns f.2;
@@ -36,9 +41,10 @@ after_ns_add state ns s none =
     }
 
 pub after_ns_remove : (state : State) (ns : Text) → IsSound state
-    → least_fault (outcome state (NsRemove ns)) ≡ None → IsSound (outcome state (NsRemove ns)).after
+    → least_fault (outcome state (R.NsRemove ns)) ≡ None → IsSound (outcome state
+    (R.NsRemove ns)).after
 after_ns_remove state ns s none =
-    let f = none_applies (outcome state (NsRemove ns)) none in
+    let f = none_applies (outcome state (R.NsRemove ns)) none in
     let old = state.records.tables.namespaces in
     let leases = state.records.leases in
     let free = or_parts _ (list_any (λ (row : LeaseRow). bytes_eq ns row.ns) leases) f.3 in
@@ -53,60 +59,67 @@ after_ns_remove state ns s none =
 
 -- ---- images
 
-pub after_image_add : (state : State) (ns name target : Text) (labels : List (Text × Text))
-    → IsSound state → least_fault (outcome state (ImageAdd ns name target labels)) ≡ None
-    → IsSound (outcome state (ImageAdd ns name target labels)).after
-after_image_add state ns name target labels s none =
-    let f = none_applies (outcome state (ImageAdd ns name target labels)) none in
-    let row : ImageRow =
-    record { ns = ns; name = name; target = target; labels = labels_of labels } in
+pub after_image_add : (state : State) (asked : ImageAdd) → IsSound state
+    → least_fault (outcome state (R.ImageAdd asked)) ≡ None
+    → IsSound (outcome state (R.ImageAdd asked)).after
+after_image_add state asked s none =
+    let f = none_applies (outcome state (R.ImageAdd asked)) none in
+    let row : ImageRow = record {
+      ns = asked.image.ns;
+      name = asked.image.name;
+      target = asked.target;
+      labels = labels_of asked.labels;
+    } in
     sound_images state s _
     (image_added state.records.tables s.tables row (not-false _ (or_parts _ _ f.1).0) f.2)
 
-pub after_image_target : (state : State) (ns name target : Text) → IsSound state
-    → IsSound (outcome state (ImageTarget ns name target)).after
-after_image_target state ns name target s =
+pub after_image_target : (state : State) (asked : ImageTarget) → IsSound state
+    → IsSound (outcome state (R.ImageTarget asked)).after
+after_image_target state asked s =
     sound_images state s _
-    (image_changed state.records.tables s.tables (ns ∷ name ∷ [])
-    (λ row. record row { target = target }) (λ row. refl) (λ row. refl))
+    (image_changed state.records.tables s.tables (asked.image.ns ∷ asked.image.name ∷ [])
+    (λ row. record row { target = asked.target }) (λ row. refl) (λ row. refl))
 
-pub after_image_remove : (state : State) (ns name : Text) → IsSound state
-    → IsSound (outcome state (ImageRemove ns name)).after
-after_image_remove state ns name s =
-    sound_images state s _ (image_removed state.records.tables s.tables (ns ∷ name ∷ []))
+pub after_image_remove : (state : State) (image : RawName) → IsSound state
+    → IsSound (outcome state (R.ImageRemove image)).after
+after_image_remove state image s =
+    sound_images state s _ (image_removed state.records.tables s.tables
+    (image.ns ∷ image.name ∷ []))
 
-pub after_image_label : (state : State) (ns name key value : Text) → IsSound state
-    → IsSound (outcome state (ImageLabel ns name key value)).after
-after_image_label state ns name key value s =
+pub after_image_label : (state : State) (image : RawName) (label : RawLabel) → IsSound state
+    → IsSound (outcome state (R.ImageLabel image label)).after
+after_image_label state image label s =
     sound_images state s _
-    (image_changed state.records.tables s.tables (ns ∷ name ∷ [])
-    (λ row. record row { labels = put_label key value row.labels }) (λ row. refl) (λ row. refl))
+    (image_changed state.records.tables s.tables (image.ns ∷ image.name ∷ [])
+    (λ row. record row { labels = put_label label.key label.value row.labels }) (λ row. refl)
+    (λ row. refl))
 
 -- ---- containers
 
-pub after_container_add : (state : State) (ns name : Text) (snapshotter key : Option Text)
-    (labels : List (Text × Text)) → IsSound state
-    → least_fault (outcome state (ContainerAdd ns name snapshotter key labels)) ≡ None
-    → IsSound (outcome state (ContainerAdd ns name snapshotter key labels)).after
-after_container_add state ns name snapshotter key labels s none =
-    let f = none_applies (outcome state (ContainerAdd ns name snapshotter key labels)) none in
+pub after_container_add : (state : State) (asked : ContainerAdd) → IsSound state
+    → least_fault (outcome state (R.ContainerAdd asked)) ≡ None
+    → IsSound (outcome state (R.ContainerAdd asked)).after
+after_container_add state asked s none =
+    let f = none_applies (outcome state (R.ContainerAdd asked)) none in
     let row : ContainerRow = record {
-      ns = ns;
-      name = name;
-      snapshot = option_and_then (λ s. option_map (λ k. (s, k)) key) snapshotter;
-      labels = labels_of labels;
+      ns = asked.container.ns;
+      name = asked.container.name;
+      snapshot = option_and_then (λ s. option_map (λ k. (s, k)) asked.key) asked.snapshotter;
+      labels = labels_of asked.labels;
     } in
     sound_containers state s _
     (container_added state.records.tables s.tables row (not-false _ (or_parts _ _ f.1).0) f.2)
 
-pub after_container_remove : (state : State) (ns name : Text) → IsSound state
-    → IsSound (outcome state (ContainerRemove ns name)).after
-after_container_remove state ns name s =
-    sound_containers state s _ (container_removed state.records.tables s.tables (ns ∷ name ∷ []))
+pub after_container_remove : (state : State) (container : RawName) → IsSound state
+    → IsSound (outcome state (R.ContainerRemove container)).after
+after_container_remove state container s =
+    sound_containers state s _ (container_removed state.records.tables s.tables
+    (container.ns ∷ container.name ∷ []))
 
-pub after_container_label : (state : State) (ns name key value : Text) → IsSound state
-    → IsSound (outcome state (ContainerLabel ns name key value)).after
-after_container_label state ns name key value s =
+pub after_container_label : (state : State) (container : RawName) (label : RawLabel) → IsSound state
+    → IsSound (outcome state (R.ContainerLabel container label)).after
+after_container_label state container label s =
     sound_containers state s _
-    (container_changed state.records.tables s.tables (ns ∷ name ∷ [])
-    (λ row. record row { labels = put_label key value row.labels }) (λ row. refl) (λ row. refl))
+    (container_changed state.records.tables s.tables (container.ns ∷ container.name ∷ [])
+    (λ row. record row { labels = put_label label.key label.value row.labels }) (λ row. refl)
+    (λ row. refl))

@@ -29,7 +29,7 @@ module _ {Row : Type 0} (key_of : Row → Key) where
         rw (f, absent.0) (ap (λ (rs : List Row). next ∷ rs) (removed_added row rows absent.1)))
   ]
 
--- a resource that a lease came to hold is dropped again
+-- a resource that a lease arrived to hold is dropped again
 dropped_held : (key : Key) (resource : Resource) (rows : List LeaseRow) → lease_holds key resource rows ≡ false → release_in_lease key resource (hold_in_lease key resource rows) ≡ rows
 dropped_held key resource [] free = refl
 dropped_held key resource (row ∷ rows) free = elim (cases_Bool (is_key key (lease_key row))) [

@@ -14,12 +14,14 @@ use Rattle.request_line.specs.Table.{members_of, asked_of}
 use Rattle.request_line.specs.Lines.{op_in, are_of, asked_with, asked_by, asked_from, asked_in}
 
 -- a value that names an op and has its members asks for it
-pub asked_by-op : (ms : Members) (op : Op) → op_in ms ≡ Some op → are_of (members_of op) ms ≡ true → asked_by ms ≡ Some (asked_of op ms)
+pub asked_by-op : (ms : Members) (op : Op) → op_in ms ≡ Some op → are_of (members_of op) ms ≡ true
+    → asked_by ms ≡ Some (asked_of op ms)
 unfolding asked_by
 asked_by-op ms op named fits = ap (option_and_then (asked_with ms)) named ∙ rw fits refl
 
 -- one that hasn't its members asks for nothing
-pub asked_by-misfit : (ms : Members) (op : Op) → op_in ms ≡ Some op → are_of (members_of op) ms ≡ false → asked_by ms ≡ None
+pub asked_by-misfit : (ms : Members) (op : Op) → op_in ms ≡ Some op
+    → are_of (members_of op) ms ≡ false → asked_by ms ≡ None
 unfolding asked_by
 asked_by-misfit ms op named fits = ap (option_and_then (asked_with ms)) named ∙ rw fits refl
 
@@ -29,7 +31,8 @@ unfolding asked_by
 asked_by-no_op ms named = ap (option_and_then (asked_with ms)) named
 
 -- an object asks for what its members ask for
-pub asked_from-object : (d : Data) (ms : Members) → as_object d ≡ Some ms → asked_from d ≡ asked_by ms
+pub asked_from-object : (d : Data) (ms : Members) → as_object d ≡ Some ms
+    → asked_from d ≡ asked_by ms
 unfolding asked_from
 asked_from-object d ms is = ap (option_and_then asked_by) is
 
@@ -39,7 +42,8 @@ unfolding asked_from
 asked_from-other d is = ap (option_and_then asked_by) is
 
 -- a line of JSON asks for what its value asks for
-pub asked_in-value : (line : List ℕ) (d : Data) → is_utf8 line ≡ true → read line ≡ Some d → asked_in line ≡ asked_from d
+pub asked_in-value : (line : List ℕ) (d : Data) → is_utf8 line ≡ true → read line ≡ Some d
+    → asked_in line ≡ asked_from d
 unfolding asked_in
 asked_in-value line d text value = rw (text, value) refl
 
@@ -53,7 +57,8 @@ asked_in-no_text : (line : List ℕ) → is_utf8 line ≡ false → asked_in lin
 unfolding asked_in
 asked_in-no_text line text = rw text refl
 
-unread_by : (line : List ℕ) (text : Bool) → is_utf8 line ≡ text → (IsUtf8 line → read line ≡ None) → asked_in line ≡ None
+unread_by : (line : List ℕ) (text : Bool) → is_utf8 line ≡ text → (IsUtf8 line → read line ≡ None)
+    → asked_in line ≡ None
 unread_by line true is none = asked_in-no_value line is (none (IsUtf8-from_is_utf8 line is))
 unread_by line false is none = asked_in-no_text line is
 
@@ -62,6 +67,7 @@ pub asked_in-unread : (line : List ℕ) → (IsUtf8 line → read line ≡ None)
 asked_in-unread line none = unread_by line (is_utf8 line) refl none
 
 -- where a call is refused with OutOfMemory only, the line is unread for that reason
-pub unread_of_memory : {X : Type 0} (r : Result X Fault) (asked : Option Asked) → Refuses r None → IfErr r (IsUnread asked)
+pub unread_of_memory : {X : Type 0} (r : Result X Fault) (asked : Option Asked) → Refuses r None
+    → IfErr r (IsUnread asked)
 unread_of_memory (Ok x) asked wants = tt
 unread_of_memory (Err fault) asked wants = inl wants

@@ -1,4 +1,4 @@
 pub mod Checks
-pub mod Taking
 pub mod Asking
 pub mod RawLabels
+pub mod LineMembers

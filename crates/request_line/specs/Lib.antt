@@ -2,4 +2,4 @@ pub mod Members
 pub mod Table
 pub mod Lines
 pub mod Refusals
-pub mod Taking
+pub mod LineMembers

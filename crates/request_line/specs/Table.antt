@@ -7,6 +7,12 @@ use Rattle.std.specs.Option.{option_map_or}
 use Rattle.std.specs.Str.{bytes_eq}
 use Rattle.serde_json.specs.Data as json
 use Rattle.meta_types.specs.Text.{Text}
+use Rattle.meta_types.specs.declared.raw.RawLabel.{RawLabel}
+use Rattle.meta_types.specs.declared.request.RawName.{RawName}
+use Rattle.meta_types.specs.declared.request.RawContent.{RawContent}
+use Rattle.meta_types.specs.declared.request.RawSnapshot.{RawSnapshot}
+use Rattle.meta_types.specs.declared.request.SnapAdd.{SnapAdd}
+use Rattle.meta_types.specs.declared.request.LeaseResource.{LeaseResource}
 use Rattle.meta_types.specs.declared.request.Request.{Request}
 use Rattle.meta_types.specs.declared.request.Request.TheVariants as R
 use Rattle.meta_types.specs.declared.request.Removal.{Removal}
@@ -54,6 +60,32 @@ f & x = record {
   said = λ ms. f.said ms (x.said ms);
 }
 
+-- ---- what several ops read
+
+-- a namespace, and a name in it
+abbrev pub named : String → Reads RawName
+named key = asks (λ ns name. record { ns = ns; name = name }) & text "ns" & text key
+
+-- what names content
+abbrev pub content : Reads RawContent
+content = asks (λ ns digest. record { ns = ns; digest = digest }) & text "ns" & text "digest"
+
+-- what names a snapshot
+abbrev pub snapshot : String → Reads RawSnapshot
+snapshot key = asks (λ ns snapshotter name. record { ns = ns; snapshotter = snapshotter; name = name }) & text "ns" & text "snapshotter" & text key
+
+-- one label
+abbrev pub label : Reads RawLabel
+label = asks (λ key value. record { key = key; value = value }) & text "key" & text "value"
+
+-- a new snapshot
+abbrev pub new_snapshot : Reads SnapAdd
+new_snapshot = asks (λ snapshot parent labels lease. record { snapshot = snapshot; parent = parent; labels = labels; lease = lease }) & snapshot "key" & optional_text "parent" & labels & optional_text "lease"
+
+-- a lease, and a resource
+abbrev pub resource : Reads LeaseResource
+resource = asks (λ lease kind resource. record { lease = lease; kind = kind; resource = resource }) & named "id" & text "type" & text "resource"
+
 -- ---- the table
 
 -- a row: the name of an op, and what is read of its line
@@ -69,49 +101,49 @@ abbrev pub request : String → Reads Request → OpRow
 request op reads = row op (asks A.Request & reads)
 
 -- a removal; with a moment to collect at, one event with the collection
-abbrev pub removes : (Text → Text → Removal) → (Text → Text → Request) → Text → Text → Option Text → Asked
-removes removal request ns name sync = option_map_or (A.Remove (removal ns name)) sync (A.Request (request ns name))
+abbrev pub removes : (RawName → Removal) → (RawName → Request) → RawName → Option Text → Asked
+removes removal request name sync = option_map_or (A.Remove (removal name)) sync (A.Request (request name))
 
 abbrev pub row_of : Op → OpRow
 row_of NsAdd = request "ns.add" (asks R.NsAdd & text "ns")
 row_of NsRemove = request "ns.remove" (asks R.NsRemove & text "ns")
 row_of NsList = request "ns.list" (asks R.NsList)
-row_of ImageAdd = request "image.add" (asks R.ImageAdd & text "ns" & text "name" & text "target" & labels)
-row_of ImageTarget = request "image.target" (asks R.ImageTarget & text "ns" & text "name" & text "target")
-row_of ImageRemove = row "image.remove" (asks (removes Removing.Image R.ImageRemove) & text "ns" & text "name" & optional_text "sync")
-row_of ImageGet = request "image.get" (asks R.ImageGet & text "ns" & text "name")
+row_of ImageAdd = request "image.add" (asks (λ image target labels. R.ImageAdd (record { image = image; target = target; labels = labels })) & named "name" & text "target" & labels)
+row_of ImageTarget = request "image.target" (asks (λ image target. R.ImageTarget (record { image = image; target = target })) & named "name" & text "target")
+row_of ImageRemove = row "image.remove" (asks (removes Removing.Image R.ImageRemove) & named "name" & optional_text "sync")
+row_of ImageGet = request "image.get" (asks R.ImageGet & named "name")
 row_of ImageList = request "image.list" (asks R.ImageList & text "ns")
-row_of ImageLabel = request "image.label" (asks R.ImageLabel & text "ns" & text "name" & text "key" & text "value")
-row_of ContainerAdd = request "container.add" (asks R.ContainerAdd & text "ns" & text "name" & optional_text "snapshotter" & optional_text "key" & labels)
-row_of ContainerRemove = request "container.remove" (asks R.ContainerRemove & text "ns" & text "name")
-row_of ContainerGet = request "container.get" (asks R.ContainerGet & text "ns" & text "name")
+row_of ImageLabel = request "image.label" (asks R.ImageLabel & named "name" & label)
+row_of ContainerAdd = request "container.add" (asks (λ container snapshotter key labels. R.ContainerAdd (record { container = container; snapshotter = snapshotter; key = key; labels = labels })) & named "name" & optional_text "snapshotter" & optional_text "key" & labels)
+row_of ContainerRemove = request "container.remove" (asks R.ContainerRemove & named "name")
+row_of ContainerGet = request "container.get" (asks R.ContainerGet & named "name")
 row_of ContainerList = request "container.list" (asks R.ContainerList & text "ns")
-row_of ContainerLabel = request "container.label" (asks R.ContainerLabel & text "ns" & text "name" & text "key" & text "value")
-row_of ContentAdd = request "content.add" (asks R.ContentAdd & text "ns" & text "digest" & labels & optional_text "lease")
-row_of ContentRemove = request "content.remove" (asks R.ContentRemove & text "ns" & text "digest")
-row_of ContentGet = request "content.get" (asks R.ContentGet & text "ns" & text "digest")
-row_of ContentLabel = request "content.label" (asks R.ContentLabel & text "ns" & text "digest" & text "key" & text "value")
+row_of ContainerLabel = request "container.label" (asks R.ContainerLabel & named "name" & label)
+row_of ContentAdd = request "content.add" (asks (λ content labels lease. R.ContentAdd (record { content = content; labels = labels; lease = lease })) & content & labels & optional_text "lease")
+row_of ContentRemove = request "content.remove" (asks R.ContentRemove & content)
+row_of ContentGet = request "content.get" (asks R.ContentGet & content)
+row_of ContentLabel = request "content.label" (asks R.ContentLabel & content & label)
 row_of ContentList = request "content.list" (asks R.ContentList & text "ns")
-row_of IngestBegin = request "ingest.begin" (asks R.IngestBegin & text "ns" & text "ref" & text "at" & optional_text "expected" & optional_text "lease")
-row_of IngestCommit = request "ingest.commit" (asks R.IngestCommit & text "ns" & text "ref" & text "digest" & labels & optional_text "lease")
-row_of IngestAbort = request "ingest.abort" (asks R.IngestAbort & text "ns" & text "ref")
-row_of IngestGet = request "ingest.get" (asks R.IngestGet & text "ns" & text "ref")
+row_of IngestBegin = request "ingest.begin" (asks (λ ingest at expected lease. R.IngestBegin (record { ingest = ingest; at = at; expected = expected; lease = lease })) & named "ref" & text "at" & optional_text "expected" & optional_text "lease")
+row_of IngestCommit = request "ingest.commit" (asks (λ ingest digest labels lease. R.IngestCommit (record { ingest = ingest; digest = digest; labels = labels; lease = lease })) & named "ref" & text "digest" & labels & optional_text "lease")
+row_of IngestAbort = request "ingest.abort" (asks R.IngestAbort & named "ref")
+row_of IngestGet = request "ingest.get" (asks R.IngestGet & named "ref")
 row_of IngestList = request "ingest.list" (asks R.IngestList & text "ns")
-row_of SnapPrepare = request "snap.prepare" (asks R.SnapPrepare & text "ns" & text "snapshotter" & text "key" & optional_text "parent" & labels & optional_text "lease")
-row_of SnapView = request "snap.view" (asks R.SnapView & text "ns" & text "snapshotter" & text "key" & optional_text "parent" & labels & optional_text "lease")
-row_of SnapCommit = request "snap.commit" (asks R.SnapCommit & text "ns" & text "snapshotter" & text "key" & text "name" & labels & optional_text "lease")
-row_of SnapRemove = request "snap.remove" (asks R.SnapRemove & text "ns" & text "snapshotter" & text "key")
-row_of SnapGet = request "snap.get" (asks R.SnapGet & text "ns" & text "snapshotter" & text "key")
-row_of SnapLabel = request "snap.label" (asks R.SnapLabel & text "ns" & text "snapshotter" & text "name" & text "key" & text "value")
+row_of SnapPrepare = request "snap.prepare" (asks R.SnapPrepare & new_snapshot)
+row_of SnapView = request "snap.view" (asks R.SnapView & new_snapshot)
+row_of SnapCommit = request "snap.commit" (asks (λ snapshot name labels lease. R.SnapCommit (record { snapshot = snapshot; name = name; labels = labels; lease = lease })) & snapshot "key" & text "name" & labels & optional_text "lease")
+row_of SnapRemove = request "snap.remove" (asks R.SnapRemove & snapshot "key")
+row_of SnapGet = request "snap.get" (asks R.SnapGet & snapshot "key")
+row_of SnapLabel = request "snap.label" (asks R.SnapLabel & snapshot "name" & label)
 row_of SnapList = request "snap.list" (asks R.SnapList & text "ns" & text "snapshotter")
-row_of LeaseAdd = request "lease.add" (asks R.LeaseAdd & text "ns" & text "id" & labels)
-row_of LeaseRemove = row "lease.remove" (asks (removes Removing.Lease R.LeaseRemove) & text "ns" & text "id" & optional_text "sync")
-row_of LeaseGet = request "lease.get" (asks R.LeaseGet & text "ns" & text "id")
-row_of LeaseLabel = request "lease.label" (asks R.LeaseLabel & text "ns" & text "id" & text "key" & text "value")
+row_of LeaseAdd = request "lease.add" (asks (λ lease labels. R.LeaseAdd (record { lease = lease; labels = labels })) & named "id" & labels)
+row_of LeaseRemove = row "lease.remove" (asks (removes Removing.Lease R.LeaseRemove) & named "id" & optional_text "sync")
+row_of LeaseGet = request "lease.get" (asks R.LeaseGet & named "id")
+row_of LeaseLabel = request "lease.label" (asks R.LeaseLabel & named "id" & label)
 row_of LeaseList = request "lease.list" (asks R.LeaseList & text "ns")
-row_of LeaseHold = request "lease.hold" (asks R.LeaseHold & text "ns" & text "id" & text "type" & text "resource")
-row_of LeaseDrop = request "lease.drop" (asks R.LeaseDrop & text "ns" & text "id" & text "type" & text "resource")
-row_of LeaseResources = request "lease.resources" (asks R.LeaseResources & text "ns" & text "id")
+row_of LeaseHold = request "lease.hold" (asks R.LeaseHold & resource)
+row_of LeaseDrop = request "lease.drop" (asks R.LeaseDrop & resource)
+row_of LeaseResources = request "lease.resources" (asks R.LeaseResources & named "id")
 row_of Profile = request "profile" (asks R.Profile & whole "v")
 row_of GcRun = row "gc.run" (asks (λ at. A.Collect at false) & text "at")
 row_of GcPlan = row "gc.plan" (asks (λ at. A.Collect at true) & text "at")

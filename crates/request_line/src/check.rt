@@ -5,9 +5,10 @@ ghost use Rattle.std.specs.Str.{bytes_eq};
 ghost use Rattle.serde_json.specs.View.{view, members_view};
 ghost use Rattle.serde_json.specs.Find.{get_member};
 ghost use Rattle.request_line.specs.Table.{members_of, row_view};
-ghost use Rattle.request_line.specs.Lines.{is_text, are_texts, has_kind, is_among, is_listed, are_listed, has_required, are_of, op_in};
+ghost use Rattle.request_line.specs.Lines.{is_text, are_texts, are_labels, is_whole, has_kind, is_among, is_listed, has_required, op_in};
+ghost use Rattle.request_line.specs.LineMembers.{value_of, object_of, fits};
 
-use crate::members::member;
+use crate::members::{LineValue, Member, member, text_in};
 use crate::op::{Op, OpForm};
 use serde_json::{Map, Value};
 
@@ -25,16 +26,47 @@ fn all_texts(members: &Map<String, Value>) -> bool
     members.iter().all(|(_, value)| value.is_string())
 }
 
+// Whether a value is an object of texts.
+fn are_labels(value: &LineValue<'_>) -> bool
+    ensures { result ≡ are_labels (value_of value.now) }
+{
+    match value {
+        LineValue::Text(_) => false,
+        LineValue::Labels(_) => true,
+        LineValue::Any(value) => value.as_object().is_some_and(are_texts),
+    }
+}
+
+fn is_whole(value: &LineValue<'_>) -> bool
+    ensures { result ≡ is_whole (value_of value.now) }
+{
+    match value {
+        LineValue::Text(_) => false,
+        LineValue::Labels(_) => false,
+        LineValue::Any(value) => value.is_u64(),
+    }
+}
+
+fn is_text(value: &LineValue<'_>) -> bool
+    ensures { result ≡ is_text (value_of value.now) }
+{
+    match value {
+        LineValue::Text(_) => true,
+        LineValue::Labels(_) => false,
+        LineValue::Any(value) => value.is_string(),
+    }
+}
+
 // Whether a member is of its kind.
-fn has_kind(key: &str, value: &Value) -> bool
-    ensures { result ≡ has_kind key.now (view value.now) }
+fn has_kind(key: &str, value: &LineValue<'_>) -> bool
+    ensures { result ≡ has_kind key.now (value_of value.now) }
 {
     if key == "labels" {
-        value.as_object().is_some_and(are_texts)
+        are_labels(value)
     } else if key == "v" {
-        value.is_u64()
+        is_whole(value)
     } else {
-        value.is_string()
+        is_text(value)
     }
 }
 
@@ -67,51 +99,44 @@ fn is_listed(row: &OpForm, key: &str) -> bool
 }
 
 // Whether a member may stand in the line, and is of its kind.
-fn fits(row: &OpForm, key: &str, value: &Value) -> bool
-    ensures { result ≡ (is_listed (row_view row.now) key.now && has_kind key.now (view value.now)) }
+fn fits(row: &OpForm, one: &Member<'_>) -> bool
+    ensures { result ≡ fits (row_view row.now) one.now }
 {
-    is_listed(row, key) && has_kind(key, value)
+    is_listed(row, one.0) && has_kind(one.0, &one.1)
 }
 
-// Whether each member may stand in the line, and is of its kind.
-fn are_listed(row: &OpForm, members: &Map<String, Value>) -> bool
-    ensures { result ≡ are_listed (row_view row.now) (members_view members.now.entries) }
+fn all_fit(row: &OpForm, members: &[Member<'_>]) -> bool
+    ensures { result ≡ list_all (fits (row_view row.now)) members.now }
 {
-    all_fit(row, members)
-}
-
-fn all_fit(row: &OpForm, members: &Map<String, Value>) -> bool
-    ensures { result ≡ list_all (λ e. is_listed (row_view row.now) (string_bytes e.0)
-        && has_kind (string_bytes e.0) (view e.1)) members.now.entries }
-{
-    members.iter().all(|(key, value)| fits(row, key, value))
+    members.iter().all(|one| fits(row, one))
 }
 
 // Whether each member that must stand in the line is there.
-fn has_required(row: &OpForm, members: &Map<String, Value>) -> bool
-    ensures { result ≡ has_required (row_view row.now) (members_view members.now.entries) }
+fn has_required(row: &OpForm, members: &[Member<'_>]) -> bool
+    ensures { result ≡ has_required (row_view row.now) (object_of members.now) }
 {
     has_all(row.required, members)
 }
 
-fn has_all(keys: &[&str], members: &Map<String, Value>) -> bool
+fn has_all(keys: &[&str], members: &[Member<'_>]) -> bool
     ensures { result ≡ list_all (λ k. is_some (get_member k.now
-        (members_view members.now.entries))) keys.now }
+        (object_of members.now))) keys.now }
 {
     keys.iter().all(|key| member(members, *key).is_some())
 }
 
-// Whether an object has the members of an op, and no others.
-pub(crate) fn are_of(op: Op, members: &Map<String, Value>) -> bool
-    ensures { result ≡ are_of (members_of op) (members_view members.now.entries) }
+// Whether each member is one of the op's, and those that must stand are there.
+pub(crate) fn are_of(op: Op, members: &[Member<'_>]) -> bool
+    ensures { result ≡ (list_all (fits (members_of op)) members.now
+        && has_required (members_of op) (object_of members.now)) }
 {
     let row = op.row();
-    are_listed(&row, members) && has_required(&row, members)
+    all_fit(&row, members) && has_required(&row, members)
 }
 
-// The op that an object names.
-pub(crate) fn op_in(members: &Map<String, Value>) -> Option<Op>
-    ensures { result ≡ op_in (members_view members.now.entries) }
+// The op that the members name.
+pub(crate) fn op_in(members: &[Member<'_>]) -> Option<Op>
+    ensures { result ≡ op_in (object_of members.now) }
 {
-    Op::named(member(members, "op")?.as_str()?)
+    Op::named(text_in(members, "op")?)
 }

@@ -1,23 +1,27 @@
 //! What a line asks for: collections and dry runs.
-ghost use Rattle.std.specs.Prelude.{◌≡◌};
-ghost use Rattle.serde_json.specs.View.{members_view};
+ghost use Rattle.std.specs.Prelude.{◌≡◌, None, IfOk};
+ghost use Rattle.meta_types.specs.Faults.{Refuses};
 ghost use Rattle.request_line.specs.Table.{asked_of};
+ghost use Rattle.request_line.specs.LineMembers.{object_of};
 
 use crate::asked::Asked;
-use crate::members::{Members, text};
+use crate::members::{Member, text};
 use crate::op::Op;
+use meta_types::Fault;
 use std::alloc::Global;
 
-pub(crate) fn gc_run(alloc: Global, mut members: Members) -> Asked
-    ensures { result ≡ asked_of Op.GcRun (members_view members.entries) }
+pub(crate) fn gc_run(alloc: Global, members: &[Member<'_>]) -> Result<Asked, Fault>
+    ensures fault { Refuses result None }
+    ensures ok { IfOk result (λ asked. asked ≡ asked_of Op.GcRun (object_of members.now)) }
 {
-    let at = text(alloc, &mut members, "at");
-    Asked::Collect { at, dry: false }
+    let at = text(alloc, members, "at")?;
+    Ok(Asked::Collect { at, dry: false })
 }
 
-pub(crate) fn gc_plan(alloc: Global, mut members: Members) -> Asked
-    ensures { result ≡ asked_of Op.GcPlan (members_view members.entries) }
+pub(crate) fn gc_plan(alloc: Global, members: &[Member<'_>]) -> Result<Asked, Fault>
+    ensures fault { Refuses result None }
+    ensures ok { IfOk result (λ asked. asked ≡ asked_of Op.GcPlan (object_of members.now)) }
 {
-    let at = text(alloc, &mut members, "at");
-    Asked::Collect { at, dry: true }
+    let at = text(alloc, members, "at")?;
+    Ok(Asked::Collect { at, dry: true })
 }

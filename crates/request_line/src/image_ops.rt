@@ -1,86 +1,74 @@
 //! What a line asks for: requests on images.
 ghost use Rattle.std.specs.Prelude.{◌≡◌, None, IfOk};
-ghost use Rattle.serde_json.specs.View.{members_view};
 ghost use Rattle.meta_types.specs.Faults.{Refuses};
 ghost use Rattle.request_line.specs.Table.{asked_of};
+ghost use Rattle.request_line.specs.LineMembers.{object_of};
 
 use crate::asked::Asked;
-use crate::members::{Members, labels, text, text_if_any};
+use crate::members::{Member, label, labels, named, text, text_if_any};
 use crate::op::Op;
-use meta_types::{Fault, Removal, Request};
+use meta_types::{Fault, ImageAdd, ImageTarget, Removal, Request};
 use std::alloc::Global;
 
-#[tactic(auto, using(crate::proofs::Taking::others_stay))]
-pub(crate) fn image_add(alloc: Global, mut members: Members) -> Result<Asked, Fault>
+pub(crate) fn image_add(alloc: Global, members: &[Member<'_>]) -> Result<Asked, Fault>
     ensures fault { Refuses result None }
-    ensures ok { IfOk result (λ asked. asked ≡ asked_of Op.ImageAdd (members_view members.entries)) }
+    ensures ok { IfOk result (λ asked. asked ≡ asked_of Op.ImageAdd (object_of members.now)) }
 {
-    let ns = text(alloc, &mut members, "ns");
-    let name = text(alloc, &mut members, "name");
-    let target = text(alloc, &mut members, "target");
-    let labels = labels(alloc, &mut members)?;
-    Ok(Asked::Request(Request::ImageAdd {
-        ns,
-        name,
+    let image = named(alloc, members, "name")?;
+    let target = text(alloc, members, "target")?;
+    let labels = labels(alloc, members)?;
+    Ok(Asked::Request(Request::ImageAdd(ImageAdd {
+        image,
         target,
         labels,
-    }))
+    })))
 }
 
-#[tactic(auto, using(crate::proofs::Taking::others_stay))]
-pub(crate) fn image_target(alloc: Global, mut members: Members) -> Asked
-    ensures { result ≡ asked_of Op.ImageTarget (members_view members.entries) }
+pub(crate) fn image_target(alloc: Global, members: &[Member<'_>]) -> Result<Asked, Fault>
+    ensures fault { Refuses result None }
+    ensures ok { IfOk result (λ asked. asked ≡ asked_of Op.ImageTarget (object_of members.now)) }
 {
-    let ns = text(alloc, &mut members, "ns");
-    let name = text(alloc, &mut members, "name");
-    let target = text(alloc, &mut members, "target");
-    Asked::Request(Request::ImageTarget { ns, name, target })
+    let image = named(alloc, members, "name")?;
+    let target = text(alloc, members, "target")?;
+    Ok(Asked::Request(Request::ImageTarget(ImageTarget { image, target })))
 }
 
-#[tactic(auto, using(crate::proofs::Taking::others_stay))]
-pub(crate) fn image_remove(alloc: Global, mut members: Members) -> Asked
-    ensures { result ≡ asked_of Op.ImageRemove (members_view members.entries) }
+pub(crate) fn image_remove(alloc: Global, members: &[Member<'_>]) -> Result<Asked, Fault>
+    ensures fault { Refuses result None }
+    ensures ok { IfOk result (λ asked. asked ≡ asked_of Op.ImageRemove (object_of members.now)) }
 {
-    let ns = text(alloc, &mut members, "ns");
-    let name = text(alloc, &mut members, "name");
-    let sync = text_if_any(&mut members, "sync");
+    let image = named(alloc, members, "name")?;
+    let sync = text_if_any(alloc, members, "sync")?;
     match sync {
-        Some(at) => Asked::Remove {
-            removal: Removal::Image { ns, name },
+        Some(at) => Ok(Asked::Remove {
+            removal: Removal::Image(image),
             at,
-        },
-        None => Asked::Request(Request::ImageRemove { ns, name }),
+        }),
+        None => Ok(Asked::Request(Request::ImageRemove(image))),
     }
 }
 
-#[tactic(auto, using(crate::proofs::Taking::others_stay))]
-pub(crate) fn image_get(alloc: Global, mut members: Members) -> Asked
-    ensures { result ≡ asked_of Op.ImageGet (members_view members.entries) }
+pub(crate) fn image_get(alloc: Global, members: &[Member<'_>]) -> Result<Asked, Fault>
+    ensures fault { Refuses result None }
+    ensures ok { IfOk result (λ asked. asked ≡ asked_of Op.ImageGet (object_of members.now)) }
 {
-    let ns = text(alloc, &mut members, "ns");
-    let name = text(alloc, &mut members, "name");
-    Asked::Request(Request::ImageGet { ns, name })
+    let image = named(alloc, members, "name")?;
+    Ok(Asked::Request(Request::ImageGet(image)))
 }
 
-pub(crate) fn image_list(alloc: Global, mut members: Members) -> Asked
-    ensures { result ≡ asked_of Op.ImageList (members_view members.entries) }
+pub(crate) fn image_list(alloc: Global, members: &[Member<'_>]) -> Result<Asked, Fault>
+    ensures fault { Refuses result None }
+    ensures ok { IfOk result (λ asked. asked ≡ asked_of Op.ImageList (object_of members.now)) }
 {
-    let ns = text(alloc, &mut members, "ns");
-    Asked::Request(Request::ImageList { ns })
+    let ns = text(alloc, members, "ns")?;
+    Ok(Asked::Request(Request::ImageList { ns }))
 }
 
-#[tactic(auto, using(crate::proofs::Taking::others_stay))]
-pub(crate) fn image_label(alloc: Global, mut members: Members) -> Asked
-    ensures { result ≡ asked_of Op.ImageLabel (members_view members.entries) }
+pub(crate) fn image_label(alloc: Global, members: &[Member<'_>]) -> Result<Asked, Fault>
+    ensures fault { Refuses result None }
+    ensures ok { IfOk result (λ asked. asked ≡ asked_of Op.ImageLabel (object_of members.now)) }
 {
-    let ns = text(alloc, &mut members, "ns");
-    let name = text(alloc, &mut members, "name");
-    let key = text(alloc, &mut members, "key");
-    let value = text(alloc, &mut members, "value");
-    Asked::Request(Request::ImageLabel {
-        ns,
-        name,
-        key,
-        value,
-    })
+    let image = named(alloc, members, "name")?;
+    let label = label(alloc, members)?;
+    Ok(Asked::Request(Request::ImageLabel(image, label)))
 }

@@ -12,6 +12,7 @@ mod line;
 mod members;
 mod namespace_ops;
 mod op;
+mod plain;
 mod question_ops;
 mod snapshot_ops;
 

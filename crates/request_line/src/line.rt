@@ -1,51 +1,180 @@
 //! Reads the request of one line.
-ghost use Rattle.std.specs.Prelude.{◌≡◌, Some, IfOk, IfErr};
+ghost use Rattle.std.specs.Prelude.{◌≡◌, None, Some, IfOk, IfErr, IfSome, List};
+ghost use Rattle.std.specs.List.{list_all};
 ghost use Rattle.serde_json.specs.View.{view, members_view};
-ghost use Rattle.request_line.specs.Lines.{asked_by, asked_from, asked_in};
+ghost use Rattle.meta_types.specs.Faults.{Refuses};
+ghost use Rattle.request_line.specs.Table.{Members, asked_of};
+ghost use Rattle.request_line.specs.Lines.{asked_by, asked_from, asked_in, are_listed};
 ghost use Rattle.request_line.specs.Refusals.{IsUnread};
+ghost use Rattle.request_line.specs.LineMembers.{object_of, fits, asked_by_all};
 
 use crate::asked::Asked;
 use crate::check::{are_of, op_in};
-use crate::members::members_in;
-use crate::op::ask_for;
-use meta_types::Fault;
+use crate::collection_ops::{gc_plan, gc_run};
+use crate::container_ops::{
+    container_add, container_get, container_label, container_list, container_remove,
+};
+use crate::content_ops::{
+    content_add, content_get, content_label, content_list, content_remove, ingest_abort,
+    ingest_begin, ingest_commit, ingest_get, ingest_list,
+};
+use crate::image_ops::{image_add, image_get, image_label, image_list, image_remove, image_target};
+use crate::lease_ops::{
+    lease_add, lease_drop, lease_get, lease_hold, lease_label, lease_list, lease_remove,
+    lease_resources,
+};
+use crate::members::{LineValue, Member};
+use crate::namespace_ops::{ns_add, ns_remove, profile};
+use crate::op::Op;
+use crate::plain::read_plain;
+use crate::question_ops::{gc_explain, gc_impact};
+use crate::snapshot_ops::{
+    snap_commit, snap_get, snap_label, snap_list, snap_prepare, snap_remove, snap_view,
+};
+use json::Scratch;
+use meta_types::{Fault, Request};
 use serde_json::{Map, Value};
 use std::alloc::Global;
 
-// What an object asks for.
-fn ask(alloc: Global, members: Map<String, Value>) -> Result<Asked, Fault>
-    ensures fault { IfErr result (IsUnread (asked_by (members_view members.entries))) }
-    ensures ok { IfOk result (λ asked. asked_by (members_view members.entries) ≡ Some asked) }
+// What an op asks for with these members.
+fn ask_for(alloc: Global, op: Op, members: &[Member<'_>]) -> Result<Asked, Fault>
+    ensures fault { Refuses result None }
+    ensures ok { IfOk result (λ asked. asked ≡ asked_of op (object_of members.now)) }
 {
-    let Some(op) = op_in(&members) else {
-        return Err(Fault::BadLine);
-    };
-    if !are_of(op, &members) {
-        return Err(Fault::BadLine);
+    match op {
+        Op::NsAdd => ns_add(alloc, members),
+        Op::NsRemove => ns_remove(alloc, members),
+        Op::NsList => Ok(Asked::Request(Request::NsList)),
+        Op::ImageAdd => image_add(alloc, members),
+        Op::ImageTarget => image_target(alloc, members),
+        Op::ImageRemove => image_remove(alloc, members),
+        Op::ImageGet => image_get(alloc, members),
+        Op::ImageList => image_list(alloc, members),
+        Op::ImageLabel => image_label(alloc, members),
+        Op::ContainerAdd => container_add(alloc, members),
+        Op::ContainerRemove => container_remove(alloc, members),
+        Op::ContainerGet => container_get(alloc, members),
+        Op::ContainerList => container_list(alloc, members),
+        Op::ContainerLabel => container_label(alloc, members),
+        Op::ContentAdd => content_add(alloc, members),
+        Op::ContentRemove => content_remove(alloc, members),
+        Op::ContentGet => content_get(alloc, members),
+        Op::ContentLabel => content_label(alloc, members),
+        Op::ContentList => content_list(alloc, members),
+        Op::IngestBegin => ingest_begin(alloc, members),
+        Op::IngestCommit => ingest_commit(alloc, members),
+        Op::IngestAbort => ingest_abort(alloc, members),
+        Op::IngestGet => ingest_get(alloc, members),
+        Op::IngestList => ingest_list(alloc, members),
+        Op::SnapPrepare => snap_prepare(alloc, members),
+        Op::SnapView => snap_view(alloc, members),
+        Op::SnapCommit => snap_commit(alloc, members),
+        Op::SnapRemove => snap_remove(alloc, members),
+        Op::SnapGet => snap_get(alloc, members),
+        Op::SnapLabel => snap_label(alloc, members),
+        Op::SnapList => snap_list(alloc, members),
+        Op::LeaseAdd => lease_add(alloc, members),
+        Op::LeaseRemove => lease_remove(alloc, members),
+        Op::LeaseGet => lease_get(alloc, members),
+        Op::LeaseLabel => lease_label(alloc, members),
+        Op::LeaseList => lease_list(alloc, members),
+        Op::LeaseHold => lease_hold(alloc, members),
+        Op::LeaseDrop => lease_drop(alloc, members),
+        Op::LeaseResources => lease_resources(alloc, members),
+        Op::Profile => Ok(profile(members)),
+        Op::GcRun => gc_run(alloc, members),
+        Op::GcPlan => gc_plan(alloc, members),
+        Op::GcExplain => gc_explain(alloc, members),
+        Op::GcImpact => gc_impact(alloc, members),
     }
-    ask_for(alloc, op, members)
 }
 
-// What a value asks for.
-fn ask_by(alloc: Global, value: Value) -> Result<Asked, Fault>
-    ensures fault { IfErr result (IsUnread (asked_from (view value))) }
-    ensures ok { IfOk result (λ asked. asked_from (view value) ≡ Some asked) }
+// What members ask for of which each one is the op's.
+fn ask(alloc: Global, members: &[Member<'_>]) -> Result<Option<Asked>, Fault>
+    ensures fault { Refuses result None }
+    ensures ok { IfOk result (λ found. found ≡ asked_by_all members.now) }
 {
-    match members_in(value) {
-        Some(members) => ask(alloc, members),
+    let Some(op) = op_in(members) else {
+        return Ok(None);
+    };
+    if !are_of(op, members) {
+        return Ok(None);
+    }
+    let asked = ask_for(alloc, op, members)?;
+    Ok(Some(asked))
+}
+
+// What a plain line asks for: nothing also where it isn't plain.
+fn ask_plain(alloc: Global, line: &[u8], scratch: &mut Scratch) -> Result<Option<Asked>, Fault>
+    ensures fault { Refuses result None }
+    ensures ok { IfOk result (λ found. IfSome found (λ asked. asked_in line.now ≡ Some asked)) }
+{
+    let Ok(text) = std::str::from_utf8(line) else {
+        return Ok(None);
+    };
+    let Some(members) = read_plain(alloc, text, scratch)? else {
+        return Ok(None);
+    };
+    ask(alloc, &members)
+}
+
+// The members of an object, in the order of their names.
+fn members_of<'a>(alloc: Global, members: &'a Map<String, Value>) -> Result<Vec<Member<'a>>, Fault>
+    ensures fault { Refuses result None }
+    ensures object { IfOk result (λ ms. object_of ms.items ≡ members_view members.now.entries) }
+    ensures listed { IfOk result (λ ms. (row : Members) → list_all (fits row) ms.items
+        ≡ are_listed row (members_view members.now.entries)) }
+{
+    let mut listed = Vec::with_capacity(alloc, members.len())?;
+    for (name, value) in members.iter() {
+        listed.push((name.as_str(), LineValue::Any(value)))?;
+    }
+    Ok(listed)
+}
+
+// What an object asks for.
+fn ask_object(alloc: Global, members: &Map<String, Value>) -> Result<Asked, Fault>
+    ensures fault { IfErr result (IsUnread (asked_by (members_view members.now.entries))) }
+    ensures ok { IfOk result (λ asked. asked_by (members_view members.now.entries) ≡ Some asked) }
+{
+    let listed = members_of(alloc, members)?;
+    let found = ask(alloc, &listed)?;
+    match found {
+        Some(asked) => Ok(asked),
         None => Err(Fault::BadLine),
     }
 }
 
-/// What a line asks for: `BadLine` where it is no request. A line's texts are copied once, by the
-/// reader of JSON.
-pub fn read_line(alloc: Global, line: &[u8]) -> Result<Asked, Fault>
+// What a value asks for.
+fn ask_by(alloc: Global, value: &Value) -> Result<Asked, Fault>
+    ensures fault { IfErr result (IsUnread (asked_from (view value.now))) }
+    ensures ok { IfOk result (λ asked. asked_from (view value.now) ≡ Some asked) }
+{
+    match value.as_object() {
+        Some(members) => ask_object(alloc, members),
+        None => Err(Fault::BadLine),
+    }
+}
+
+// What any line asks for, read as a tree of values.
+fn ask_any(alloc: Global, line: &[u8]) -> Result<Asked, Fault>
     ensures fault { IfErr result (IsUnread (asked_in line.now)) }
     ensures ok { IfOk result (λ asked. asked_in line.now ≡ Some asked) }
 {
     match Value::from_slice(alloc, line) {
-        Ok(value) => ask_by(alloc, value),
+        Ok(value) => ask_by(alloc, &value),
         Err(e) if e.is_memory() => Err(Fault::OutOfMemory),
         Err(_) => Err(Fault::BadLine),
     }
+}
+
+/// What a line asks for: `BadLine` where it is no request. The scratch is kept from line to line.
+pub fn read_line(alloc: Global, line: &[u8], scratch: &mut Scratch) -> Result<Asked, Fault>
+    ensures fault { IfErr result (IsUnread (asked_in line.now)) }
+    ensures ok { IfOk result (λ asked. asked_in line.now ≡ Some asked) }
+{
+    if let Some(asked) = ask_plain(alloc, line, scratch)? {
+        return Ok(asked);
+    }
+    ask_any(alloc, line)
 }

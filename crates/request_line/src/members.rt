@@ -1,121 +1,229 @@
-//! Makes of a value what it asks for. Texts are moved out of the value, not copied.
-ghost use Rattle.std.specs.Prelude.{◌≡◌, [], None, IfOk, unwrap_or, string_bytes, option_map};
+//! The members of a line, and what they say. Texts are copied out of the line.
+ghost use Rattle.std.specs.Prelude.{◌≡◌, [], None, IfOk, unwrap_or, string_bytes, option_map, if◌then◌else◌, map};
 ghost use Rattle.std.specs.Option.{option_map_or};
+ghost use Rattle.std.specs.Str.{bytes_eq};
 ghost use Rattle.serde_json.specs.View.{view, members_view};
-ghost use Rattle.serde_json.specs.Find.{as_str, as_object, as_number, as_u64, get_member};
+ghost use Rattle.serde_json.specs.Find.{as_str, as_object, get_member};
 ghost use Rattle.meta_types.specs.Faults.{Refuses};
 ghost use Rattle.request_line.specs.Members.{text_at, text_if_any, whole_at, labels_at, pairs_from};
-ghost use Rattle.request_line.specs.Taking.{without};
+ghost use Rattle.request_line.specs.Table.{content, label};
+ghost use Rattle.request_line.specs.LineMembers.{value_of, object_of, name_at, snapshot_at};
 
-use meta_types::{Fault, RawLabels, RawText};
+use meta_types::{Fault, RawContent, RawLabel, RawLabels, RawName, RawSnapshot, RawText};
 use serde_json::{Map, Value};
 use std::alloc::Global;
 
-pub(crate) type Members = Map<String, Value>;
-
-// The value of a member.
-pub(crate) fn member<'v>(members: &'v Map<String, Value>, name: &str) -> Option<&'v Value>
-    ensures { option_map (λ v. view v.now) result ≡ get_member name.now
-        (members_view members.now.entries) }
-{
-    members.get(name)
+/// The value of a member of a line.
+#[derive(Drop)]
+pub(crate) enum LineValue<'a> {
+    Text(&'a str),
+    /// An object of texts, its keys in rising order.
+    Labels(Vec<(&'a str, &'a str)>),
+    Any(&'a Value),
 }
 
-// The members of an object.
-pub(crate) fn members_in(value: Value) -> Option<Map<String, Value>>
-    ensures { option_map (λ members. members_view members.entries) result ≡ as_object (view value) }
+pub(crate) type Member<'a> = (&'a str, LineValue<'a>);
+
+// The value of that name, or what was found before.
+fn later<'a, 'b>(
+    found: Option<&'a LineValue<'b>>,
+    member: &'a Member<'b>,
+    name: &str,
+) -> Option<&'a LineValue<'b>>
+    ensures { option_map (λ v. value_of v.now) result ≡ (if bytes_eq member.now.0.now name.now
+        then Some (value_of member.now.1) else option_map (λ v. value_of v.now) found.entry) }
 {
-    match value {
-        Value::Object(members) => Some(members),
-        _ => None,
+    if member.0 == name {
+        Some(&member.1)
+    } else {
+        found
     }
 }
 
-// A value's text.
-fn text_of(alloc: Global, value: Value) -> String
-    ensures { string_bytes result ≡ unwrap_or (as_str (view value)) [] }
+/// The last value of that name.
+pub(crate) fn member<'a, 'b>(members: &'a [Member<'b>], name: &str) -> Option<&'a LineValue<'b>>
+    ensures { option_map (λ v. value_of v.now) result ≡ get_member name.now
+        (object_of members.now) }
 {
-    match value {
-        Value::String(text) => text,
-        _ => String::new(alloc),
+    let mut found = None;
+    for one in members {
+        found = later(found, one, name);
     }
-}
-
-// Takes out a member's text.
-pub(crate) fn text(alloc: Global, members: &mut Map<String, Value>, name: &str) -> RawText
-    ensures text { result ≡ text_at name.now (members_view members.old.entries) }
-    ensures left { members_view members.new.entries ≡ without name.now
-        (members_view members.old.entries) }
-{
-    match members.remove(name) {
-        Some(value) => RawText::new(text_of(alloc, value)),
-        None => RawText::new(String::new(alloc)),
-    }
+    found
 }
 
 // A value's text, where it is one.
-fn text_in(value: Value) -> Option<RawText>
-    ensures { result ≡ as_str (view value) }
+fn text_of<'b>(value: &LineValue<'b>) -> Option<&'b str>
+    ensures { option_map (λ t. t.now) result ≡ as_str (value_of value.now) }
 {
     match value {
-        Value::String(text) => Some(RawText::new(text)),
-        _ => None,
+        LineValue::Text(text) => Some(*text),
+        LineValue::Labels(_) => None,
+        LineValue::Any(value) => value.as_str(),
     }
 }
 
-// Takes out the text of a member that may be left out.
-pub(crate) fn text_if_any(members: &mut Members, name: &str) -> Option<RawText>
-    ensures text { result ≡ text_if_any name.now (members_view members.old.entries) }
-    ensures left { members_view members.new.entries ≡ without name.now
-        (members_view members.old.entries) }
+/// The text of that name.
+pub(crate) fn text_in<'b>(members: &[Member<'b>], name: &str) -> Option<&'b str>
+    ensures { option_map (λ t. t.now) result ≡ text_if_any name.now (object_of members.now) }
 {
-    match members.remove(name) {
-        Some(value) => text_in(value),
-        None => None,
+    text_of(member(members, name)?)
+}
+
+fn raw(alloc: Global, text: &str) -> Result<RawText, Fault>
+    ensures fault { Refuses result None }
+    ensures ok { IfOk result (λ raw. raw ≡ text.now) }
+{
+    Ok(RawText::new(String::from_str(alloc, text)?))
+}
+
+/// A member's text.
+pub(crate) fn text(alloc: Global, members: &[Member<'_>], name: &str) -> Result<RawText, Fault>
+    ensures fault { Refuses result None }
+    ensures ok { IfOk result (λ raw. raw ≡ text_at name.now (object_of members.now)) }
+{
+    match text_in(members, name) {
+        Some(text) => raw(alloc, text),
+        None => raw(alloc, ""),
     }
 }
 
-// The whole number of a member.
-pub(crate) fn whole(members: &Members, name: &str) -> u64
-    ensures { result ≡ whole_at name.now (members_view members.now.entries) }
+/// The text of a member that may be left out.
+pub(crate) fn text_if_any(
+    alloc: Global,
+    members: &[Member<'_>],
+    name: &str,
+) -> Result<Option<RawText>, Fault>
+    ensures fault { Refuses result None }
+    ensures ok { IfOk result (λ raw. raw ≡ text_if_any name.now (object_of members.now)) }
+{
+    match text_in(members, name) {
+        Some(text) => Ok(Some(raw(alloc, text)?)),
+        None => Ok(None),
+    }
+}
+
+/// The whole number of a member.
+pub(crate) fn whole(members: &[Member<'_>], name: &str) -> u64
+    ensures { result ≡ whole_at name.now (object_of members.now) }
 {
     match member(members, name) {
-        Some(value) => value.as_u64().unwrap_or(0),
+        Some(LineValue::Any(value)) => value.as_u64().unwrap_or(0),
+        Some(LineValue::Text(_)) => 0,
+        Some(LineValue::Labels(_)) => 0,
         None => 0,
     }
 }
 
-// An object's keys and texts, in the order of the keys.
-fn pairs_of(alloc: Global, members: Map<String, Value>) -> Result<RawLabels, Fault>
+// A text of an object of texts.
+fn text_or_empty(alloc: Global, value: &Value) -> Result<String, Fault>
     ensures fault { Refuses result None }
-    ensures ok { IfOk result (λ pairs. pairs ≡ pairs_from (members_view members.entries)) }
+    ensures ok { IfOk result (λ text. string_bytes text ≡ unwrap_or (as_str (view value.now)) []) }
+{
+    match value.as_str() {
+        Some(text) => Ok(String::from_str(alloc, text)?),
+        None => Ok(String::new(alloc)),
+    }
+}
+
+// An object's keys and texts, in the order of the keys.
+fn pairs_of(alloc: Global, members: &Map<String, Value>) -> Result<RawLabels, Fault>
+    ensures fault { Refuses result None }
+    ensures ok { IfOk result (λ pairs. pairs ≡ pairs_from (members_view members.now.entries)) }
 {
     let mut entries = Vec::new(alloc);
-    for (key, value) in members {
-        entries.push((key, text_of(alloc, value)))?;
+    for (name, value) in members.iter() {
+        let key = name.clone()?;
+        let text = text_or_empty(alloc, value)?;
+        entries.push((key, text))?;
     }
     Ok(RawLabels::new(entries))
 }
 
 // The keys and texts of a value: none, where it is no object.
-fn pairs_in(alloc: Global, value: Value) -> Result<RawLabels, Fault>
+fn pairs_in(alloc: Global, value: &Value) -> Result<RawLabels, Fault>
     ensures fault { Refuses result None }
     ensures ok { IfOk result (λ pairs. pairs ≡ option_map_or pairs_from (as_object
-        (view value)) []) }
+        (view value.now)) []) }
 {
-    match members_in(value) {
+    match value.as_object() {
         Some(members) => pairs_of(alloc, members),
         None => Ok(RawLabels::new(Vec::new(alloc))),
     }
 }
 
-// Takes out the labels, which may be left out.
-pub(crate) fn labels(alloc: Global, members: &mut Map<String, Value>) -> Result<RawLabels, Fault>
+// The same keys and texts, in memory of their own.
+fn copied(alloc: Global, texts: &[(&str, &str)]) -> Result<RawLabels, Fault>
     ensures fault { Refuses result None }
-    ensures ok { IfOk result (λ pairs. pairs ≡ labels_at (members_view members.old.entries)) }
+    ensures ok { IfOk result (λ pairs. pairs ≡ map (λ t. (t.0.now, t.1.now)) texts.now) }
 {
-    match members.remove("labels") {
-        Some(labels) => pairs_in(alloc, labels),
+    let mut entries = Vec::with_capacity(alloc, texts.len())?;
+    for text in texts {
+        let key = String::from_str(alloc, text.0)?;
+        let value = String::from_str(alloc, text.1)?;
+        entries.push((key, value))?;
+    }
+    Ok(RawLabels::new(entries))
+}
+
+/// The labels, which may be left out.
+pub(crate) fn labels(alloc: Global, members: &[Member<'_>]) -> Result<RawLabels, Fault>
+    ensures fault { Refuses result None }
+    ensures ok { IfOk result (λ pairs. pairs ≡ labels_at (object_of members.now)) }
+{
+    match member(members, "labels") {
+        Some(LineValue::Labels(texts)) => copied(alloc, texts),
+        Some(LineValue::Any(value)) => pairs_in(alloc, *value),
+        Some(LineValue::Text(_)) => Ok(RawLabels::new(Vec::new(alloc))),
         None => Ok(RawLabels::new(Vec::new(alloc))),
     }
+}
+
+/// What names an image, a container, an ingest or a lease.
+pub(crate) fn named(alloc: Global, members: &[Member<'_>], key: &str) -> Result<RawName, Fault>
+    ensures fault { Refuses result None }
+    ensures ok { IfOk result (λ named. named ≡ name_at key.now (object_of members.now)) }
+{
+    let ns = text(alloc, members, "ns")?;
+    let name = text(alloc, members, key)?;
+    Ok(RawName { ns, name })
+}
+
+/// What names content.
+pub(crate) fn content(alloc: Global, members: &[Member<'_>]) -> Result<RawContent, Fault>
+    ensures fault { Refuses result None }
+    ensures ok { IfOk result (λ named. named ≡ content.said (object_of members.now)) }
+{
+    let ns = text(alloc, members, "ns")?;
+    let digest = text(alloc, members, "digest")?;
+    Ok(RawContent { ns, digest })
+}
+
+/// What names a snapshot.
+pub(crate) fn snapshot(
+    alloc: Global,
+    members: &[Member<'_>],
+    key: &str,
+) -> Result<RawSnapshot, Fault>
+    ensures fault { Refuses result None }
+    ensures ok { IfOk result (λ named. named ≡ snapshot_at key.now (object_of members.now)) }
+{
+    let ns = text(alloc, members, "ns")?;
+    let snapshotter = text(alloc, members, "snapshotter")?;
+    let name = text(alloc, members, key)?;
+    Ok(RawSnapshot {
+        ns,
+        snapshotter,
+        name,
+    })
+}
+
+/// One label.
+pub(crate) fn label(alloc: Global, members: &[Member<'_>]) -> Result<RawLabel, Fault>
+    ensures fault { Refuses result None }
+    ensures ok { IfOk result (λ one. one ≡ label.said (object_of members.now)) }
+{
+    let key = text(alloc, members, "key")?;
+    let value = text(alloc, members, "value")?;
+    Ok(RawLabel { key, value })
 }

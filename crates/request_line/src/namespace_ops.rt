@@ -1,30 +1,33 @@
 //! What a line asks for: requests on namespaces, and on the profile.
-ghost use Rattle.std.specs.Prelude.{◌≡◌};
-ghost use Rattle.serde_json.specs.View.{members_view};
+ghost use Rattle.std.specs.Prelude.{◌≡◌, None, IfOk};
+ghost use Rattle.meta_types.specs.Faults.{Refuses};
 ghost use Rattle.request_line.specs.Table.{asked_of};
+ghost use Rattle.request_line.specs.LineMembers.{object_of};
 
 use crate::asked::Asked;
-use crate::members::{Members, text, whole};
+use crate::members::{Member, text, whole};
 use crate::op::Op;
-use meta_types::Request;
+use meta_types::{Fault, Request};
 use std::alloc::Global;
 
-pub(crate) fn ns_add(alloc: Global, mut members: Members) -> Asked
-    ensures { result ≡ asked_of Op.NsAdd (members_view members.entries) }
+pub(crate) fn ns_add(alloc: Global, members: &[Member<'_>]) -> Result<Asked, Fault>
+    ensures fault { Refuses result None }
+    ensures ok { IfOk result (λ asked. asked ≡ asked_of Op.NsAdd (object_of members.now)) }
 {
-    let ns = text(alloc, &mut members, "ns");
-    Asked::Request(Request::NsAdd { ns })
+    let ns = text(alloc, members, "ns")?;
+    Ok(Asked::Request(Request::NsAdd { ns }))
 }
 
-pub(crate) fn ns_remove(alloc: Global, mut members: Members) -> Asked
-    ensures { result ≡ asked_of Op.NsRemove (members_view members.entries) }
+pub(crate) fn ns_remove(alloc: Global, members: &[Member<'_>]) -> Result<Asked, Fault>
+    ensures fault { Refuses result None }
+    ensures ok { IfOk result (λ asked. asked ≡ asked_of Op.NsRemove (object_of members.now)) }
 {
-    let ns = text(alloc, &mut members, "ns");
-    Asked::Request(Request::NsRemove { ns })
+    let ns = text(alloc, members, "ns")?;
+    Ok(Asked::Request(Request::NsRemove { ns }))
 }
 
-pub(crate) fn profile(members: &Members) -> Asked
-    ensures { result ≡ asked_of Op.Profile (members_view members.now.entries) }
+pub(crate) fn profile(members: &[Member<'_>]) -> Asked
+    ensures { result ≡ asked_of Op.Profile (object_of members.now) }
 {
     Asked::Request(Request::Profile {
         v: whole(members, "v"),

@@ -1,31 +1,6 @@
-//! The table of ops: which members a line of each op has, and the function that reads them.
-ghost use Rattle.std.specs.Prelude.{◌≡◌, None, IfOk};
-ghost use Rattle.serde_json.specs.View.{members_view};
-ghost use Rattle.meta_types.specs.Faults.{Refuses};
-ghost use Rattle.request_line.specs.Table.{asked_of, members_of, op_named, row_view};
-
-use crate::asked::Asked;
-use crate::collection_ops::{gc_plan, gc_run};
-use crate::container_ops::{
-    container_add, container_get, container_label, container_list, container_remove,
-};
-use crate::content_ops::{
-    content_add, content_get, content_label, content_list, content_remove, ingest_abort,
-    ingest_begin, ingest_commit, ingest_get, ingest_list,
-};
-use crate::image_ops::{image_add, image_get, image_label, image_list, image_remove, image_target};
-use crate::lease_ops::{
-    lease_add, lease_drop, lease_get, lease_hold, lease_label, lease_list, lease_remove,
-    lease_resources,
-};
-use crate::members::Members;
-use crate::namespace_ops::{ns_add, ns_remove, profile};
-use crate::question_ops::{gc_explain, gc_impact};
-use crate::snapshot_ops::{
-    snap_commit, snap_get, snap_label, snap_list, snap_prepare, snap_remove, snap_view,
-};
-use meta_types::{Fault, Request};
-use std::alloc::Global;
+//! The table of ops: which members a line of each op has.
+ghost use Rattle.std.specs.Prelude.{◌≡◌, Some, IfSome};
+ghost use Rattle.request_line.specs.Table.{members_of, op_named, row_view};
 
 /// What a line does.
 #[derive(Clone, Copy, Debug, PartialEq, Eq)]
@@ -235,7 +210,10 @@ impl Op {
     pub fn named(name: &str) -> Option<Op>
         ensures { result ≡ op_named name.now }
     {
-        Op::named_in(&Op::ALL, name)
+        match guessed(name) {
+            Some(op) => Some(op),
+            None => Op::named_in(&Op::ALL, name),
+        }
     }
 
     // The op of that name, among these.
@@ -246,55 +224,66 @@ impl Op {
     }
 }
 
-// What an op asks for with these members.
-pub(crate) fn ask_for(alloc: Global, op: Op, members: Members) -> Result<Asked, Fault>
-    ensures fault { Refuses result None }
-    ensures ok { IfOk result (λ asked. asked ≡ asked_of op (members_view members.entries)) }
-{
-    match op {
-        Op::NsAdd => Ok(ns_add(alloc, members)),
-        Op::NsRemove => Ok(ns_remove(alloc, members)),
-        Op::NsList => Ok(Asked::Request(Request::NsList)),
-        Op::ImageAdd => image_add(alloc, members),
-        Op::ImageTarget => Ok(image_target(alloc, members)),
-        Op::ImageRemove => Ok(image_remove(alloc, members)),
-        Op::ImageGet => Ok(image_get(alloc, members)),
-        Op::ImageList => Ok(image_list(alloc, members)),
-        Op::ImageLabel => Ok(image_label(alloc, members)),
-        Op::ContainerAdd => container_add(alloc, members),
-        Op::ContainerRemove => Ok(container_remove(alloc, members)),
-        Op::ContainerGet => Ok(container_get(alloc, members)),
-        Op::ContainerList => Ok(container_list(alloc, members)),
-        Op::ContainerLabel => Ok(container_label(alloc, members)),
-        Op::ContentAdd => content_add(alloc, members),
-        Op::ContentRemove => Ok(content_remove(alloc, members)),
-        Op::ContentGet => Ok(content_get(alloc, members)),
-        Op::ContentLabel => Ok(content_label(alloc, members)),
-        Op::ContentList => Ok(content_list(alloc, members)),
-        Op::IngestBegin => Ok(ingest_begin(alloc, members)),
-        Op::IngestCommit => ingest_commit(alloc, members),
-        Op::IngestAbort => Ok(ingest_abort(alloc, members)),
-        Op::IngestGet => Ok(ingest_get(alloc, members)),
-        Op::IngestList => Ok(ingest_list(alloc, members)),
-        Op::SnapPrepare => snap_prepare(alloc, members),
-        Op::SnapView => snap_view(alloc, members),
-        Op::SnapCommit => snap_commit(alloc, members),
-        Op::SnapRemove => Ok(snap_remove(alloc, members)),
-        Op::SnapGet => Ok(snap_get(alloc, members)),
-        Op::SnapLabel => Ok(snap_label(alloc, members)),
-        Op::SnapList => Ok(snap_list(alloc, members)),
-        Op::LeaseAdd => lease_add(alloc, members),
-        Op::LeaseRemove => Ok(lease_remove(alloc, members)),
-        Op::LeaseGet => Ok(lease_get(alloc, members)),
-        Op::LeaseLabel => Ok(lease_label(alloc, members)),
-        Op::LeaseList => Ok(lease_list(alloc, members)),
-        Op::LeaseHold => Ok(lease_hold(alloc, members)),
-        Op::LeaseDrop => Ok(lease_drop(alloc, members)),
-        Op::LeaseResources => Ok(lease_resources(alloc, members)),
-        Op::Profile => Ok(profile(&members)),
-        Op::GcRun => Ok(gc_run(alloc, members)),
-        Op::GcPlan => Ok(gc_plan(alloc, members)),
-        Op::GcExplain => Ok(gc_explain(alloc, members)),
-        Op::GcImpact => Ok(gc_impact(alloc, members)),
+// The op that a name may be, by its length, its fourth byte and its last: no two ops agree in all
+// three.
+fn guess(name: &str) -> Option<Op> {
+    let bytes = name.as_bytes();
+    if bytes.len() < 4 {
+        return None;
     }
+    match (bytes.len(), bytes[3], bytes[bytes.len() - 1]) {
+        (6, b'a', b'd') => Some(Op::NsAdd),
+        (6, b'r', b'n') => Some(Op::GcRun),
+        (7, b'l', b't') => Some(Op::NsList),
+        (7, b'f', b'e') => Some(Op::Profile),
+        (7, b'p', b'n') => Some(Op::GcPlan),
+        (8, b'p', b't') => Some(Op::SnapGet),
+        (9, b'r', b'e') => Some(Op::NsRemove),
+        (9, b'g', b'd') => Some(Op::ImageAdd),
+        (9, b'g', b't') => Some(Op::ImageGet),
+        (9, b'p', b'w') => Some(Op::SnapView),
+        (9, b'p', b't') => Some(Op::SnapList),
+        (9, b's', b'd') => Some(Op::LeaseAdd),
+        (9, b's', b't') => Some(Op::LeaseGet),
+        (9, b'i', b't') => Some(Op::GcImpact),
+        (10, b'g', b't') => Some(Op::ImageList),
+        (10, b'e', b't') => Some(Op::IngestGet),
+        (10, b'p', b'l') => Some(Op::SnapLabel),
+        (10, b's', b't') => Some(Op::LeaseList),
+        (10, b's', b'd') => Some(Op::LeaseHold),
+        (10, b's', b'p') => Some(Op::LeaseDrop),
+        (10, b'e', b'n') => Some(Op::GcExplain),
+        (11, b'g', b'l') => Some(Op::ImageLabel),
+        (11, b't', b'd') => Some(Op::ContentAdd),
+        (11, b't', b't') => Some(Op::ContentGet),
+        (11, b'e', b't') => Some(Op::IngestList),
+        (11, b'p', b't') => Some(Op::SnapCommit),
+        (11, b'p', b'e') => Some(Op::SnapRemove),
+        (11, b's', b'l') => Some(Op::LeaseLabel),
+        (12, b'g', b't') => Some(Op::ImageTarget),
+        (12, b'g', b'e') => Some(Op::ImageRemove),
+        (12, b't', b't') => Some(Op::ContentList),
+        (12, b'e', b'n') => Some(Op::IngestBegin),
+        (12, b'e', b't') => Some(Op::IngestAbort),
+        (12, b'p', b'e') => Some(Op::SnapPrepare),
+        (12, b's', b'e') => Some(Op::LeaseRemove),
+        (13, b't', b'd') => Some(Op::ContainerAdd),
+        (13, b't', b't') => Some(Op::ContainerGet),
+        (13, b't', b'l') => Some(Op::ContentLabel),
+        (13, b'e', b't') => Some(Op::IngestCommit),
+        (14, b't', b't') => Some(Op::ContainerList),
+        (14, b't', b'e') => Some(Op::ContentRemove),
+        (15, b't', b'l') => Some(Op::ContainerLabel),
+        (15, b's', b's') => Some(Op::LeaseResources),
+        (16, b't', b'e') => Some(Op::ContainerRemove),
+        _ => None,
+    }
+}
+
+// The op of that name, where one look at it tells.
+fn guessed(name: &str) -> Option<Op>
+    ensures { IfSome result (λ op. op_named name.now ≡ Some op) }
+{
+    let op = guess(name)?;
+    if op.row().op == name { Some(op) } else { None }
 }

@@ -1,37 +1,39 @@
 //! What a line asks for: questions, which change nothing.
-ghost use Rattle.std.specs.Prelude.{◌≡◌};
-ghost use Rattle.serde_json.specs.View.{members_view};
+ghost use Rattle.std.specs.Prelude.{◌≡◌, None, IfOk};
+ghost use Rattle.meta_types.specs.Faults.{Refuses};
 ghost use Rattle.request_line.specs.Table.{asked_of};
+ghost use Rattle.request_line.specs.LineMembers.{object_of};
 
 use crate::asked::Asked;
-use crate::members::{Members, text};
+use crate::members::{Member, text};
 use crate::op::Op;
+use meta_types::Fault;
 use std::alloc::Global;
 
-#[tactic(auto, using(crate::proofs::Taking::others_stay))]
-pub(crate) fn gc_explain(alloc: Global, mut members: Members) -> Asked
-    ensures { result ≡ asked_of Op.GcExplain (members_view members.entries) }
+pub(crate) fn gc_explain(alloc: Global, members: &[Member<'_>]) -> Result<Asked, Fault>
+    ensures fault { Refuses result None }
+    ensures ok { IfOk result (λ asked. asked ≡ asked_of Op.GcExplain (object_of members.now)) }
 {
-    let ns = text(alloc, &mut members, "ns");
-    let kind = text(alloc, &mut members, "type");
-    let resource = text(alloc, &mut members, "resource");
-    let at = text(alloc, &mut members, "at");
-    Asked::Explain {
+    let ns = text(alloc, members, "ns")?;
+    let kind = text(alloc, members, "type")?;
+    let resource = text(alloc, members, "resource")?;
+    let at = text(alloc, members, "at")?;
+    Ok(Asked::Explain {
         ns,
         kind,
         resource,
         at,
-    }
+    })
 }
 
-#[tactic(auto, using(crate::proofs::Taking::others_stay))]
-pub(crate) fn gc_impact(alloc: Global, mut members: Members) -> Asked
-    ensures { result ≡ asked_of Op.GcImpact (members_view members.entries) }
+pub(crate) fn gc_impact(alloc: Global, members: &[Member<'_>]) -> Result<Asked, Fault>
+    ensures fault { Refuses result None }
+    ensures ok { IfOk result (λ asked. asked ≡ asked_of Op.GcImpact (object_of members.now)) }
 {
-    Asked::Impact {
-        ns: text(alloc, &mut members, "ns"),
-        kind: text(alloc, &mut members, "type"),
-        resource: text(alloc, &mut members, "resource"),
-        at: text(alloc, &mut members, "at"),
-    }
+    Ok(Asked::Impact {
+        ns: text(alloc, members, "ns")?,
+        kind: text(alloc, members, "type")?,
+        resource: text(alloc, members, "resource")?,
+        at: text(alloc, members, "at")?,
+    })
 }

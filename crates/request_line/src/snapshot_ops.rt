@@ -1,129 +1,94 @@
 //! What a line asks for: requests on snapshots.
 ghost use Rattle.std.specs.Prelude.{◌≡◌, None, IfOk};
-ghost use Rattle.serde_json.specs.View.{members_view};
 ghost use Rattle.meta_types.specs.Faults.{Refuses};
-ghost use Rattle.request_line.specs.Table.{asked_of};
+ghost use Rattle.request_line.specs.Table.{asked_of, new_snapshot};
+ghost use Rattle.request_line.specs.LineMembers.{object_of};
 
 use crate::asked::Asked;
-use crate::members::{Members, labels, text, text_if_any};
+use crate::members::{Member, label, labels, snapshot, text, text_if_any};
 use crate::op::Op;
-use meta_types::{Fault, Request};
+use meta_types::{Fault, Request, SnapAdd, SnapCommit};
 use std::alloc::Global;
 
-#[tactic(auto, using(crate::proofs::Taking::others_stay))]
-pub(crate) fn snap_prepare(alloc: Global, mut members: Members) -> Result<Asked, Fault>
+// A new snapshot.
+fn new_snapshot(alloc: Global, members: &[Member<'_>]) -> Result<SnapAdd, Fault>
     ensures fault { Refuses result None }
-    ensures ok { IfOk result (λ asked. asked ≡ asked_of Op.SnapPrepare (members_view members.entries)) }
+    ensures ok { IfOk result (λ asked. asked ≡ new_snapshot.said (object_of members.now)) }
 {
-    let ns = text(alloc, &mut members, "ns");
-    let snapshotter = text(alloc, &mut members, "snapshotter");
-    let key = text(alloc, &mut members, "key");
-    let parent = text_if_any(&mut members, "parent");
-    let lease = text_if_any(&mut members, "lease");
-    let labels = labels(alloc, &mut members)?;
-    Ok(Asked::Request(Request::SnapPrepare {
-        ns,
-        snapshotter,
-        key,
+    let snapshot = snapshot(alloc, members, "key")?;
+    let parent = text_if_any(alloc, members, "parent")?;
+    let labels = labels(alloc, members)?;
+    let lease = text_if_any(alloc, members, "lease")?;
+    Ok(SnapAdd {
+        snapshot,
         parent,
         labels,
         lease,
-    }))
+    })
 }
 
-#[tactic(auto, using(crate::proofs::Taking::others_stay))]
-pub(crate) fn snap_view(alloc: Global, mut members: Members) -> Result<Asked, Fault>
+pub(crate) fn snap_prepare(alloc: Global, members: &[Member<'_>]) -> Result<Asked, Fault>
     ensures fault { Refuses result None }
-    ensures ok { IfOk result (λ asked. asked ≡ asked_of Op.SnapView (members_view members.entries)) }
+    ensures ok { IfOk result (λ asked. asked ≡ asked_of Op.SnapPrepare (object_of members.now)) }
 {
-    let ns = text(alloc, &mut members, "ns");
-    let snapshotter = text(alloc, &mut members, "snapshotter");
-    let key = text(alloc, &mut members, "key");
-    let parent = text_if_any(&mut members, "parent");
-    let lease = text_if_any(&mut members, "lease");
-    let labels = labels(alloc, &mut members)?;
-    Ok(Asked::Request(Request::SnapView {
-        ns,
-        snapshotter,
-        key,
-        parent,
-        labels,
-        lease,
-    }))
+    let asked = new_snapshot(alloc, members)?;
+    Ok(Asked::Request(Request::SnapPrepare(asked)))
 }
 
-#[tactic(auto, using(crate::proofs::Taking::others_stay))]
-pub(crate) fn snap_commit(alloc: Global, mut members: Members) -> Result<Asked, Fault>
+pub(crate) fn snap_view(alloc: Global, members: &[Member<'_>]) -> Result<Asked, Fault>
     ensures fault { Refuses result None }
-    ensures ok { IfOk result (λ asked. asked ≡ asked_of Op.SnapCommit (members_view members.entries)) }
+    ensures ok { IfOk result (λ asked. asked ≡ asked_of Op.SnapView (object_of members.now)) }
 {
-    let ns = text(alloc, &mut members, "ns");
-    let snapshotter = text(alloc, &mut members, "snapshotter");
-    let key = text(alloc, &mut members, "key");
-    let name = text(alloc, &mut members, "name");
-    let lease = text_if_any(&mut members, "lease");
-    let labels = labels(alloc, &mut members)?;
-    Ok(Asked::Request(Request::SnapCommit {
-        ns,
-        snapshotter,
-        key,
+    let asked = new_snapshot(alloc, members)?;
+    Ok(Asked::Request(Request::SnapView(asked)))
+}
+
+pub(crate) fn snap_commit(alloc: Global, members: &[Member<'_>]) -> Result<Asked, Fault>
+    ensures fault { Refuses result None }
+    ensures ok { IfOk result (λ asked. asked ≡ asked_of Op.SnapCommit (object_of members.now)) }
+{
+    let snapshot = snapshot(alloc, members, "key")?;
+    let name = text(alloc, members, "name")?;
+    let labels = labels(alloc, members)?;
+    let lease = text_if_any(alloc, members, "lease")?;
+    Ok(Asked::Request(Request::SnapCommit(SnapCommit {
+        snapshot,
         name,
         labels,
         lease,
-    }))
+    })))
 }
 
-#[tactic(auto, using(crate::proofs::Taking::others_stay))]
-pub(crate) fn snap_remove(alloc: Global, mut members: Members) -> Asked
-    ensures { result ≡ asked_of Op.SnapRemove (members_view members.entries) }
+pub(crate) fn snap_remove(alloc: Global, members: &[Member<'_>]) -> Result<Asked, Fault>
+    ensures fault { Refuses result None }
+    ensures ok { IfOk result (λ asked. asked ≡ asked_of Op.SnapRemove (object_of members.now)) }
 {
-    let ns = text(alloc, &mut members, "ns");
-    let snapshotter = text(alloc, &mut members, "snapshotter");
-    let key = text(alloc, &mut members, "key");
-    Asked::Request(Request::SnapRemove {
-        ns,
-        snapshotter,
-        key,
-    })
+    let snapshot = snapshot(alloc, members, "key")?;
+    Ok(Asked::Request(Request::SnapRemove(snapshot)))
 }
 
-#[tactic(auto, using(crate::proofs::Taking::others_stay))]
-pub(crate) fn snap_get(alloc: Global, mut members: Members) -> Asked
-    ensures { result ≡ asked_of Op.SnapGet (members_view members.entries) }
+pub(crate) fn snap_get(alloc: Global, members: &[Member<'_>]) -> Result<Asked, Fault>
+    ensures fault { Refuses result None }
+    ensures ok { IfOk result (λ asked. asked ≡ asked_of Op.SnapGet (object_of members.now)) }
 {
-    let ns = text(alloc, &mut members, "ns");
-    let snapshotter = text(alloc, &mut members, "snapshotter");
-    let key = text(alloc, &mut members, "key");
-    Asked::Request(Request::SnapGet {
-        ns,
-        snapshotter,
-        key,
-    })
+    let snapshot = snapshot(alloc, members, "key")?;
+    Ok(Asked::Request(Request::SnapGet(snapshot)))
 }
 
-#[tactic(auto, using(crate::proofs::Taking::others_stay))]
-pub(crate) fn snap_label(alloc: Global, mut members: Members) -> Asked
-    ensures { result ≡ asked_of Op.SnapLabel (members_view members.entries) }
+pub(crate) fn snap_label(alloc: Global, members: &[Member<'_>]) -> Result<Asked, Fault>
+    ensures fault { Refuses result None }
+    ensures ok { IfOk result (λ asked. asked ≡ asked_of Op.SnapLabel (object_of members.now)) }
 {
-    let ns = text(alloc, &mut members, "ns");
-    let snapshotter = text(alloc, &mut members, "snapshotter");
-    let name = text(alloc, &mut members, "name");
-    let key = text(alloc, &mut members, "key");
-    let value = text(alloc, &mut members, "value");
-    Asked::Request(Request::SnapLabel {
-        ns,
-        snapshotter,
-        name,
-        key,
-        value,
-    })
+    let snapshot = snapshot(alloc, members, "name")?;
+    let label = label(alloc, members)?;
+    Ok(Asked::Request(Request::SnapLabel(snapshot, label)))
 }
 
-#[tactic(auto, using(crate::proofs::Taking::others_stay))]
-pub(crate) fn snap_list(alloc: Global, mut members: Members) -> Asked
-    ensures { result ≡ asked_of Op.SnapList (members_view members.entries) }
+pub(crate) fn snap_list(alloc: Global, members: &[Member<'_>]) -> Result<Asked, Fault>
+    ensures fault { Refuses result None }
+    ensures ok { IfOk result (λ asked. asked ≡ asked_of Op.SnapList (object_of members.now)) }
 {
-    let ns = text(alloc, &mut members, "ns");
-    let snapshotter = text(alloc, &mut members, "snapshotter");
-    Asked::Request(Request::SnapList { ns, snapshotter })
+    let ns = text(alloc, members, "ns")?;
+    let snapshotter = text(alloc, members, "snapshotter")?;
+    Ok(Asked::Request(Request::SnapList { ns, snapshotter }))
 }

@@ -18,7 +18,7 @@ use Rattle.meta_types.specs.declared.fault.Fault.{Fault}
 use Rattle.meta_types.specs.Keys.{Key, is_key, row_at, has_row, add_row, remove_row, change_row}
 use Rattle.meta_types.proofs.ListSearches.{found_is, row_is_found, no_none, some_is}
 use Rattle.row_tables.specs.Arrived.{sorted, by_name, same_key, keys_equiv, kept, AreNamed, Becomes}
-use Rattle.row_tables.proofs.Arrivals.{moved_out, went, row_sorted, has_sorted, arrived, one_order, change_added, same_absent, head_absent}
+use Rattle.row_tables.proofs.Arrivals.{moved_out, went, row_sorted, has_sorted, row_arrived, one_order, change_added, same_absent, head_absent}
 
 -- a name under which a row was added was free
 pub was_free : (r : Result (Unit {0}) Fault) (there : Bool) → Refuses r (least_of false false there false) → OnOk r (there ≡ false)
@@ -135,7 +135,7 @@ module _ {K Row : Type 0} (eq : K → K → Bool) (texts_of : K → Key) (name_o
         let key_of = by_name texts_of name_of in
         let are_new : AreNamed eq name_of new = named_more {A = Unit {0}} {B = Unit {0}} (Ok tt) new once is tt in
         let e = last_row new is in
-        ap (sorted key_of) e ∙ arrived key_of row (values_of old) (sym (has_sorted key_of (key_of row) (values_of old)) ∙ free) (rows_apart old are)
+        ap (sorted key_of) e ∙ row_arrived key_of row (values_of old) (sym (has_sorted key_of (key_of row) (values_of old)) ∙ free) (rows_apart old are)
         (subst (IsDistinct (same_key key_of)) e (rows_apart new are_new))
 
   -- the row that is there, under its own name

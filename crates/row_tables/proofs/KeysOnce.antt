@@ -1,4 +1,4 @@
--- No key stands twice, as the rows came and in order.
+-- No key stands twice, as the rows arrived and in order.
 use Rattle.std.proofs.Common.{◌≡◌, Bool, true, false, List, [], ◌∷◌, map, refl, sym, ap, ◌∙◌, inl, inr}
 use Rattle.std.specs.Prelude.{All}
 use Rattle.std.specs.List.{IsDistinct, AllByRecursion}
@@ -8,10 +8,10 @@ use Rattle.meta_types.specs.Text.{Text}
 use Rattle.meta_types.specs.Keys.{Key, is_before, is_first, add_row, are_in_order}
 use Rattle.meta_types.proofs.OneRowPerKey.{before_all}
 use Rattle.row_tables.specs.Arrived.{sorted, same_key, keys_equiv, kept}
-use Rattle.row_tables.specs.Came.{listed, in_names, AreCame}
+use Rattle.row_tables.specs.ArrivedNamespaces.{listed, in_names, AreArrived}
 use Rattle.row_tables.specs.Namespaces.{group_key, all_rows}
 use Rattle.row_tables.proofs.ListedNamespaces.{all_in}
-use Rattle.row_tables.proofs.NamespacesCame.{key, name, own_out, in_turn, came}
+use Rattle.row_tables.proofs.NamespacesArrived.{key, name, own_out, in_turn, arrived}
 use Rattle.row_tables.proofs.Arrivals.{is_in_order}
 use Rattle.std.specs.Cmp.{on_equiv}
 use Rattle.std.specs.List.Sorted.{IsPermutation}
@@ -67,8 +67,11 @@ module _ {K Row : Type 0} (texts_of : K → Key) (name_of : Row → K) (ns_of : 
   own_listed (g ∷ gs) all = all_cons (IsOwn texts_of name_of ns_of) (in_names (name texts_of name_of ns_of) g) (listed (name texts_of name_of ns_of) gs) (all_in (name texts_of name_of ns_of) (λ row. ns_of row ≡ g.0) g.1 (All-head (IsOwn texts_of name_of ns_of) g gs all)) (own_listed gs (All-tail (IsOwn texts_of name_of ns_of) g gs all))
 
   -- namespaces in order, each with its own rows, in which no key stands twice
-  pub are_came : (gs : List (Text × List Row)) → are_in_order group_key gs ≡ true → All (IsOwn texts_of name_of ns_of) gs → IsDistinct (same_key (key texts_of name_of ns_of)) (all_rows gs) → AreCame (key texts_of name_of ns_of) (name texts_of name_of ns_of) ns_of gs
-  are_came gs o mine apart = record {
+  pub are_arrived : (gs : List (Text × List Row)) → are_in_order group_key gs ≡ true
+      → All (IsOwn texts_of name_of ns_of) gs
+      → IsDistinct (same_key (key texts_of name_of ns_of)) (all_rows gs)
+      → AreArrived (key texts_of name_of ns_of) (name texts_of name_of ns_of) ns_of gs
+  are_arrived gs o mine apart = record {
     order = o;
     listed = record {
       order = listed_order gs ∙ o;
@@ -84,8 +87,12 @@ module _ {K Row : Type 0} (texts_of : K → Key) (name_of : Row → K) (ns_of : 
       listed_order : (hs : List (Text × List Row)) → are_in_order group_key (listed (name texts_of name_of ns_of) hs) ≡ are_in_order group_key hs
       listed_order hs = order_of_names (listed (name texts_of name_of ns_of) hs) hs (names hs)
 
-  pub came_own : (gs : List (Text × List Row)) → AreCame (key texts_of name_of ns_of) (name texts_of name_of ns_of) ns_of gs → All (IsOwn texts_of name_of ns_of) gs
-  came_own gs are = own_out texts_of name_of ns_of gs are.listed.own
+  pub arrived_own : (gs : List (Text × List Row))
+      → AreArrived (key texts_of name_of ns_of) (name texts_of name_of ns_of) ns_of gs
+      → All (IsOwn texts_of name_of ns_of) gs
+  arrived_own gs are = own_out texts_of name_of ns_of gs are.listed.own
 
-  pub came_apart : (gs : List (Text × List Row)) → AreCame (key texts_of name_of ns_of) (name texts_of name_of ns_of) ns_of gs → IsDistinct (same_key (key texts_of name_of ns_of)) (all_rows gs)
-  came_apart gs are = sorted_apart (key texts_of name_of ns_of) (all_rows gs) (ap (are_in_order (key texts_of name_of ns_of)) (came texts_of name_of ns_of gs are) ∙ are.listed.rows)
+  pub arrived_apart : (gs : List (Text × List Row))
+      → AreArrived (key texts_of name_of ns_of) (name texts_of name_of ns_of) ns_of gs
+      → IsDistinct (same_key (key texts_of name_of ns_of)) (all_rows gs)
+  arrived_apart gs are = sorted_apart (key texts_of name_of ns_of) (all_rows gs) (ap (are_in_order (key texts_of name_of ns_of)) (arrived texts_of name_of ns_of gs are) ∙ are.listed.rows)

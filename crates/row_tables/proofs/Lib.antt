@@ -14,7 +14,7 @@ pub mod NamespaceListings
 pub mod NamespaceLists
 pub mod NamespaceRows
 pub mod NamespaceSpans
-pub mod NamespacesCame
+pub mod NamespacesArrived
 pub mod Retained
 pub mod RowCounts
 pub mod SnapshotterRows

@@ -10,7 +10,7 @@ use Rattle.meta_types.proofs.ListSearches.{no_none, some_is}
 use Rattle.meta_types.proofs.KeepsSound.{all_added}
 use Rattle.meta_types.proofs.Members.{here, later}
 use Rattle.row_tables.specs.Arrived.{sorted}
-use Rattle.row_tables.specs.Came.{listed, in_names}
+use Rattle.row_tables.specs.ArrivedNamespaces.{listed, in_names}
 use Rattle.row_tables.specs.Namespaces.{group_key}
 use Rattle.row_tables.proofs.Arrivals.{in_sorted}
 use Rattle.row_tables.proofs.JoinedLists.{all_cons}

@@ -8,14 +8,14 @@ use Rattle.std.proofs.lemmas.List.Elements.{All-set}
 use Rattle.meta_types.specs.Text.{Text}
 use Rattle.meta_types.specs.Keys.{Key}
 use Rattle.row_tables.specs.Arrived.{kept, sorted, same_key}
-use Rattle.row_tables.specs.Came.{AreCame, HaveCame}
+use Rattle.row_tables.specs.ArrivedNamespaces.{AreArrived, HaveArrived}
 use Rattle.row_tables.specs.Visiting.{gone, all_visited}
 use Rattle.row_tables.specs.Namespaces.{all_rows}
 use Rattle.row_tables.proofs.Arrivals.{kept_stays}
 use Rattle.row_tables.proofs.KeptRows.{all_kept, kept_less}
-use Rattle.row_tables.proofs.KeysOnce.{are_came, came_own, came_apart, kept_apart}
+use Rattle.row_tables.proofs.KeysOnce.{are_arrived, arrived_own, arrived_apart, kept_apart}
 use Rattle.row_tables.proofs.NamespaceLists.{names_kept, order_of_names, rows_append}
-use Rattle.row_tables.proofs.NamespacesCame.{key, name}
+use Rattle.row_tables.proofs.NamespacesArrived.{key, name}
 use Rattle.row_tables.proofs.RowCounts.{length_marked}
 
 module _ {Row : Type 0} where
@@ -148,34 +148,41 @@ module _ {K Row : Type 0} (texts_of : K → Key) (name_of : Row → K) (ns_of : 
   abbrev full : Row → Key
   full row = key texts_of name_of ns_of row
 
-  abbrev Came : List (Text × List Row) → Type 0
-  Came gs = AreCame full (name texts_of name_of ns_of) ns_of gs
+  abbrev ArrivedNamespaces : List (Text × List Row) → Type 0
+  ArrivedNamespaces gs = AreArrived full (name texts_of name_of ns_of) ns_of gs
 
-  pub retains_none : {marks : List Bool} {gs : List (Text × List Row)} → length marks ≡ length (all_rows gs) → Came gs → Retains ns_of marks gs gs 0 marks
-  retains_none {marks} {gs} len came = record { len = len; rows = refl; names = refl; own = came_own texts_of name_of ns_of gs came }
+  pub retains_none : {marks : List Bool} {gs : List (Text × List Row)}
+      → length marks ≡ length (all_rows gs) → ArrivedNamespaces gs
+      → Retains ns_of marks gs gs 0 marks
+  retains_none {marks} {gs} len arrived = record { len = len; rows = refl; names = refl; own = arrived_own texts_of name_of ns_of gs arrived }
 
   -- each namespace has its own rows still
-  pub retains_came : {marks : List Bool} {old gs : List (Text × List Row)} {i : ℕ} {rest : List Bool} → Retains ns_of marks old gs i rest → length gs ≤ i → Came old → Came gs
-  retains_came {marks} {old} {gs} so past came =
-      are_came texts_of name_of ns_of gs (order_of_names gs old so.names ∙ came.order) so.own
-      (subst (IsDistinct (same_key full)) (sym (retains_all ns_of so past)) (kept_apart full marks (all_rows old) (came_apart texts_of name_of ns_of old came)))
+  pub retains_arrived : {marks : List Bool} {old gs : List (Text × List Row)} {i : ℕ} {rest : List Bool}
+      → Retains ns_of marks old gs i rest → length gs ≤ i → ArrivedNamespaces old
+      → ArrivedNamespaces gs
+  retains_arrived {marks} {old} {gs} so past arrived =
+      are_arrived texts_of name_of ns_of gs (order_of_names gs old so.names ∙ arrived.order) so.own
+      (subst (IsDistinct (same_key full)) (sym (retains_all ns_of so past)) (kept_apart full marks (all_rows old) (arrived_apart texts_of name_of ns_of old arrived)))
 
-  module _ (marks : List Bool) {gs new : List (Text × List Row)} {rows : List Row} (view : all_rows gs ≡ rows) (left : all_rows new ≡ kept marks (all_rows gs)) (came : Came new) where
+  module _ (marks : List Bool) {gs new : List (Text × List Row)} {rows : List Row} (view : all_rows gs ≡ rows) (left : all_rows new ≡ kept marks (all_rows gs)) (arrived : ArrivedNamespaces new) where
     -- as many stay as are marked
-    pub swept_counted : {old count : ℕ} → HaveCame full (name texts_of name_of ns_of) ns_of gs old → length marks ≡ length rows → count ≡ count_by (λ mark. mark) marks
-        → HaveCame full (name texts_of name_of ns_of) ns_of new count
+    pub swept_counted : {old count : ℕ}
+        → HaveArrived full (name texts_of name_of ns_of) ns_of gs old → length marks ≡ length rows
+        → count ≡ count_by (λ mark. mark) marks
+        → HaveArrived full (name texts_of name_of ns_of) ns_of new count
     swept_counted {old} {count} have len counted =
         let marked = length_marked marks (all_rows gs) (len ∙ ap length (sym view)) in
         let less = kept_less marks (all_rows gs) in
         record {
-          are = came;
+          are = arrived;
           counted = counted ∙ sym marked ∙ ap length (sym left);
           fits = omega (arith, less, marked, counted, have.counted, have.fits);
         }
 
     -- in the order of their keys, those stay that the test lets stay
-    pub swept_sorted : Came gs → (stays : Row → Bool) → marks ≡ map stays rows → sorted full (all_rows new) ≡ filter stays (sorted full rows)
+    pub swept_sorted : ArrivedNamespaces gs → (stays : Row → Bool) → marks ≡ map stays rows
+        → sorted full (all_rows new) ≡ filter stays (sorted full rows)
     swept_sorted old stays by =
         kept_stays full stays rows (all_rows new) marks
-        (subst (IsDistinct (same_key full)) view (came_apart texts_of name_of ns_of gs old)) (came_apart texts_of name_of ns_of new came)
+        (subst (IsDistinct (same_key full)) view (arrived_apart texts_of name_of ns_of gs old)) (arrived_apart texts_of name_of ns_of new arrived)
         (left ∙ ap (kept marks) view) by

@@ -1,4 +1,4 @@
-//! Rows of all namespaces, as they came.
+//! Rows of all namespaces, as they arrived.
 ghost use Rattle.std.specs.Prelude.{◌≡◌, ◌∷◌, [], map, false, None, count_by, IfOk, OnOk, OnErr, IfSome, IfNone, IsTrue, Bool, length, filter, bytes_eq, option_copied};
 ghost use Rattle.std.specs.List.{list_any, list_all, IsDistinct};
 ghost use Rattle.meta_types.specs.Keys.{are_in_order, row_at, has_row, add_row, remove_row};
@@ -17,7 +17,7 @@ use meta_types::{Fault, ShortName};
 use std::alloc::Global;
 use std::marker::Model;
 
-/// Rows of all namespaces, as they came: those of one namespace stand together, and the namespaces
+/// Rows of all namespaces, as they arrived: those of one namespace stand together, and the namespaces
 /// in the order of their bytes. A row's place is its number. Where one goes, the last of its
 /// namespace takes its place.
 #[derive(Drop)]
@@ -30,13 +30,13 @@ impl<K: Named, R: GroupedRow<K>> Model for ArrivedByNamespace<K, R> {
     ghost use Rattle.std.specs.Prelude.{List};
     ghost use Rattle.row_tables.specs.Arrived.{by_name};
     ghost use Rattle.row_tables.specs.Namespaces.{full_key, all_rows};
-    ghost use Rattle.row_tables.specs.Came.{HaveCame};
+    ghost use Rattle.row_tables.specs.ArrivedNamespaces.{HaveArrived};
 
     ghost Value = { List R };
 
     ghost view = { λ t. all_rows t.groups.items };
 
-    ghost invariant = { λ t. HaveCame (full_key K.texts_of R.name_of R.group_of)
+    ghost invariant = { λ t. HaveArrived (full_key K.texts_of R.name_of R.group_of)
         (by_name K.texts_of R.name_of) R.group_of t.groups.items t.count };
 }
 
@@ -88,7 +88,7 @@ impl<K: Named, R: GroupedRow<K>> ArrivedByNamespace<K, R> {
         find::row_in(&self.groups, ns, name)
     }
 
-    /// The rows of a namespace, as they came.
+    /// The rows of a namespace, as they arrived.
     pub fn rows(&self, ns: &ShortName) -> Option<&[R]>
         ensures rows { IfSome result (λ rows. rows.now
             ≡ filter (λ row. bytes_eq ns.now (R.group_of row)) self.now) }
@@ -204,11 +204,11 @@ impl<K: Named, R: GroupedRow<K>> ArrivedByNamespace<K, R> {
     }
 
     /// The rows, in the order of their places.
-    pub fn list_came(&self, alloc: Global) -> Result<Vec<&R>, Fault>
+    pub fn list_arrived(&self, alloc: Global) -> Result<Vec<&R>, Fault>
         ensures fault { Refuses result None }
         ensures ok { IfOk result (λ list. map (λ row. row.now) list.items ≡ self.now) }
     {
-        list::rows_came(&self.groups, alloc)
+        list::rows_arrived(&self.groups, alloc)
     }
 
     /// A copy, with the rows at the same places, which shares their texts.

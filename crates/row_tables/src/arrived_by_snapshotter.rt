@@ -1,4 +1,4 @@
-//! Rows of all namespaces, by snapshotter, as they came.
+//! Rows of all namespaces, by snapshotter, as they arrived.
 ghost use Rattle.std.specs.Prelude.{◌≡◌, ◌∷◌, [], map, false, None, count_by, IfOk, OnOk, OnErr, IfSome, IfNone, IsTrue, Bool, length, filter, bytes_eq, ◌&&◌, option_copied};
 ghost use Rattle.std.specs.List.{list_any, list_all, IsDistinct};
 ghost use Rattle.meta_types.specs.Keys.{are_in_order, row_at, has_row, add_row, remove_row};
@@ -17,7 +17,7 @@ use meta_types::{Fault, ShortName};
 use std::alloc::Global;
 use std::marker::Model;
 
-/// Rows of all namespaces, by snapshotter, as they came: those of one snapshotter in a namespace
+/// Rows of all namespaces, by snapshotter, as they arrived: those of one snapshotter in a namespace
 /// stand together, in the order of the bytes of both. A row's place is its number. Where one goes,
 /// the last of its snapshotter and namespace takes its place.
 #[derive(Drop)]
@@ -29,13 +29,13 @@ pub struct ArrivedBySnapshotter<K: Named, R: SnapshotterRow<K>> {
 impl<K: Named, R: SnapshotterRow<K>> Model for ArrivedBySnapshotter<K, R> {
     ghost use Rattle.std.specs.Prelude.{List};
     ghost use Rattle.row_tables.specs.Namespaces.{full_key, layered_key, all_rows};
-    ghost use Rattle.row_tables.specs.Came.{HaveCame};
+    ghost use Rattle.row_tables.specs.ArrivedNamespaces.{HaveArrived};
 
     ghost Value = { List R };
 
     ghost view = { λ t. all_rows t.groups.items };
 
-    ghost invariant = { λ t. HaveCame (layered_key K.texts_of R.name_of R.group_of R.ns_of)
+    ghost invariant = { λ t. HaveArrived (layered_key K.texts_of R.name_of R.group_of R.ns_of)
         (full_key K.texts_of R.name_of R.group_of) R.ns_of t.groups.items t.count };
 }
 
@@ -90,7 +90,7 @@ impl<K: Named, R: SnapshotterRow<K>> ArrivedBySnapshotter<K, R> {
         find::row_in(&self.groups, ns, snapshotter, name)
     }
 
-    /// The rows of a snapshotter in a namespace, as they came.
+    /// The rows of a snapshotter in a namespace, as they arrived.
     pub fn rows(&self, ns: &ShortName, snapshotter: &ShortName) -> Option<&[R]>
         ensures rows { IfSome result (λ rows. rows.now ≡ filter
             (λ row. bytes_eq ns.now (R.ns_of row) && bytes_eq snapshotter.now (R.group_of row))
@@ -232,11 +232,11 @@ impl<K: Named, R: SnapshotterRow<K>> ArrivedBySnapshotter<K, R> {
     }
 
     /// The rows, in the order of their places.
-    pub fn list_came(&self, alloc: Global) -> Result<Vec<&R>, Fault>
+    pub fn list_arrived(&self, alloc: Global) -> Result<Vec<&R>, Fault>
         ensures fault { Refuses result None }
         ensures ok { IfOk result (λ list. map (λ row. row.now) list.items ≡ self.now) }
     {
-        list::rows_came(&self.groups, alloc)
+        list::rows_arrived(&self.groups, alloc)
     }
 
     /// A copy, with the rows at the same places, which shares their texts.

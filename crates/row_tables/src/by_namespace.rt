@@ -18,7 +18,7 @@ use std::marker::Model;
 /// its namespace by a hash of its name.
 #[derive(Drop)]
 pub struct ByNamespace<K: Named, R: GroupedRow<K>> {
-    came: ArrivedByNamespace<K, R>,
+    arrived: ArrivedByNamespace<K, R>,
 }
 
 impl<K: Named, R: GroupedRow<K>> Model for ByNamespace<K, R> {
@@ -28,7 +28,7 @@ impl<K: Named, R: GroupedRow<K>> Model for ByNamespace<K, R> {
 
     ghost Value = { List R };
 
-    ghost view = { λ t. sorted (full_key K.texts_of R.name_of R.group_of) t.came };
+    ghost view = { λ t. sorted (full_key K.texts_of R.name_of R.group_of) t.arrived };
 }
 
 impl<K: Named, R: GroupedRow<K>> ByNamespace<K, R> {
@@ -37,36 +37,36 @@ impl<K: Named, R: GroupedRow<K>> ByNamespace<K, R> {
         ensures { result ≡ [] }
     {
         ByNamespace {
-            came: ArrivedByNamespace::new(alloc),
+            arrived: ArrivedByNamespace::new(alloc),
         }
     }
 
-    /// Lends the rows as they came.
-    pub fn came(&self) -> &ArrivedByNamespace<K, R>
+    /// Lends the rows as they arrived.
+    pub fn arrived(&self) -> &ArrivedByNamespace<K, R>
         ensures { sorted (full_key K.texts_of R.name_of R.group_of) result.now ≡ self.now }
     {
-        &self.came
+        &self.arrived
     }
 
-    /// Hands over the rows as they came; none is copied or sorted.
-    pub fn into_came(self) -> ArrivedByNamespace<K, R>
+    /// Hands over the rows as they arrived; none is copied or sorted.
+    pub fn into_arrived(self) -> ArrivedByNamespace<K, R>
         ensures { sorted (full_key K.texts_of R.name_of R.group_of) result ≡ self }
     {
-        self.came
+        self.arrived
     }
 
-    /// Takes over the rows as they came; none is copied or sorted.
-    pub fn from_came(came: ArrivedByNamespace<K, R>) -> ByNamespace<K, R>
-        ensures { result ≡ sorted (full_key K.texts_of R.name_of R.group_of) came }
+    /// Takes over the rows as they arrived; none is copied or sorted.
+    pub fn from_arrived(arrived: ArrivedByNamespace<K, R>) -> ByNamespace<K, R>
+        ensures { result ≡ sorted (full_key K.texts_of R.name_of R.group_of) arrived }
     {
-        ByNamespace { came }
+        ByNamespace { arrived }
     }
 
     /// How many rows there are.
     pub fn len(&self) -> u128
         ensures { result ≡ length self.now }
     {
-        self.came.len() as u128
+        self.arrived.len() as u128
     }
 
     /// Whether the row is there. Each caller learns here that keys stand in their order.
@@ -76,8 +76,8 @@ impl<K: Named, R: GroupedRow<K>> ByNamespace<K, R> {
         ensures order { IsTrue (are_in_order (full_key K.texts_of R.name_of R.group_of) self.now) }
     {
         // Its clause says that the keys stand in their order.
-        let _count = self.came.len();
-        self.came.has(ns, name)
+        let _count = self.arrived.len();
+        self.arrived.has(ns, name)
     }
 
     /// The row of a namespace and a name.
@@ -87,8 +87,8 @@ impl<K: Named, R: GroupedRow<K>> ByNamespace<K, R> {
         ensures order { IsTrue (are_in_order (full_key K.texts_of R.name_of R.group_of) self.now) }
     {
         // Its clause says that the keys stand in their order.
-        let _count = self.came.len();
-        self.came.get(ns, name)
+        let _count = self.arrived.len();
+        self.arrived.get(ns, name)
     }
 
     /// Adds a row where none has its key. It takes the text of its namespace that is there.
@@ -100,7 +100,7 @@ impl<K: Named, R: GroupedRow<K>> ByNamespace<K, R> {
             ≡ add_row (full_key K.texts_of R.name_of R.group_of) row self.old) }
         ensures err { OnErr result (self.new ≡ self.old) }
     {
-        self.came.add_new(alloc, row)
+        self.arrived.add_new(alloc, row)
     }
 
     /// Adds a row where none has its key; one look finds whether one has. It takes the text of its
@@ -113,7 +113,7 @@ impl<K: Named, R: GroupedRow<K>> ByNamespace<K, R> {
             ≡ add_row (full_key K.texts_of R.name_of R.group_of) row self.old) }
         ensures err { OnErr result (self.new ≡ self.old) }
     {
-        self.came.add_new(alloc, row)
+        self.arrived.add_new(alloc, row)
     }
 
     /// Takes out the row of a namespace and a name.
@@ -123,7 +123,7 @@ impl<K: Named, R: GroupedRow<K>> ByNamespace<K, R> {
         ensures left { self.new ≡ remove_row (full_key K.texts_of R.name_of R.group_of)
             (ns.now ∷ K.texts_of name.now) self.old }
     {
-        self.came.take(ns, name)
+        self.arrived.take(ns, name)
     }
 
     /// Removes the row of a namespace and a name; says whether it was there.
@@ -157,21 +157,21 @@ impl<K: Named, R: GroupedRow<K>> ByNamespace<K, R> {
             × C.changes change row answer after × Becomes (full_key K.texts_of R.name_of R.group_of)
             (ns.now ∷ K.texts_of name.now) row after self.old self.new) }
     {
-        self.came.change(ns, name, change)
+        self.arrived.change(ns, name, change)
     }
 
     /// Whether all rows pass the test.
     pub fn all<T: Test<R>>(&self, test: &T) -> bool
         ensures { result ≡ list_all (T.passes test.now) self.now }
     {
-        self.came.all(test)
+        self.arrived.all(test)
     }
 
     /// Whether some row is in the namespace.
     pub fn any_in(&self, ns: &ShortName) -> bool
         ensures { result ≡ list_any (λ row. bytes_eq ns.now (R.group_of row)) self.now }
     {
-        self.came.any_in(ns)
+        self.arrived.any_in(ns)
     }
 
     /// The rows of a namespace, in the order of their keys.
@@ -180,7 +180,7 @@ impl<K: Named, R: GroupedRow<K>> ByNamespace<K, R> {
         ensures ok { IfOk result (λ list. map (λ row. row.now) list.items
             ≡ filter (λ row. bytes_eq ns.now (R.group_of row)) self.now) }
     {
-        self.came.list_in(alloc, ns)
+        self.arrived.list_in(alloc, ns)
     }
 
     /// The rows, in the order of their keys.
@@ -190,8 +190,8 @@ impl<K: Named, R: GroupedRow<K>> ByNamespace<K, R> {
         ensures order { IsTrue (are_in_order (full_key K.texts_of R.name_of R.group_of) self.now) }
     {
         // Its clause says that the keys stand in their order.
-        let _count = self.came.len();
-        self.came.list(alloc)
+        let _count = self.arrived.len();
+        self.arrived.list(alloc)
     }
 
     /// A copy, which shares the texts of the rows.
@@ -199,7 +199,7 @@ impl<K: Named, R: GroupedRow<K>> ByNamespace<K, R> {
         ensures fault { Refuses result None }
         ensures ok { IfOk result (λ table. table ≡ self.now) }
     {
-        let came = self.came.copy(alloc)?;
-        Ok(ByNamespace { came })
+        let arrived = self.arrived.copy(alloc)?;
+        Ok(ByNamespace { arrived })
     }
 }

@@ -18,7 +18,7 @@ use std::marker::Model;
 /// is found by a hash of its name.
 #[derive(Drop)]
 pub struct BySnapshotter<K: Named, R: SnapshotterRow<K>> {
-    came: ArrivedBySnapshotter<K, R>,
+    arrived: ArrivedBySnapshotter<K, R>,
 }
 
 impl<K: Named, R: SnapshotterRow<K>> Model for BySnapshotter<K, R> {
@@ -28,7 +28,7 @@ impl<K: Named, R: SnapshotterRow<K>> Model for BySnapshotter<K, R> {
 
     ghost Value = { List R };
 
-    ghost view = { λ t. sorted (layered_key K.texts_of R.name_of R.group_of R.ns_of) t.came };
+    ghost view = { λ t. sorted (layered_key K.texts_of R.name_of R.group_of R.ns_of) t.arrived };
 }
 
 impl<K: Named, R: SnapshotterRow<K>> BySnapshotter<K, R> {
@@ -37,29 +37,29 @@ impl<K: Named, R: SnapshotterRow<K>> BySnapshotter<K, R> {
         ensures { result ≡ [] }
     {
         BySnapshotter {
-            came: ArrivedBySnapshotter::new(alloc),
+            arrived: ArrivedBySnapshotter::new(alloc),
         }
     }
 
-    /// Lends the rows as they came.
-    pub fn came(&self) -> &ArrivedBySnapshotter<K, R>
+    /// Lends the rows as they arrived.
+    pub fn arrived(&self) -> &ArrivedBySnapshotter<K, R>
         ensures { sorted (layered_key K.texts_of R.name_of R.group_of R.ns_of) result.now ≡ self.now }
     {
-        &self.came
+        &self.arrived
     }
 
-    /// Hands over the rows as they came; none is copied or sorted.
-    pub fn into_came(self) -> ArrivedBySnapshotter<K, R>
+    /// Hands over the rows as they arrived; none is copied or sorted.
+    pub fn into_arrived(self) -> ArrivedBySnapshotter<K, R>
         ensures { sorted (layered_key K.texts_of R.name_of R.group_of R.ns_of) result ≡ self }
     {
-        self.came
+        self.arrived
     }
 
-    /// Takes over the rows as they came; none is copied or sorted.
-    pub fn from_came(came: ArrivedBySnapshotter<K, R>) -> BySnapshotter<K, R>
-        ensures { result ≡ sorted (layered_key K.texts_of R.name_of R.group_of R.ns_of) came }
+    /// Takes over the rows as they arrived; none is copied or sorted.
+    pub fn from_arrived(arrived: ArrivedBySnapshotter<K, R>) -> BySnapshotter<K, R>
+        ensures { result ≡ sorted (layered_key K.texts_of R.name_of R.group_of R.ns_of) arrived }
     {
-        BySnapshotter { came }
+        BySnapshotter { arrived }
     }
 
     /// How many rows there are. Each caller learns here that keys stand in their order.
@@ -68,7 +68,7 @@ impl<K: Named, R: SnapshotterRow<K>> BySnapshotter<K, R> {
         ensures order { IsTrue (are_in_order (layered_key K.texts_of R.name_of R.group_of R.ns_of)
             self.now) }
     {
-        self.came.len() as u128
+        self.arrived.len() as u128
     }
 
     /// Whether the row is there.
@@ -79,8 +79,8 @@ impl<K: Named, R: SnapshotterRow<K>> BySnapshotter<K, R> {
             self.now) }
     {
         // Its clause says that the keys stand in their order.
-        let _count = self.came.len();
-        self.came.has(ns, snapshotter, name)
+        let _count = self.arrived.len();
+        self.arrived.has(ns, snapshotter, name)
     }
 
     /// The row of a namespace, a snapshotter and a name.
@@ -92,8 +92,8 @@ impl<K: Named, R: SnapshotterRow<K>> BySnapshotter<K, R> {
             self.now) }
     {
         // Its clause says that the keys stand in their order.
-        let _count = self.came.len();
-        self.came.get(ns, snapshotter, name)
+        let _count = self.arrived.len();
+        self.arrived.get(ns, snapshotter, name)
     }
 
     /// Adds a row where none has its key. It takes the texts of its namespace and its snapshotter
@@ -106,7 +106,7 @@ impl<K: Named, R: SnapshotterRow<K>> BySnapshotter<K, R> {
             ≡ add_row (layered_key K.texts_of R.name_of R.group_of R.ns_of) row self.old) }
         ensures err { OnErr result (self.new ≡ self.old) }
     {
-        self.came.add_new(alloc, row)
+        self.arrived.add_new(alloc, row)
     }
 
     /// Takes out the row of a namespace, a snapshotter and a name.
@@ -116,7 +116,7 @@ impl<K: Named, R: SnapshotterRow<K>> BySnapshotter<K, R> {
         ensures left { self.new ≡ remove_row (layered_key K.texts_of R.name_of R.group_of R.ns_of)
             (ns.now ∷ snapshotter.now ∷ K.texts_of name.now) self.old }
     {
-        self.came.take(ns, snapshotter, name)
+        self.arrived.take(ns, snapshotter, name)
     }
 
     /// Removes the row of a namespace, a snapshotter and a name; says whether it was there.
@@ -155,21 +155,21 @@ impl<K: Named, R: SnapshotterRow<K>> BySnapshotter<K, R> {
             × Becomes (layered_key K.texts_of R.name_of R.group_of R.ns_of)
             (ns.now ∷ snapshotter.now ∷ K.texts_of name.now) row after self.old self.new) }
     {
-        self.came.change(ns, snapshotter, name, change)
+        self.arrived.change(ns, snapshotter, name, change)
     }
 
     /// Whether all rows pass the test.
     pub fn all<T: Test<R>>(&self, test: &T) -> bool
         ensures { result ≡ list_all (T.passes test.now) self.now }
     {
-        self.came.all(test)
+        self.arrived.all(test)
     }
 
     /// Whether some row is in the namespace.
     pub fn any_in(&self, ns: &ShortName) -> bool
         ensures { result ≡ list_any (λ row. bytes_eq ns.now (R.ns_of row)) self.now }
     {
-        self.came.any_in(ns)
+        self.arrived.any_in(ns)
     }
 
     /// The rows of a namespace, in the order of their keys.
@@ -178,7 +178,7 @@ impl<K: Named, R: SnapshotterRow<K>> BySnapshotter<K, R> {
         ensures ok { IfOk result (λ list. map (λ row. row.now) list.items
             ≡ filter (λ row. bytes_eq ns.now (R.ns_of row)) self.now) }
     {
-        self.came.list_in(alloc, ns)
+        self.arrived.list_in(alloc, ns)
     }
 
     /// The rows of a snapshotter in a namespace, in the order of their keys.
@@ -193,7 +193,7 @@ impl<K: Named, R: SnapshotterRow<K>> BySnapshotter<K, R> {
             (λ row. bytes_eq ns.now (R.ns_of row) && bytes_eq snapshotter.now (R.group_of row))
             self.now) }
     {
-        self.came.list_of(alloc, ns, snapshotter)
+        self.arrived.list_of(alloc, ns, snapshotter)
     }
 
     /// The rows, in the order of their keys.
@@ -204,8 +204,8 @@ impl<K: Named, R: SnapshotterRow<K>> BySnapshotter<K, R> {
             self.now) }
     {
         // Its clause says that the keys stand in their order.
-        let _count = self.came.len();
-        self.came.list(alloc)
+        let _count = self.arrived.len();
+        self.arrived.list(alloc)
     }
 
     /// A copy, which shares the texts of the rows.
@@ -213,7 +213,7 @@ impl<K: Named, R: SnapshotterRow<K>> BySnapshotter<K, R> {
         ensures fault { Refuses result None }
         ensures ok { IfOk result (λ table. table ≡ self.now) }
     {
-        let came = self.came.copy(alloc)?;
-        Ok(BySnapshotter { came })
+        let arrived = self.arrived.copy(alloc)?;
+        Ok(BySnapshotter { arrived })
     }
 }

@@ -1,4 +1,4 @@
-//! Rows of one kind, as they came.
+//! Rows of one kind, as they arrived.
 ghost use Rattle.std.specs.Prelude.{◌≡◌, ◌<◌, ◌≤◌, ◌^◌, ◌++◌, ◌∷◌, [], Bool, map, filter, false, None, Some, IfOk, IfErr, IfSome, IfNone, OnOk, OnErr, IsTrue, length, is_some, option_copied, slice_get, slice_index_or, drop, swap_remove};
 ghost use Rattle.std.specs.Bool.{OnFalse};
 ghost use Rattle.std.specs.List.{IsDistinct, list_all, position};
@@ -18,7 +18,7 @@ use meta_types::Fault;
 use std::alloc::{AllocFailed, Global};
 use std::marker::Model;
 
-/// Rows in the order in which they came, each found by its name. Where one goes, the last takes its
+/// Rows in the order in which they arrived, each found by its name. Where one goes, the last takes its
 /// place.
 #[derive(Drop)]
 pub struct RowTable<K: Named, R: NamedRow<K>> {
@@ -200,7 +200,7 @@ impl<K: Named, R: NamedRow<K>> RowTable<K, R> {
         visit_removed(self.rows(), marks, visitor);
     }
 
-    /// Keeps the rows whose mark is set, in the order in which they came.
+    /// Keeps the rows whose mark is set, in the order in which they arrived.
     pub fn retain(&mut self, marks: &[bool])
         requires { length marks.now ≡ length self.old }
         ensures left { self.new ≡ kept marks.now self.old }

@@ -9,7 +9,7 @@ use Rattle.meta_types.specs.Rows.{State}
 use Rattle.meta_types.specs.Steps.{refused}
 use Rattle.meta_types.specs.Explanations.{object_of, is_asked, explain_fault, question_fault, IsExplanation}
 use Rattle.meta_types.specs.Impacts.{removed, impact_fault, impact_question_fault, Impact, IsImpact}
-use Rattle.meta_types.specs.Questions.{Telling, explained, foreseen, of_event, of_question}
+use Rattle.meta_types.specs.Questions.{QuestionAnswer, explains, foresees, of_event, of_question}
 use Rattle.meta_types.specs.declared.fault.Fault.{Fault}
 use Rattle.meta_types.specs.declared.fault.Fault.TheVariants.{InvalidArgument}
 use Rattle.meta_types.specs.declared.object.Object.{Object}
@@ -17,7 +17,7 @@ use Rattle.meta_types.specs.declared.explanation.Explanation.{Explanation}
 use Rattle.request_line.specs.declared.asked.Asked.{Asked}
 use Rattle.request_line.specs.declared.asked.Asked.TheVariants as A
 use Rattle.reply_line.specs.Explained.{told_of}
-use Rattle.scripts.specs.LineSteps.{told_in, question_step, asked_step, IsTrueOf}
+use Rattle.scripts.specs.LineSteps.{supplied_answer, question_step, asked_step, IsTrueOf}
 use Rattle.scripts.specs.Served.{IsServed, IsRefused}
 
 -- a text that is allowed
@@ -40,7 +40,7 @@ no_third false false = refl
 -- the request is a question: this fault refuses it, and its texts are judged first
 pub record IsQuestion (old : State) (asked : Asked) (least : Option Fault)
     (ns kind name at : Text) : Type 0 where
-  pub step : (telling : Telling) → asked_step old telling asked ≡ question_step old telling least
+  pub step : (given : QuestionAnswer) → asked_step old given asked ≡ question_step old given least
   pub judged : (is_short_name ns && is_some (object_of kind name) && is_some (instant_of at))
       ≡ false → least ≡ Some InvalidArgument
 
@@ -51,8 +51,8 @@ module _ (old : State) (asked : Asked) (least : Option Fault) (ns kind name at :
   is_fault fault e =
       inr (inr (
         tt,
-        told_in None,
-        q.step (told_in None) ∙ ap (question_step old (told_in None)) e,
+        supplied_answer None,
+        q.step (supplied_answer None) ∙ ap (question_step old (supplied_answer None)) e,
       ))
 
   -- a text couldn't be read
@@ -95,7 +95,7 @@ module _ (old : State) (asked : Asked) (least : Option Fault) (ns kind name at :
     call_err (Err fault) r = by_least call same fault r
 
     -- and its answer is the question's, where it is right
-    call_ok : (of : X → Telling) (P : X → Type 0)
+    call_ok : (of : X → QuestionAnswer) (P : X → Type 0)
         → ((x : X) → least ≡ None → P x → IsTrueOf old (Some asked) (of_question (of x)))
         → (result : Result X Fault) → Refuses result call → IfOk result P
         → IfOk result (λ x. IsServed old asked (of_question (of x)) old)
@@ -112,11 +112,11 @@ module _ (old : State) (asked : Asked) (least : Option Fault) (ns kind name at :
 module _ (old : State) (ns kind name at : Text) where
   pub explain_asks : IsQuestion old (A.Explain ns kind name at)
       (question_fault old.records ns kind name at) ns kind name at
-  explain_asks = record { step = λ telling. refl; judged = λ e. rw e refl }
+  explain_asks = record { step = λ given. refl; judged = λ e. rw e refl }
 
   pub impact_asks : IsQuestion old (A.Impact ns kind name at)
       (impact_question_fault old ns kind name at) ns kind name at
-  impact_asks = record { step = λ telling. refl; judged = λ e. rw e refl }
+  impact_asks = record { step = λ given. refl; judged = λ e. rw e refl }
 
   -- all texts were read
   module _ (object : Object) (moment : ℤ) (short : is_short_name ns ≡ true)
@@ -133,11 +133,11 @@ module _ (old : State) (ns kind name at : Text) where
         → IfOk result
         (λ e. IsExplanation old.records moment (is_asked ns object) e.kept e.path.items)
         → IfOk result
-        (λ e. IsServed old (A.Explain ns kind name at) (of_question (explained (told_of e))) old)
-    explain_ok result r explains =
+        (λ e. IsServed old (A.Explain ns kind name at) (of_question (explains (told_of e))) old)
+    explain_ok result r right =
         call_ok old (A.Explain ns kind name at) (question_fault old.records ns kind name at)
         ns kind name at explain_asks (explain_fault old.records ns object) explain_same
-        (λ (e : Explanation). explained (told_of e))
+        (λ (e : Explanation). explains (told_of e))
         (λ (e : Explanation).
         IsExplanation old.records moment (is_asked ns object) e.kept e.path.items)
         (λ e free p. record {
@@ -146,8 +146,8 @@ module _ (old : State) (ns kind name at : Text) where
           is_object = is_object;
           moment = moment;
           is_moment = is_moment;
-          explains = p;
-        }) result r explains
+          is_explanation = p;
+        }) result r right
 
     pub explain_err : (result : Result Explanation Fault)
         → Refuses result (explain_fault old.records ns object)
@@ -159,11 +159,11 @@ module _ (old : State) (ns kind name at : Text) where
     pub impact_ok : (result : Result Impact Fault) → Refuses result (impact_fault old ns object)
         → IfOk result (λ impact. IsImpact old (removed old ns object).after moment impact)
         → IfOk result
-        (λ impact. IsServed old (A.Impact ns kind name at) (of_question (foreseen impact)) old)
+        (λ impact. IsServed old (A.Impact ns kind name at) (of_question (foresees impact)) old)
     impact_ok result r goes =
         call_ok old (A.Impact ns kind name at) (impact_question_fault old ns kind name at)
         ns kind name at impact_asks (impact_fault old ns object) impact_same
-        (λ (impact : Impact). foreseen impact)
+        (λ (impact : Impact). foresees impact)
         (λ (impact : Impact). IsImpact old (removed old ns object).after moment impact)
         (λ impact free p. record {
           free = free;

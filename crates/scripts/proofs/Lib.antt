@@ -5,8 +5,10 @@ pub mod Writers
 pub mod Runs
 pub mod Outcomes
 pub mod WholeScripts
+pub mod AnsweredRuns
 pub mod Served
 pub mod Asking
 mod OneThing
-mod OneTelling
+mod OneExplanation
 pub mod OneOutput
+mod WorkedScripts

@@ -8,12 +8,13 @@ use Rattle.meta_types.specs.declared.fault.Fault.{Fault}
 use Rattle.meta_types.specs.declared.fault.Fault.TheVariants.{TooLong}
 use Rattle.meta_types.specs.Rows.{State}
 use Rattle.meta_types.specs.Steps.{refused}
-use Rattle.meta_types.specs.Questions.{Telling, LineAnswer, of_event}
+use Rattle.meta_types.specs.Questions.{QuestionAnswer, LineAnswer, of_event}
 use Rattle.request_line.specs.Lines.{asked_in}
 use Rattle.request_line.specs.Refusals.{IsUnread}
 use Rattle.request_line.specs.declared.asked.Asked.{Asked}
 use Rattle.reply_line.specs.Explained.{line_answer_text}
-use Rattle.scripts.specs.LineSteps.{Refusal, out_of_memory, no_worker, tells, asked_step, short_request, answer_step, line_step, with_line_feed, IsLineAnswer, IsTrueOf, IsTrueAt}
+use Rattle.scripts.specs.LineSteps.{Supplied, out_of_memory, no_worker, gives, asked_step, answer_step, line_step, IsLineAnswer, IsTrueOf, IsTrueAt}
+use Rattle.scripts.specs.Lines.{short_request, with_line_feed}
 use Rattle.scripts.specs.Served.{IsServed, IsRefused}
 
 pub some_byte : (n : ℕ) → 0 < n → (n == 0) ≡ false
@@ -33,9 +34,10 @@ unfolding line_step
 line_step-long state line long = rw (not_empty (length line) long, is_long (length line) long) refl
 
 -- an empty line
-pub line_step-empty : (state : State) (refusal : Option Refusal) (line : List ℕ) → (length line == 0) ≡ true → line_step state refusal line ≡ ([], state)
+pub line_step-empty : (state : State) (supplied : Option Supplied) (line : List ℕ)
+    → (length line == 0) ≡ true → line_step state supplied line ≡ ([], state)
 unfolding line_step
-line_step-empty state refusal line none = rw none refl
+line_step-empty state supplied line none = rw none refl
 
 is_short : (n : ℕ) → n ≤ 65536 → nat_lt 65536 n ≡ false
 is_short n short = grind (arith, nat_tests)
@@ -45,9 +47,9 @@ module _ (state : State) (line : List ℕ) (short : length line ≤ 65536) where
   asks : (asked : Asked) → asked_in line ≡ Some asked → short_request line ≡ Some asked
   asks asked e = rw (is_short (length line) short, e) refl
 
-  step-asked : (telling : Telling) (asked : Asked) → asked_in line ≡ Some asked
-      → answer_step state (Some (tells telling)) line ≡ asked_step state telling asked
-  step-asked telling asked e = rw (is_short (length line) short, e) refl
+  step-asked : (given : QuestionAnswer) (asked : Asked) → asked_in line ≡ Some asked
+      → answer_step state (Some (gives given)) line ≡ asked_step state given asked
+  step-asked given asked e = rw (is_short (length line) short, e) refl
 
   -- a line that can't be read
   pub step-unread : (fault : Fault) → IsUnread (asked_in line) fault
@@ -61,7 +63,7 @@ module _ (state : State) (line : List ℕ) (short : length line ≤ 65536) where
   served_line : (asked : Asked) (answer : LineAnswer) (new : State) → asked_in line ≡ Some asked
       → IsServed state asked answer new → IsLineAnswer state line answer new
   served_line asked answer new e s = (
-    Some (tells s.1),
+    Some (gives s.1),
     step-asked s.1 asked e
         ∙ s.2,
     subst (λ (what : Option Asked). IsTrueOf state what answer) (sym (asks asked e))
@@ -87,34 +89,35 @@ module _ (state : State) (line : List ℕ) (short : length line ≤ 65536) where
   served_call of (Ok x) asked new e s = served_line asked (of x) new e s
   served_call of (Err fault) asked new e s = tt
 
-  pub refused_call : {T : Type 0} (result : Result T Fault) (asked : Asked) (new : State) → asked_in line ≡ Some asked → IfErr result (λ fault. IsRefused state asked fault new)
+  pub refused_call : {T : Type 0} (result : Result T Fault) (asked : Asked) (new : State)
+      → asked_in line ≡ Some asked → IfErr result (λ fault. IsRefused state asked fault new)
       → IfErr result (λ fault. IsLineAnswer state line (of_event (refused fault)) new)
   refused_call (Ok x) asked new e r = tt
   refused_call (Err fault) asked new e r = refused_line asked fault new e r
 
 -- a line that isn't empty is answered
-pub line_step-answer : (state : State) (refusal : Option Refusal) (line : List ℕ)
+pub line_step-answer : (state : State) (supplied : Option Supplied) (line : List ℕ)
     (answer : LineAnswer) (new : State) → (length line == 0) ≡ false
-    → answer_step state refusal line ≡ (answer, new)
-    → line_step state refusal line ≡ (with_line_feed (line_answer_text answer), new)
+    → answer_step state supplied line ≡ (answer, new)
+    → line_step state supplied line ≡ (with_line_feed (line_answer_text answer), new)
 unfolding line_step
-line_step-answer state refusal line answer new full e = rw (full, e) refl
+line_step-answer state supplied line answer new full e = rw (full, e) refl
 
 -- what is right of the answer is right of the step
-pub true_at : (state : State) (refusal : Option Refusal) (line : List ℕ) (answer : LineAnswer)
-    (new : State) → answer_step state refusal line ≡ (answer, new)
+pub true_at : (state : State) (supplied : Option Supplied) (line : List ℕ) (answer : LineAnswer)
+    (new : State) → answer_step state supplied line ≡ (answer, new)
     → IsTrueOf state (short_request line) answer
-    → IsTrueAt state refusal line
-true_at state refusal [] answer new e right = tt
-true_at state refusal (byte ∷ line) answer new e right =
+    → IsTrueAt state supplied line
+true_at state supplied [] answer new e right = tt
+true_at state supplied (byte ∷ line) answer new e right =
     subst (λ (step : LineAnswer × State). IsTrueOf state (short_request (byte ∷ line)) step.0)
     (sym e) right
 
 -- an empty line asks for nothing
-pub true_at_empty : (state : State) (refusal : Option Refusal) (line : List ℕ)
-    → (length line == 0) ≡ true → IsTrueAt state refusal line
-true_at_empty state refusal [] empty = tt
-true_at_empty state refusal (byte ∷ line) empty =
+pub true_at_empty : (state : State) (supplied : Option Supplied) (line : List ℕ)
+    → (length line == 0) ≡ true → IsTrueAt state supplied line
+true_at_empty state supplied [] empty = tt
+true_at_empty state supplied (byte ∷ line) empty =
     absurd (both_ways (length (byte ∷ line) == 0)
     (some_byte (length (byte ∷ line)) (omega arith)) empty)
 
@@ -130,6 +133,7 @@ true_at_memory state [] = tt
 true_at_memory state (byte ∷ line) = tt
 
 -- `?` passes a fault on as it is
-pub passed_on : {T : Type 0} (result : Result T Fault) (fault : Fault) (P : Fault → Type 0) → IsErrAnd result (λ other. other ≡ fault) → P fault → IfErr result P
+pub passed_on : {T : Type 0} (result : Result T Fault) (fault : Fault) (P : Fault → Type 0)
+    → IsErrAnd result (λ other. other ≡ fault) → P fault → IfErr result P
 passed_on (Ok x) fault P same p = absurd same
 passed_on (Err other) fault P same p = subst P (sym same) p

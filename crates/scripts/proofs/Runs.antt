@@ -4,18 +4,19 @@ use Rattle.std.specs.List.{list_any}
 use Rattle.std.specs.Io.KnownBytes.{Appends, Consumes, Keeps}
 use Rattle.std.proofs.lemmas.List.{append-nil}
 use Rattle.std.proofs.lemmas.List.Folds.{list_any-append}
-use Rattle.scripts.specs.LineSteps.{Refusal, out_of_memory, line_step, IsTrueAt}
+use Rattle.scripts.specs.LineSteps.{Supplied, out_of_memory, line_step, IsTrueAt}
 use Rattle.meta_types.specs.Rows.{State, empty_store}
 use Rattle.scripts.proofs.LineAnswers.{line_step-empty, true_at_memory}
 use Rattle.scripts.specs.declared.line_buffer.LineBuffer.{LineBuffer}
 use Rattle.scripts.specs.Lines.{is_line_feed, lines_of, whole_lines}
-use Rattle.scripts.specs.Output.{Refusals, first_refusal, output_from, output_of, AreTrue, IsOutput, IsWholeOutput, IsBeginning, Exchanges}
+use Rattle.scripts.specs.Output.{Supplies, first_supplied, output_from, output_of, AreTrue, IsOutput, IsWholeOutput, IsBeginning}
+use Rattle.scripts.specs.Exchanging.{Exchanges}
 use Rattle.scripts.specs.Progress.{Progress, IsLine, Answers, Advances, Breaks, BeginsReply, EndsWith, Runs}
 use Rattle.scripts.proofs.Scripts.{lines_of-line, lines_of-last, whole_lines-ended, whole_lines-rest}
 use Rattle.scripts.proofs.Writers.{Appends-append, Appends-none, Appends-Keeps, Consumes-append, Consumes-none, Consumes-Keeps}
 
 -- memory refuses each of these lines
-abbrev unread : List (List ℕ) → Refusals
+abbrev unread : List (List ℕ) → Supplies
 unread [] = []
 unread (line ∷ lines) = Some out_of_memory ∷ unread lines
 
@@ -29,7 +30,7 @@ pub Progress-empty : (buffer : LineBuffer) → IsLine buffer [] → Progress [] 
 Progress-empty buffer e = record {
   whole = [];
   line = [];
-  refusals = [];
+  supplies = [];
   parts = refl;
   is_whole = refl;
   no_feed = refl;
@@ -39,12 +40,14 @@ Progress-empty buffer e = record {
 }
 
 -- a piece without a line feed
-pub Progress-piece : (taken written : List ℕ) (state : State) (old new : LineBuffer) (piece : List ℕ) → Progress taken written state old
-    → ((line : List ℕ) → IsLine old line → IsLine new (line ++ piece)) → list_any is_line_feed piece ≡ false → Progress (taken ++ piece) written state new
+pub Progress-piece : (taken written : List ℕ) (state : State) (old new : LineBuffer) (piece : List ℕ)
+    → Progress taken written state old
+    → ((line : List ℕ) → IsLine old line → IsLine new (line ++ piece))
+    → list_any is_line_feed piece ≡ false → Progress (taken ++ piece) written state new
 Progress-piece taken written state old new piece p add none = record {
   whole = p.whole;
   line = p.line ++ piece;
-  refusals = p.refusals;
+  supplies = p.supplies;
   parts = ap (λ b. b ++ piece) p.parts ∙ append_assoc p.whole p.line piece;
   is_whole = p.is_whole;
   no_feed = list_any-append is_line_feed p.line piece ∙ rw (p.no_feed, none) refl;
@@ -54,17 +57,17 @@ Progress-piece taken written state old new piece p add none = record {
 }
 
 -- the output goes on with the reply to the line
-reply_next : (taken written : List ℕ) (state : State) (old : LineBuffer) (p : Progress taken written state old) (out : List ℕ) (next : State) (a : Answers state p.line out next) (more : Refusals) (tail : List ℕ)
-    → output_of (p.refusals ++ a.0 ∷ more) (p.whole ++ (p.line ++ 10 ∷ tail)) ≡ written ++ (out ++ output_from next more (lines_of tail))
+reply_next : (taken written : List ℕ) (state : State) (old : LineBuffer) (p : Progress taken written state old) (out : List ℕ) (next : State) (a : Answers state p.line out next) (more : Supplies) (tail : List ℕ)
+    → output_of (p.supplies ++ a.0 ∷ more) (p.whole ++ (p.line ++ 10 ∷ tail)) ≡ written ++ (out ++ output_from next more (lines_of tail))
 reply_next taken written state old p out next a more tail =
     p.goes_on (a.0 ∷ more) (p.line ++ 10 ∷ tail) ∙ rw (lines_of-line p.line tail p.no_feed, a.1) refl
 
 -- the answer to the question of the line is right
 true_next : (taken written : List ℕ) (state : State) (old : LineBuffer)
     (p : Progress taken written state old) (out : List ℕ) (next : State)
-    (a : Answers state p.line out next) (more : Refusals) (tail : List ℕ)
+    (a : Answers state p.line out next) (more : Supplies) (tail : List ℕ)
     → AreTrue next more (lines_of tail)
-    → AreTrue empty_store (p.refusals ++ a.0 ∷ more)
+    → AreTrue empty_store (p.supplies ++ a.0 ∷ more)
     (lines_of (p.whole ++ (p.line ++ 10 ∷ tail)))
 true_next taken written state old p out next a more tail told =
     p.true_on (a.0 ∷ more) (p.line ++ 10 ∷ tail)
@@ -72,12 +75,13 @@ true_next taken written state old p out next a more tail told =
     (a.2, rw a.1 told))
 
 -- a line that was answered
-pub Progress-line : (taken written : List ℕ) (state : State) (old new : LineBuffer) (p : Progress taken written state old) (out : List ℕ) (next : State) → Answers state p.line out next → IsLine new []
+pub Progress-line : (taken written : List ℕ) (state : State) (old new : LineBuffer) (p : Progress taken written state old) (out : List ℕ) (next : State)
+    → Answers state p.line out next → IsLine new []
     → Progress (taken ++ 10 ∷ []) (written ++ out) next new
 Progress-line taken written state old new p out next a e = record {
   whole = (p.whole ++ p.line) ++ 10 ∷ [];
   line = [];
-  refusals = p.refusals ++ a.0 ∷ [];
+  supplies = p.supplies ++ a.0 ∷ [];
   parts = ap (λ b. b ++ 10 ∷ []) p.parts ∙ sym (append-nil ((p.whole ++ p.line) ++ 10 ∷ []));
   is_whole = whole_lines-ended (p.whole ++ p.line);
   no_feed = refl;
@@ -89,7 +93,8 @@ Progress-line taken written state old new p out next a e = record {
 }
 
 -- a line whose reply was begun
-pub begins_line : (taken written : List ℕ) (state : State) (old : LineBuffer) (p : Progress taken written state old) (out front back : List ℕ) (next : State) → Answers state p.line out next → front ++ back ≡ out
+pub begins_line : (taken written : List ℕ) (state : State) (old : LineBuffer) (p : Progress taken written state old) (out front back : List ℕ) (next : State)
+    → Answers state p.line out next → front ++ back ≡ out
     → (tail : List ℕ) → IsBeginning ((taken ++ 10 ∷ []) ++ tail) (written ++ front)
 begins_line taken written state old p out front back next a e tail =
     let more = unread (lines_of tail) in
@@ -99,7 +104,7 @@ begins_line taken written state old p out front back next a e tail =
     let told =
     true_next taken written state old p out next a more tail
     (unread_true next (lines_of tail)) in (
-      p.refusals ++ a.0 ∷ more,
+      p.supplies ++ a.0 ∷ more,
       back ++ after,
       rw p.parts
           (simp append_assoc (sym (simp append_assoc at whole))),
@@ -107,11 +112,12 @@ begins_line taken written state old p out front back next a e tail =
     )
 
 -- what was written so far
-pub begins : (taken written : List ℕ) (state : State) (buffer : LineBuffer) → Progress taken written state buffer → (tail : List ℕ) → IsBeginning (taken ++ tail) written
+pub begins : (taken written : List ℕ) (state : State) (buffer : LineBuffer)
+    → Progress taken written state buffer → (tail : List ℕ) → IsBeginning (taken ++ tail) written
 begins taken written state buffer p tail =
     let lines = lines_of (p.line ++ tail) in
     let more = unread lines in (
-      p.refusals ++ more,
+      p.supplies ++ more,
       output_from state more lines,
       rw p.parts
           (simp append_assoc (sym (p.goes_on more (p.line ++ tail)))),
@@ -120,7 +126,8 @@ begins taken written state buffer p tail =
     )
 
 -- an end that wrote nothing
-pub Breaks-none : (buffer : LineBuffer) (state : State) (bytes : List ℕ) (held : Option (List ℕ)) → Breaks buffer state bytes held held
+pub Breaks-none : (buffer : LineBuffer) (state : State) (bytes : List ℕ) (held : Option (List ℕ))
+    → Breaks buffer state bytes held held
 Breaks-none buffer state bytes held = record {
   begins = λ taken written p. (
     [],
@@ -130,10 +137,12 @@ Breaks-none buffer state bytes held = record {
   );
 }
 
-pub Advances-none : (buffer : LineBuffer) (state : State) (held : Option (List ℕ)) → Advances buffer state buffer state [] held held
+pub Advances-none : (buffer : LineBuffer) (state : State) (held : Option (List ℕ))
+    → Advances buffer state buffer state [] held held
 Advances-none buffer state held = record { goes = λ taken written p. ([], Appends-none held, simp append-nil p) }
 
-pub Advances-piece : (old new : LineBuffer) (state : State) (piece : List ℕ) (held : Option (List ℕ)) → ((line : List ℕ) → IsLine old line → IsLine new (line ++ piece))
+pub Advances-piece : (old new : LineBuffer) (state : State) (piece : List ℕ) (held : Option (List ℕ))
+    → ((line : List ℕ) → IsLine old line → IsLine new (line ++ piece))
     → list_any is_line_feed piece ≡ false → Advances old state new state piece held held
 Advances-piece old new state piece held add none = record {
   goes = λ taken written p.
@@ -141,7 +150,8 @@ Advances-piece old new state piece held add none = record {
 }
 
 pub Advances-append : {b0 b1 b2 : LineBuffer} {s0 s1 s2 : State} {xs ys : List ℕ} {h0 h1 h2 : Option (List ℕ)} (all : List ℕ)
-    → xs ++ ys ≡ all → Advances b0 s0 b1 s1 xs h0 h1 → Advances b1 s1 b2 s2 ys h1 h2 → Advances b0 s0 b2 s2 all h0 h2
+    → xs ++ ys ≡ all → Advances b0 s0 b1 s1 xs h0 h1 → Advances b1 s1 b2 s2 ys h1 h2
+    → Advances b0 s0 b2 s2 all h0 h2
 Advances-append {xs = xs} {ys = ys} {h0 = h0} {h1 = h1} {h2 = h2} all e first later = record {
   goes = λ taken written p.
       let a = first.goes taken written p in
@@ -150,7 +160,8 @@ Advances-append {xs = xs} {ys = ys} {h0 = h0} {h1 = h1} {h2 = h2} all e first la
 }
 
 pub Breaks-after : {b0 b1 : LineBuffer} {s0 s1 : State} {xs ys : List ℕ} {h0 h1 h2 : Option (List ℕ)} (all : List ℕ)
-    → xs ++ ys ≡ all → Advances b0 s0 b1 s1 xs h0 h1 → Breaks b1 s1 ys h1 h2 → Breaks b0 s0 all h0 h2
+    → xs ++ ys ≡ all → Advances b0 s0 b1 s1 xs h0 h1 → Breaks b1 s1 ys h1 h2
+    → Breaks b0 s0 all h0 h2
 Breaks-after {xs = xs} {ys = ys} {h0 = h0} {h1 = h1} {h2 = h2} all e first later = record {
   begins = λ taken written p.
       let a = first.goes taken written p in
@@ -158,7 +169,8 @@ Breaks-after {xs = xs} {ys = ys} {h0 = h0} {h1 = h1} {h2 = h2} all e first later
       (a.0 ++ b.0, Appends-append h0 h1 h2 a.0 b.0 a.1 b.1, λ tail. rw (← e, ← append_assoc taken xs ys, ← append_assoc written a.0 b.0) (b.2 tail));
 }
 
-pub Breaks-more : {buffer : LineBuffer} {state : State} {xs : List ℕ} {h0 h1 : Option (List ℕ)} (ys all : List ℕ) → xs ++ ys ≡ all → Breaks buffer state xs h0 h1 → Breaks buffer state all h0 h1
+pub Breaks-more : {buffer : LineBuffer} {state : State} {xs : List ℕ} {h0 h1 : Option (List ℕ)} (ys all : List ℕ)
+    → xs ++ ys ≡ all → Breaks buffer state xs h0 h1 → Breaks buffer state all h0 h1
 Breaks-more {xs = xs} ys all e broke = record {
   begins = λ taken written p.
       let b = broke.begins taken written p in
@@ -166,7 +178,8 @@ Breaks-more {xs = xs} ys all e broke = record {
 }
 
 -- all was answered, and the writer flushed
-pub Advances-flush : {b0 b1 : LineBuffer} {s0 s1 : State} {bytes : List ℕ} {h0 h1 h2 : Option (List ℕ)} → Advances b0 s0 b1 s1 bytes h0 h1 → Keeps h1 h2 → Advances b0 s0 b1 s1 bytes h0 h2
+pub Advances-flush : {b0 b1 : LineBuffer} {s0 s1 : State} {bytes : List ℕ} {h0 h1 h2 : Option (List ℕ)}
+    → Advances b0 s0 b1 s1 bytes h0 h1 → Keeps h1 h2 → Advances b0 s0 b1 s1 bytes h0 h2
 Advances-flush {h0 = h0} {h1 = h1} {h2 = h2} more kept = record {
   goes = λ taken written p.
       let a = more.goes taken written p in
@@ -174,7 +187,8 @@ Advances-flush {h0 = h0} {h1 = h1} {h2 = h2} more kept = record {
 }
 
 -- all was answered, but the writer couldn't be flushed
-pub Breaks-flush : {b0 b1 : LineBuffer} {s0 s1 : State} {bytes : List ℕ} {h0 h1 h2 : Option (List ℕ)} → Advances b0 s0 b1 s1 bytes h0 h1 → Keeps h1 h2 → Breaks b0 s0 bytes h0 h2
+pub Breaks-flush : {b0 b1 : LineBuffer} {s0 s1 : State} {bytes : List ℕ} {h0 h1 h2 : Option (List ℕ)}
+    → Advances b0 s0 b1 s1 bytes h0 h1 → Keeps h1 h2 → Breaks b0 s0 bytes h0 h2
 Breaks-flush {b1 = b1} {s1 = s1} {bytes = bytes} {h0 = h0} {h1 = h1} {h2 = h2} more kept = record {
   begins = λ taken written p.
       let a = more.goes taken written p in
@@ -182,30 +196,33 @@ Breaks-flush {b1 = b1} {s1 = s1} {bytes = bytes} {h0 = h0} {h1 = h1} {h2 = h2} m
 }
 
 -- a last line
-last_reply : (state : State) (refusal : Option Refusal) (line : List ℕ) → list_any is_line_feed line ≡ false → output_from state (refusal ∷ []) (lines_of line) ≡ (line_step state refusal line).0
-last_reply state refusal [] none = sym (ap (λ (p : List ℕ × State). p.0) (line_step-empty state refusal [] refl))
-last_reply state refusal (b ∷ line) none = rw (lines_of-last b line none) (append-nil (line_step state refusal (b ∷ line)).0)
+last_reply : (state : State) (supplied : Option Supplied) (line : List ℕ)
+    → list_any is_line_feed line ≡ false
+    → output_from state (supplied ∷ []) (lines_of line) ≡ (line_step state supplied line).0
+last_reply state supplied [] none = sym (ap (λ (p : List ℕ × State). p.0) (line_step-empty state supplied [] refl))
+last_reply state supplied (b ∷ line) none = rw (lines_of-last b line none) (append-nil (line_step state supplied (b ∷ line)).0)
 
 last_output : (taken written : List ℕ) (state : State) (buffer : LineBuffer) (p : Progress taken written state buffer) (out : List ℕ) (next : State) (a : Answers state p.line out next)
-    → written ++ out ≡ output_of (p.refusals ++ a.0 ∷ []) taken
+    → written ++ out ≡ output_of (p.supplies ++ a.0 ∷ []) taken
 last_output taken written state buffer p out next a =
     rw p.parts (sym (p.goes_on (a.0 ∷ []) p.line ∙ ap (λ o. written ++ o) (last_reply state a.0 p.line p.no_feed ∙ ap (λ (q : List ℕ × State). q.0) a.1)))
 
-last_true : (state : State) (refusal : Option Refusal) (line : List ℕ)
-    → list_any is_line_feed line ≡ false → IsTrueAt state refusal line
-    → AreTrue state (refusal ∷ []) (lines_of line)
-last_true state refusal [] none told = tt
-last_true state refusal (b ∷ line) none told =
-    subst (AreTrue state (refusal ∷ [])) (sym (lines_of-last b line none)) (told, tt)
+last_true : (state : State) (supplied : Option Supplied) (line : List ℕ)
+    → list_any is_line_feed line ≡ false → IsTrueAt state supplied line
+    → AreTrue state (supplied ∷ []) (lines_of line)
+last_true state supplied [] none told = tt
+last_true state supplied (b ∷ line) none told =
+    subst (AreTrue state (supplied ∷ [])) (sym (lines_of-last b line none)) (told, tt)
 
 all_true : (taken written : List ℕ) (state : State) (buffer : LineBuffer)
     (p : Progress taken written state buffer) (out : List ℕ) (next : State)
     (a : Answers state p.line out next)
-    → AreTrue empty_store (p.refusals ++ a.0 ∷ []) (lines_of taken)
+    → AreTrue empty_store (p.supplies ++ a.0 ∷ []) (lines_of taken)
 all_true taken written state buffer p out next a =
     rw p.parts (p.true_on (a.0 ∷ []) p.line (last_true state a.0 p.line p.no_feed a.2))
 
-pub EndsWith-reply : (buffer : LineBuffer) (state : State) (h0 h1 : Option (List ℕ)) → ((line : List ℕ) → IsLine buffer line → (bytes : List ℕ) × (next : State) × Answers state line bytes next × Appends h0 h1 bytes)
+pub EndsWith-reply : (buffer : LineBuffer) (state : State) (h0 h1 : Option (List ℕ))
+    → ((line : List ℕ) → IsLine buffer line → (bytes : List ℕ) × (next : State) × Answers state line bytes next × Appends h0 h1 bytes)
     → EndsWith IsOutput buffer state h0 h1
 EndsWith-reply buffer state h0 h1 reply = record {
   ends = λ taken written p.
@@ -213,7 +230,7 @@ EndsWith-reply buffer state h0 h1 reply = record {
         r.0,
         r.3,
         (
-          p.refusals ++ r.2.0 ∷ [],
+          p.supplies ++ r.2.0 ∷ [],
           last_output taken written state buffer p r.0 r.1 r.2,
           all_true
               taken written state buffer p r.0 r.1 r.2,
@@ -221,7 +238,8 @@ EndsWith-reply buffer state h0 h1 reply = record {
       );
 }
 
-pub EndsWith-front : (buffer : LineBuffer) (state : State) (h0 h1 : Option (List ℕ)) → ((line : List ℕ) → IsLine buffer line → BeginsReply state line h0 h1)
+pub EndsWith-front : (buffer : LineBuffer) (state : State) (h0 h1 : Option (List ℕ))
+    → ((line : List ℕ) → IsLine buffer line → BeginsReply state line h0 h1)
     → EndsWith IsBeginning buffer state h0 h1
 EndsWith-front buffer state h0 h1 reply = record {
   ends = λ taken written p.
@@ -229,7 +247,7 @@ EndsWith-front buffer state h0 h1 reply = record {
         r.4.0,
         r.4.2,
         (
-          p.refusals ++ r.3.0 ∷ [],
+          p.supplies ++ r.3.0 ∷ [],
           r.1,
           append_assoc written r.4.0 r.1
               ∙ ap (λ o. written ++ o) r.4.1
@@ -241,21 +259,24 @@ EndsWith-front buffer state h0 h1 reply = record {
 }
 
 -- What was answered is the output for the whole lines.
-pub whole_output : (taken written : List ℕ) (state : State) (buffer : LineBuffer) → Progress taken written state buffer → IsWholeOutput taken written
+pub whole_output : (taken written : List ℕ) (state : State) (buffer : LineBuffer)
+    → Progress taken written state buffer → IsWholeOutput taken written
 whole_output taken written state buffer p =
     let whole : whole_lines taken ≡ p.whole = ap whole_lines p.parts
     ∙ whole_lines-rest p.whole p.line p.is_whole p.no_feed in (
-      p.refusals,
+      p.supplies,
       rw whole (sym (simp append-nil at (p.goes_on [] []))),
       rw whole
           (simp append-nil at (p.true_on [] [] tt)),
     )
 
-pub Runs-none : (state : State) (buffer : LineBuffer) (left held : Option (List ℕ)) → Progress [] [] state buffer → Runs state buffer left left held held
+pub Runs-none : (state : State) (buffer : LineBuffer) (left held : Option (List ℕ))
+    → Progress [] [] state buffer → Runs state buffer left left held held
 Runs-none state buffer left held p = record { read = []; written = []; consumes = Consumes-none left; appends = Appends-none held; progress = p }
 
 pub Runs-feed : {s0 s1 : State} {b0 b1 : LineBuffer} {l0 l1 l2 h0 h1 h2 : Option (List ℕ)} (bytes : List ℕ)
-    → Runs s0 b0 l0 l1 h0 h1 → Consumes l1 l2 bytes → Advances b0 s0 b1 s1 bytes h1 h2 → Runs s1 b1 l0 l2 h0 h2
+    → Runs s0 b0 l0 l1 h0 h1 → Consumes l1 l2 bytes → Advances b0 s0 b1 s1 bytes h1 h2
+    → Runs s1 b1 l0 l2 h0 h2
 Runs-feed {l0 = l0} {l1 = l1} {l2 = l2} {h0 = h0} {h1 = h1} {h2 = h2} bytes r taken more =
     let a = more.goes r.read r.written r.progress in
     record {
@@ -267,7 +288,8 @@ Runs-feed {l0 = l0} {l1 = l1} {l2 = l2} {h0 = h0} {h1 = h1} {h2 = h2} bytes r ta
     }
 
 pub Runs-break : {s0 : State} {b0 : LineBuffer} {l0 l1 l2 h0 h1 h2 : Option (List ℕ)} (bytes : List ℕ)
-    → Runs s0 b0 l0 l1 h0 h1 → Consumes l1 l2 bytes → Breaks b0 s0 bytes h1 h2 → Exchanges IsBeginning l0 l2 h0 h2
+    → Runs s0 b0 l0 l1 h0 h1 → Consumes l1 l2 bytes → Breaks b0 s0 bytes h1 h2
+    → Exchanges IsBeginning l0 l2 h0 h2
 Runs-break {l0 = l0} {l1 = l1} {l2 = l2} {h0 = h0} {h1 = h1} {h2 = h2} bytes r taken more =
     let a = more.begins r.read r.written r.progress in
     record {
@@ -291,7 +313,8 @@ Runs-end {l0 = l0} {l1 = l1} {l2 = l2} {h0 = h0} {h1 = h1} {h2 = h2} P r taken m
       related = a.2;
     }
 
-pub Runs-whole : {s0 : State} {b0 : LineBuffer} {l0 l1 l2 h0 h1 : Option (List ℕ)} → Runs s0 b0 l0 l1 h0 h1 → Keeps l1 l2 → Exchanges IsWholeOutput l0 l2 h0 h1
+pub Runs-whole : {s0 : State} {b0 : LineBuffer} {l0 l1 l2 h0 h1 : Option (List ℕ)}
+    → Runs s0 b0 l0 l1 h0 h1 → Keeps l1 l2 → Exchanges IsWholeOutput l0 l2 h0 h1
 Runs-whole {s0 = s0} {b0 = b0} {l0 = l0} {l1 = l1} {l2 = l2} r kept = record {
   read = r.read;
   written = r.written;
@@ -300,7 +323,8 @@ Runs-whole {s0 = s0} {b0 = b0} {l0 = l0} {l1 = l1} {l2 = l2} r kept = record {
   related = whole_output r.read r.written s0 b0 r.progress;
 }
 
-pub Runs-begins : {s0 : State} {b0 : LineBuffer} {l0 l1 l2 h0 h1 : Option (List ℕ)} → Runs s0 b0 l0 l1 h0 h1 → Keeps l1 l2 → Exchanges IsBeginning l0 l2 h0 h1
+pub Runs-begins : {s0 : State} {b0 : LineBuffer} {l0 l1 l2 h0 h1 : Option (List ℕ)}
+    → Runs s0 b0 l0 l1 h0 h1 → Keeps l1 l2 → Exchanges IsBeginning l0 l2 h0 h1
 Runs-begins {s0 = s0} {b0 = b0} {l0 = l0} {l1 = l1} {l2 = l2} r kept = record {
   read = r.read;
   written = r.written;

@@ -21,7 +21,8 @@ use Rattle.backend_sweep.specs.Swept.{count_names}
 use Rattle.collection.specs.Refused.{CollectFails}
 use Rattle.store_front.specs.KeptAnswers.{kept_reply, kept_report, kept_fault, Takes, reply_failures, report_failures}
 use Rattle.scripts.specs.EventSteps.{event_step}
-use Rattle.scripts.specs.LineSteps.{told_in, line_step_of, asked_step, asks_collection}
+use Rattle.scripts.specs.LineSteps.{supplied_answer, line_step_of, asked_step}
+use Rattle.scripts.specs.Lines.{asks_collection}
 use Rattle.scripts.specs.Served.{IsServed, IsRefused}
 use Rattle.scripts.proofs.Outcomes.{no_event_has_another_step}
 
@@ -48,15 +49,16 @@ no_names names e =
 -- ---- the request is an event
 
 module _ (old new : State) (asked : Asked) (event : Event)
-    (is : asked_step old (told_in None) asked ≡ line_step_of (event_step old event)) where
+    (is : asked_step old (supplied_answer None) asked ≡ line_step_of (event_step old event)) where
   -- a step is the answer
   step_served : (answer : Answer) → Step old event no_objects answer new
       → IsServed old asked (of_event answer) new
   step_served answer step =
       let s = no_event_has_another_step old event answer new step in
-      (tt, told_in None, is ∙ (λ i. (of_event (sym s.0 i), sym s.1 i)))
+      (tt, supplied_answer None, is ∙ (λ i. (of_event (sym s.0 i), sym s.1 i)))
 
-  reply_refused : (fault : Fault) (least : Option Fault) → Takes old event (kept_fault fault) new → Fails fault least → 0 ≡ 0 + reply_failures (Err fault) → IsRefused old asked fault new
+  reply_refused : (fault : Fault) (least : Option Fault) → Takes old event (kept_fault fault) new
+      → Fails fault least → 0 ≡ 0 + reply_failures (Err fault) → IsRefused old asked fault new
   reply_refused InvalidArgument least step fails none = inr (inr (step_served _ step))
   reply_refused NotFound least step fails none = inr (inr (step_served _ step))
   reply_refused AlreadyExists least step fails none = inr (inr (step_served _ step))
@@ -70,7 +72,9 @@ module _ (old new : State) (asked : Asked) (event : Event)
   reply_refused WriteFailed least step fails none = absurd fails
   reply_refused (Mismatch place) least step fails none = absurd fails
 
-  report_refused : asks_collection (Some asked) ≡ true → (fault : Fault) (least : Option Fault) → Takes old event (kept_fault fault) new → CollectFails fault least → IsRefused old asked fault new
+  report_refused : asks_collection (Some asked) ≡ true → (fault : Fault) (least : Option Fault)
+      → Takes old event (kept_fault fault) new → CollectFails fault least
+      → IsRefused old asked fault new
   report_refused collects InvalidArgument least step fails = inr (inr (step_served _ step))
   report_refused collects NotFound least step fails = inr (inr (step_served _ step))
   report_refused collects AlreadyExists least step fails = inr (inr (step_served _ step))
@@ -89,7 +93,9 @@ module _ (old new : State) (asked : Asked) (event : Event)
       → count_names report.failed ≡ 0 → IsServed old asked (of_event (reported report)) new
   report_served report step none = step_served (reported report) (subst (λ (failed : BackNames). Step old event failed (reported report) new) (no_names report.failed none) step)
 
-  pub report_err : asks_collection (Some asked) ≡ true → (result : Result Report Fault) (least : Option Fault) → Takes old event (kept_report result) new → IfErr result (λ fault. CollectFails fault least)
+  pub report_err : asks_collection (Some asked) ≡ true
+      → (result : Result Report Fault) (least : Option Fault)
+      → Takes old event (kept_report result) new → IfErr result (λ fault. CollectFails fault least)
       → IfErr result (λ fault. IsRefused old asked fault new)
   report_err collects (Ok report) least step fails = tt
   report_err collects (Err fault) least step fails = report_refused collects fault least step fails
@@ -100,7 +106,9 @@ module _ (old new : State) (asked : Asked) (event : Event)
     reply_ok (Ok reply) step = step_served (answered reply) step
     reply_ok (Err fault) step = tt
 
-    pub reply_err : (result : Result Reply Fault) (least : Option Fault) → Takes old event (kept_reply result) new → IfErr result (λ fault. Fails fault least) → after ≡ before + reply_failures result
+    pub reply_err : (result : Result Reply Fault) (least : Option Fault)
+        → Takes old event (kept_reply result) new → IfErr result (λ fault. Fails fault least)
+        → after ≡ before + reply_failures result
         → IfErr result (λ fault. IsRefused old asked fault new)
     reply_err (Ok reply) least step fails count = tt
     reply_err (Err fault) least step fails count = reply_refused fault least step fails (omega arith)
@@ -116,20 +124,22 @@ module _ (old new : State) (asked : Asked) (event : Event)
 -- a collection at a moment, whatever the number of workers
 pub is_collection : (old : State) (text : List ℕ) (at : ℤ) (dry : Bool) (workers : ℕ)
     → instant_of text ≡ Some at → is_worker_count workers ≡ true
-    → asked_step old (told_in None) (A.Collect text dry) ≡ line_step_of
+    → asked_step old (supplied_answer None) (A.Collect text dry) ≡ line_step_of
     (event_step old (collect at dry workers))
 is_collection old text at dry workers read allowed = rw (read, allowed) refl
 
 -- a removal with a collection at a moment
 pub is_removal : (old : State) (removal : Removal) (text : List ℕ) (at : ℤ) (workers : ℕ)
     → instant_of text ≡ Some at → is_worker_count workers ≡ true
-    → asked_step old (told_in None) (A.Remove removal text) ≡ line_step_of
+    → asked_step old (supplied_answer None) (A.Remove removal text) ≡ line_step_of
     (event_step old (remove_collect removal at workers))
 is_removal old removal text at workers read allowed = rw (read, allowed) refl
 
 -- a moment that can't be read is no event
-pub no_collection : (old : State) (text : List ℕ) (dry : Bool) → instant_of text ≡ None → IsRefused old (A.Collect text dry) InvalidArgument old
-no_collection old text dry e = inr (inr (tt, told_in None, rw e refl))
+pub no_collection : (old : State) (text : List ℕ) (dry : Bool) → instant_of text ≡ None
+    → IsRefused old (A.Collect text dry) InvalidArgument old
+no_collection old text dry e = inr (inr (tt, supplied_answer None, rw e refl))
 
-pub no_removal : (old : State) (removal : Removal) (text : List ℕ) → instant_of text ≡ None → IsRefused old (A.Remove removal text) InvalidArgument old
-no_removal old removal text e = inr (inr (tt, told_in None, rw e refl))
+pub no_removal : (old : State) (removal : Removal) (text : List ℕ) → instant_of text ≡ None
+    → IsRefused old (A.Remove removal text) InvalidArgument old
+no_removal old removal text e = inr (inr (tt, supplied_answer None, rw e refl))

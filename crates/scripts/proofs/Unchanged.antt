@@ -1,4 +1,4 @@
--- A line whose answer only tells leaves the store as it was.
+-- A line whose answer is read-only leaves the store as it was.
 use Rattle.std.proofs.Common.{◌≡◌, ◌∙◌, ap, refl, sym, subst, ℕ, ℤ, ◌==◌, List, length, Bool, true, false, nat_lt, Option, Some, None, ◌⊎◌, inl, inr}
 use Rattle.std.specs.Prelude.{if◌then◌else◌, is_some, not}
 use Rattle.std.specs.Option.{option_map_or}
@@ -6,7 +6,7 @@ use Rattle.meta_types.specs.Rows.{State}
 use Rattle.meta_types.specs.Ops.{Outcome, least_fault}
 use Rattle.meta_types.specs.Requests.{outcome}
 use Rattle.meta_types.specs.Steps.{Answer, answered, refused, Event, requested, collect, remove_collect, collect_fault, remove_collect_fault}
-use Rattle.meta_types.specs.Questions.{Telling, LineAnswer, of_event}
+use Rattle.meta_types.specs.Questions.{QuestionAnswer, LineAnswer, of_event}
 use Rattle.meta_types.specs.declared.fault.Fault.{Fault}
 use Rattle.meta_types.specs.declared.fault.Fault.TheVariants.{InvalidArgument, BadLine, TooLong, OutOfMemory, NoWorker}
 use Rattle.meta_types.specs.declared.reply.Reply.TheVariants as R
@@ -16,13 +16,14 @@ use Rattle.request_line.specs.declared.asked.Asked.{Asked}
 use Rattle.request_line.specs.declared.asked.Asked.TheVariants as A
 use Rattle.reply_line.specs.Fixed.{is_done}
 use Rattle.scripts.specs.EventSteps.{plans, collects, event_step}
-use Rattle.scripts.specs.LineSteps.{Refusal, out_of_memory, no_worker, tells, told_in, event_for, line_step_of, asked_step, line_answer, answer_step, short_request, asks_collection, line_step, with_line_feed, IsLineAnswer, IsTrueAt}
-use Rattle.scripts.specs.Telling.{only_tells, IsSaid}
+use Rattle.scripts.specs.LineSteps.{Supplied, out_of_memory, no_worker, gives, supplied_answer, event_for, line_step_of, asked_step, line_answer, answer_step, line_step, IsLineAnswer, IsTrueAt}
+use Rattle.scripts.specs.Lines.{short_request, asks_collection, with_line_feed}
+use Rattle.scripts.specs.SaidLines.{is_read_only, IsSaid}
 use Rattle.scripts.proofs.LineAnswers.{line_step-answer, true_at, true_at_memory}
 
--- where the answer only tells, the store is as before
+-- where the answer is read-only, the store is as before
 abbrev IsQuiet : State → LineAnswer × State → Type 0
-IsQuiet state step = only_tells step.0 ≡ true → step.1 ≡ state
+IsQuiet state step = is_read_only step.0 ≡ true → step.1 ≡ state
 
 -- the same of an event
 abbrev IsQuietEvent : State → Answer × State → Type 0
@@ -38,7 +39,8 @@ module _ {Step : Type 0} (P : Step → Type 0) where
   by_test true one two p q = p
   by_test false one two p q = q
 
-request_quiet : (state : State) (o : Outcome) (fault : Option Fault) → ((o.reply ≡ R.Done) ⊎ (o.after ≡ state))
+request_quiet : (state : State) (o : Outcome) (fault : Option Fault)
+    → ((o.reply ≡ R.Done) ⊎ (o.after ≡ state))
     → IsQuietEvent state
     (option_map_or refused fault (answered o.reply), if is_some fault then state else o.after)
 request_quiet state o (Some fault) either only = refl
@@ -69,39 +71,40 @@ at_moment_quiet state event =
     either_way (IsQuietEvent state) (event_step state) event (refused InvalidArgument, state)
     (event_quiet state) (λ only. refl)
 
-asked_quiet : (state : State) (telling : Telling) (asked : Asked)
-    → IsQuiet state (asked_step state telling asked)
-asked_quiet state telling (A.Request request) = event_quiet state (requested request)
-asked_quiet state telling (A.Collect at dry) = at_moment_quiet state (event_for (A.Collect at dry))
-asked_quiet state telling (A.Remove removal at) =
+asked_quiet : (state : State) (given : QuestionAnswer) (asked : Asked)
+    → IsQuiet state (asked_step state given asked)
+asked_quiet state given (A.Request request) = event_quiet state (requested request)
+asked_quiet state given (A.Collect at dry) = at_moment_quiet state (event_for (A.Collect at dry))
+asked_quiet state given (A.Remove removal at) =
     at_moment_quiet state (event_for (A.Remove removal at))
-asked_quiet state telling (A.Explain ns kind name at) = λ only. refl
-asked_quiet state telling (A.Impact ns kind name at) = λ only. refl
+asked_quiet state given (A.Explain ns kind name at) = λ only. refl
+asked_quiet state given (A.Impact ns kind name at) = λ only. refl
 
-line_quiet : (state : State) (telling : Telling) (line : List ℕ)
-    → IsQuiet state (line_answer state telling line)
-line_quiet state telling line =
+line_quiet : (state : State) (given : QuestionAnswer) (line : List ℕ)
+    → IsQuiet state (line_answer state given line)
+line_quiet state given line =
     by_test (IsQuiet state) (nat_lt 65536 (length line)) (of_event (refused TooLong), state)
-    (option_map_or (asked_step state telling) (asked_in line)
+    (option_map_or (asked_step state given) (asked_in line)
     (of_event (refused BadLine), state)) (λ only. refl)
-    (either_way (IsQuiet state) (asked_step state telling) (asked_in line)
-    (of_event (refused BadLine), state) (asked_quiet state telling) (λ only. refl))
+    (either_way (IsQuiet state) (asked_step state given) (asked_in line)
+    (of_event (refused BadLine), state) (asked_quiet state given) (λ only. refl))
 
-step_quiet : (state : State) (refusal : Option Refusal) (line : List ℕ) → IsQuiet state (answer_step state refusal line)
-step_quiet state None line = line_quiet state (told_in None) line
-step_quiet state (Some (tells telling)) line = line_quiet state telling line
+step_quiet : (state : State) (supplied : Option Supplied) (line : List ℕ)
+    → IsQuiet state (answer_step state supplied line)
+step_quiet state None line = line_quiet state (supplied_answer None) line
+step_quiet state (Some (gives given)) line = line_quiet state given line
 step_quiet state (Some out_of_memory) line = λ only. refl
 step_quiet state (Some no_worker) line =
     by_test (IsQuiet state) (asks_collection (short_request line))
-    (of_event (refused NoWorker), state) (line_answer state (told_in None) line) (λ only. refl)
-    (line_quiet state (told_in None) line)
+    (of_event (refused NoWorker), state) (line_answer state (supplied_answer None) line) (λ only. refl)
+    (line_quiet state (supplied_answer None) line)
 
 -- what is said for the answer to a line is a reply to it
 pub line_step-said : (state : State) (line : List ℕ) (answer : LineAnswer) (new : State)
     (bytes : List ℕ) → (length line == 0) ≡ false → IsLineAnswer state line answer new
     → IsSaid answer bytes
-    → (refusal : Option Refusal) × (line_step state refusal line ≡ (with_line_feed bytes, new))
-    × IsTrueAt state refusal line
+    → (supplied : Option Supplied) × (line_step state supplied line ≡ (with_line_feed bytes, new))
+    × IsTrueAt state supplied line
 line_step-said state line answer new bytes full is (inl text) = (
   is.0,
   line_step-answer state is.0 line answer new full is.1
@@ -111,7 +114,7 @@ line_step-said state line answer new bytes full is (inl text) = (
 line_step-said state line answer new bytes full is (inr told) =
     let same : state ≡ new =
     sym (sym (ap (λ step. step.1) is.1)
-    ∙ step_quiet state is.0 line (ap (λ step. only_tells step.0) is.1 ∙ told.0)) in (
+    ∙ step_quiet state is.0 line (ap (λ step. is_read_only step.0) is.1 ∙ told.0)) in (
       Some out_of_memory,
       line_step-answer state (Some out_of_memory) line (of_event (refused OutOfMemory)) state full
           refl ∙ (λ i. (with_line_feed (sym told.1 i), same i)),

@@ -1,5 +1,5 @@
--- What is written for a script answers its lines.
-use Rattle.std.proofs.Common.{◌≡◌, ◌∙◌, refl, sym, subst, ℕ, ◌<◌, Bool, true, false, ℤ, List, [], ◌∷◌, ◌==◌, length, Option, Some, None, inl, inr, arith, nat_lt}
+-- What is written for a script answers its lines, and nothing else does.
+use Rattle.std.proofs.Common.{◌≡◌, ◌∙◌, refl, sym, ap, subst, ℕ, Bool, true, false, ℤ, List, [], ◌∷◌, ◌++◌, length, Option, Some, None, ◌⊎◌, inl, inr, arith, nat_lt}
 use Rattle.std.specs.Prelude.{if◌then◌else◌, is_some, option_map, drop}
 use Rattle.std.specs.Option.{option_map_or}
 use Rattle.meta_types.specs.Time.{instant_of}
@@ -8,10 +8,11 @@ use Rattle.meta_types.specs.Backends.{no_objects}
 use Rattle.meta_types.specs.Ops.{least_fault}
 use Rattle.meta_types.specs.Requests.{outcome, removal_outcome}
 use Rattle.meta_types.specs.Sound.{IsSound}
-use Rattle.meta_types.specs.Steps.{Answer, answered, refused, Event, requested, collect, remove_collect, collect_fault, remove_collect_fault}
+use Rattle.meta_types.specs.Steps.{Answer, answered, reported, refused, Event, requested, collect, remove_collect, collect_fault, remove_collect_fault}
+use Rattle.meta_types.specs.Histories.{Step}
 use Rattle.meta_types.specs.Explanations.{question_fault}
 use Rattle.meta_types.specs.Impacts.{impact_question_fault}
-use Rattle.meta_types.specs.Questions.{Telling, explained, foreseen, LineAnswer, of_event}
+use Rattle.meta_types.specs.Questions.{QuestionAnswer, explains, foresees, LineAnswer, of_event, of_question}
 use Rattle.meta_types.specs.declared.fault.Fault.{Fault}
 use Rattle.meta_types.specs.declared.fault.Fault.TheVariants.{InvalidArgument, BadLine, TooLong, NoWorker}
 use Rattle.meta_types.proofs.EachKind.{divides_all, tells_what_a_collection_would}
@@ -20,13 +21,15 @@ use Rattle.request_line.specs.Lines.{asked_in}
 use Rattle.request_line.specs.declared.asked.Asked.{Asked}
 use Rattle.request_line.specs.declared.asked.Asked.TheVariants as A
 use Rattle.scripts.specs.EventSteps.{collection_report, event_step, collects, plans}
-use Rattle.scripts.specs.LineSteps.{Refusal, out_of_memory, no_worker, tells, told_in, event_for, question_step, asked_step, short_request, line_answer, asks_collection, answer_step, line_step, with_line_feed, IsTrueOf, IsTrueAt}
-use Rattle.scripts.specs.Lines.{lines_of}
-use Rattle.scripts.specs.Output.{Refusals, first_refusal, output_from, AreTrue}
-use Rattle.scripts.specs.WholeScripts.{asked_fault, line_fault, IsAnswered, AnswersLine, AnswersLines, EachCollectionKeepsWhatIsReached, EachRunKeepsWhatIsReached}
+use Rattle.scripts.specs.LineSteps.{Supplied, out_of_memory, no_worker, gives, supplied_answer, event_for, line_step_of, question_step, asked_step, line_answer, answer_step, line_step, IsLineAnswer, IsTrueOf, IsTrueAt}
+use Rattle.scripts.specs.Lines.{short_request, asks_collection, with_line_feed, lines_of, whole_lines}
+use Rattle.scripts.specs.Output.{Supplies, first_supplied, output_from, output_of, AreTrue, IsOutput, IsWholeOutput, IsBeginning}
+use Rattle.scripts.specs.Progress.{Answers}
+use Rattle.scripts.specs.WholeScripts.{asked_fault, line_fault, MayBeRefused, IsDone, IsAnswered, AnswersLine, AnswersLines, AnswersScript, AnswersWholeLines, BeginsAnswers}
+use Rattle.scripts.specs.ScriptLaws.{WhatAnswersIsAnOutput, EachStoreIsSound}
 use Rattle.reply_line.specs.Explained.{line_answer_text}
-use Rattle.scripts.proofs.LineAnswers.{line_step-answer, some_byte}
-use Rattle.scripts.proofs.Outcomes.{these_collect, this_plans, each_event_has_this_step}
+use Rattle.scripts.proofs.LineAnswers.{line_step-empty, line_step-answer, true_at, some_byte}
+use Rattle.scripts.proofs.Outcomes.{these_collect, this_plans, each_event_has_this_step, no_event_has_another_step}
 
 -- ---- the store stays sound
 
@@ -37,227 +40,236 @@ event_sound_at state (Some event) s =
     event_sound state event no_objects (event_step state event).0 (event_step state event).1 s
     (each_event_has_this_step state event)
 
-asked_sound : (state : State) (telling : Telling) (asked : Asked) → IsSound state
-    → IsSound (asked_step state telling asked).1
-asked_sound state telling (A.Request request) s = event_sound_at state (Some (requested request)) s
-asked_sound state telling (A.Collect at dry) s =
+asked_sound : (state : State) (given : QuestionAnswer) (asked : Asked) → IsSound state
+    → IsSound (asked_step state given asked).1
+asked_sound state given (A.Request request) s = event_sound_at state (Some (requested request)) s
+asked_sound state given (A.Collect at dry) s =
     event_sound_at state (event_for (A.Collect at dry)) s
-asked_sound state telling (A.Remove removal at) s =
+asked_sound state given (A.Remove removal at) s =
     event_sound_at state (event_for (A.Remove removal at)) s
-asked_sound state telling (A.Explain ns kind name at) s = s
-asked_sound state telling (A.Impact ns kind name at) s = s
+asked_sound state given (A.Explain ns kind name at) s = s
+asked_sound state given (A.Impact ns kind name at) s = s
 
-line_sound : (state : State) (telling : Telling) (line : List ℕ) → IsSound state
-    → IsSound (line_answer state telling line).1
-line_sound state telling line s = go (nat_lt 65536 (length line)) (asked_in line)
+line_sound : (state : State) (given : QuestionAnswer) (line : List ℕ) → IsSound state
+    → IsSound (line_answer state given line).1
+line_sound state given line s = go (nat_lt 65536 (length line)) (asked_in line)
   where
     go : (long : Bool) (asked : Option Asked)
         → let step : LineAnswer × State =
         if long then (of_event (refused TooLong), state) else option_map_or
-        (asked_step state telling) asked (of_event (refused BadLine), state) in IsSound step.1
+        (asked_step state given) asked (of_event (refused BadLine), state) in IsSound step.1
     go true asked = s
     go false None = s
-    go false (Some asked) = asked_sound state telling asked s
+    go false (Some asked) = asked_sound state given asked s
 
-answer_sound : (state : State) (refusal : Option Refusal) (line : List ℕ) → IsSound state → IsSound (answer_step state refusal line).1
-answer_sound state None line s = line_sound state (told_in None) line s
-answer_sound state (Some (tells telling)) line s = line_sound state telling line s
+answer_sound : (state : State) (supplied : Option Supplied) (line : List ℕ) → IsSound state
+    → IsSound (answer_step state supplied line).1
+answer_sound state None line s = line_sound state (supplied_answer None) line s
+answer_sound state (Some (gives given)) line s = line_sound state given line s
 answer_sound state (Some out_of_memory) line s = s
 answer_sound state (Some no_worker) line s = go (asks_collection (short_request line))
   where
     go : (asks : Bool) → let step : LineAnswer × State =
-        if asks then (of_event (refused NoWorker), state) else line_answer state (told_in None)
+        if asks then (of_event (refused NoWorker), state) else line_answer state (supplied_answer None)
         line in IsSound step.1
     go true = s
-    go false = line_sound state (told_in None) line s
+    go false = line_sound state (supplied_answer None) line s
 
 -- a line that isn't empty is answered
-pub full_step : (state : State) (refusal : Option Refusal) (byte : ℕ) (line : List ℕ)
-    → line_step state refusal
+pub full_step : (state : State) (supplied : Option Supplied) (byte : ℕ) (line : List ℕ)
+    → line_step state supplied
     (byte ∷ line)
     ≡ (
-      with_line_feed (line_answer_text (answer_step state refusal (byte ∷ line)).0),
-      (answer_step state refusal (byte ∷ line)).1,
+      with_line_feed (line_answer_text (answer_step state supplied (byte ∷ line)).0),
+      (answer_step state supplied (byte ∷ line)).1,
     )
-full_step state refusal byte line =
-    let answer = answer_step state refusal (byte ∷ line) in
-    line_step-answer state refusal (byte ∷ line) answer.0 answer.1 (some_byte (length (byte ∷ line)) (omega arith)) refl
+full_step state supplied byte line =
+    let answer = answer_step state supplied (byte ∷ line) in
+    line_step-answer state supplied (byte ∷ line) answer.0 answer.1 (some_byte (length (byte ∷ line)) (omega arith)) refl
 
-pub step_sound : (state : State) (refusal : Option Refusal) (line : List ℕ) → IsSound state
-    → IsSound (line_step state refusal line).1
+pub step_sound : (state : State) (supplied : Option Supplied) (line : List ℕ) → IsSound state
+    → IsSound (line_step state supplied line).1
 unfolding line_step
-step_sound state refusal [] s = s
-step_sound state refusal (byte ∷ line) s = subst (λ (step : List ℕ × State). IsSound step.1) (sym (full_step state refusal byte line)) (answer_sound state refusal (byte ∷ line) s)
+step_sound state supplied [] s = s
+step_sound state supplied (byte ∷ line) s = subst (λ (step : List ℕ × State). IsSound step.1) (sym (full_step state supplied byte line)) (answer_sound state supplied (byte ∷ line) s)
 
 -- ---- the request is done
 
-module _ (state : State) (refusal : Option Refusal) (line : List ℕ) (s : IsSound state) (short : nat_lt 65536 (length line) ≡ false) where
+module _ (state : State) (line : List ℕ) (s : IsSound state) (short : nat_lt 65536 (length line) ≡ false) where
   asks : (asked : Asked) → asked_in line ≡ Some asked → short_request line ≡ Some asked
   asks asked is = rw (short, is) refl
 
-  own : (asked : Asked) → asked_in line ≡ Some asked → line_fault state line ≡ asked_fault state asked
+  own : (asked : Asked) → asked_in line ≡ Some asked
+      → line_fault state line ≡ asked_fault state asked
   own asked is = rw (short, is) refl
 
-  asked_kept : (telling : Telling) (asked : Asked) → asked_in line ≡ Some asked
-      → IsTrueOf state (Some asked) (asked_step state telling asked).0
-      → IsAnswered state refusal line (asked_step state telling asked).0
-      (asked_step state telling asked).1
-  asked_kept telling (A.Explain ns kind name at) is right =
-      go telling (question_fault state.records ns kind name at) refl right
+  asked_kept : (given : QuestionAnswer) (asked : Asked) → asked_in line ≡ Some asked
+      → IsTrueOf state (Some asked) (asked_step state given asked).0
+      → IsAnswered state line (asked_step state given asked).0
+      (asked_step state given asked).1
+  asked_kept given (A.Explain ns kind name at) is right =
+      go given (question_fault state.records ns kind name at) refl right
     where
-      go : (telling : Telling) (least : Option Fault)
+      go : (given : QuestionAnswer) (least : Option Fault)
           → question_fault state.records ns kind name at ≡ least
-          → IsTrueOf state (Some (A.Explain ns kind name at)) (question_step state telling least).0
-          → IsAnswered state refusal line (question_step state telling least).0
-          (question_step state telling least).1
-      go telling (Some fault) least right = (refl, inl (own (A.Explain ns kind name at) is ∙ least))
-      go (explained told) None free right = (
+          → IsTrueOf state (Some (A.Explain ns kind name at)) (question_step state given least).0
+          → IsAnswered state line (question_step state given least).0
+          (question_step state given least).1
+      go given (Some fault) least right = (refl, inl (own (A.Explain ns kind name at) is ∙ least))
+      go (explains told) None free right = (
         A.Explain ns kind name at,
         asks (A.Explain ns kind name at) is,
         own
             (A.Explain ns kind name at) is ∙ free,
         (right, refl),
       )
-      go (foreseen impact) None free right = absurd right
-  asked_kept telling (A.Impact ns kind name at) is right =
-      go telling (impact_question_fault state ns kind name at) refl right
+      go (foresees impact) None free right = absurd right
+  asked_kept given (A.Impact ns kind name at) is right =
+      go given (impact_question_fault state ns kind name at) refl right
     where
-      go : (telling : Telling) (least : Option Fault)
+      go : (given : QuestionAnswer) (least : Option Fault)
           → impact_question_fault state ns kind name at ≡ least
-          → IsTrueOf state (Some (A.Impact ns kind name at)) (question_step state telling least).0
-          → IsAnswered state refusal line (question_step state telling least).0
-          (question_step state telling least).1
-      go telling (Some fault) least right = (refl, inl (own (A.Impact ns kind name at) is ∙ least))
-      go (foreseen impact) None free right = (
+          → IsTrueOf state (Some (A.Impact ns kind name at)) (question_step state given least).0
+          → IsAnswered state line (question_step state given least).0
+          (question_step state given least).1
+      go given (Some fault) least right = (refl, inl (own (A.Impact ns kind name at) is ∙ least))
+      go (foresees impact) None free right = (
         A.Impact ns kind name at,
         asks (A.Impact ns kind name at) is,
         own (A.Impact ns kind name at) is ∙ free,
         (right, refl),
       )
-      go (explained told) None free right = absurd right
-  asked_kept telling (A.Request request) is right = go (least_fault (outcome state request)) refl
+      go (explains told) None free right = absurd right
+  asked_kept given (A.Request request) is right = go (least_fault (outcome state request)) refl
     where
       go : (least : Option Fault) → least_fault (outcome state request) ≡ least
-          → IsAnswered state refusal line
+          → IsAnswered state line
           (of_event (option_map_or refused least (answered (outcome state request).reply)))
           (if is_some least then state else (outcome state request).after)
       go None free = (A.Request request, asks (A.Request request) is, own (A.Request request) is ∙ free, (refl, refl))
       go (Some fault) least = (refl, inl (own (A.Request request) is ∙ least))
-  asked_kept telling (A.Collect at dry) is right = go (instant_of at) refl
+  asked_kept given (A.Collect at dry) is right = go (instant_of at) refl
     where
-      after : (moment : ℤ) → instant_of at ≡ Some moment → (d : Bool) → asked_in line ≡ Some (A.Collect at d) → (least : Option Fault) → collect_fault state.records 1 ≡ least
+      after : (moment : ℤ) → instant_of at ≡ Some moment → (d : Bool)
+          → asked_in line ≡ Some (A.Collect at d) → (least : Option Fault)
+          → collect_fault state.records 1 ≡ least
           → let step : Answer × State =
           option_map_or (λ fault. (refused fault, state)) least
-          (if d then plans state moment else collects state moment) in IsAnswered state refusal
-          line (of_event step.0) step.1
+          (if d then plans state moment else collects state moment) in IsAnswered state line
+          (of_event step.0) step.1
       after moment read d asked (Some fault) least = (refl, inl (own (A.Collect at d) asked ∙ (rw read refl) ∙ least))
       after moment read true asked None free =
-          let told = tells_what_a_collection_would state moment (collection_report state moment true) s (this_plans state moment) in
-          (A.Collect at true, asks (A.Collect at true) asked, own (A.Collect at true) asked ∙ (rw read refl) ∙ free, (moment, read, refl, told.0, told.1))
+          let plans_so = this_plans state moment in
+          let told = tells_what_a_collection_would state moment (collection_report state moment true) s plans_so in
+          (A.Collect at true, asks (A.Collect at true) asked, own (A.Collect at true) asked ∙ (rw read refl) ∙ free, (moment, read, plans_so, refl, told.0, told.1))
       after moment read false asked None free =
-          (A.Collect at false, asks (A.Collect at false) asked, own (A.Collect at false) asked ∙ (rw read refl) ∙ free, (moment, read, divides_all state moment _ _ s (these_collect state moment)))
+          (A.Collect at false, asks (A.Collect at false) asked, own (A.Collect at false) asked ∙ (rw read refl) ∙ free, (moment, read, these_collect state moment, divides_all state moment _ _ s (these_collect state moment)))
 
       go : (read : Option ℤ) → instant_of at ≡ read
           → let step : Answer × State =
           option_map_or (event_step state) (option_map (λ moment. collect moment dry 1) read)
-          (refused InvalidArgument, state) in IsAnswered state refusal line (of_event step.0)
+          (refused InvalidArgument, state) in IsAnswered state line (of_event step.0)
           step.1
       go None e = (refl, inl (own (A.Collect at dry) is ∙ (rw e refl)))
       go (Some moment) e = after moment e dry is (collect_fault state.records 1) refl
-  asked_kept telling (A.Remove removal at) is right = go (instant_of at) refl
+  asked_kept given (A.Remove removal at) is right = go (instant_of at) refl
     where
-      after : (moment : ℤ) → instant_of at ≡ Some moment → (least : Option Fault) → remove_collect_fault state removal 1 ≡ least
+      after : (moment : ℤ) → instant_of at ≡ Some moment → (least : Option Fault)
+          → remove_collect_fault state removal 1 ≡ least
           → let step : Answer × State =
           option_map_or (λ fault. (refused fault, state)) least
-          (collects (removal_outcome state removal).after moment) in IsAnswered state refusal
-          line (of_event step.0) step.1
+          (collects (removal_outcome state removal).after moment) in IsAnswered state line
+          (of_event step.0) step.1
       after moment read (Some fault) least = (refl, inl (own (A.Remove removal at) is ∙ (rw read refl) ∙ least))
       after moment read None free = (
         A.Remove removal at,
         asks (A.Remove removal at) is,
         own (A.Remove removal at) is ∙ (rw read refl) ∙ free,
-        (moment, read, divides_all (removal_outcome state removal).after moment _ _ (removal_sound state removal s) (these_collect (removal_outcome state removal).after moment)),
+        (
+          moment,
+          read,
+          these_collect (removal_outcome state removal).after moment,
+          divides_all (removal_outcome state removal).after moment _ _
+              (removal_sound state removal s)
+              (these_collect (removal_outcome state removal).after moment),
+        ),
       )
 
       go : (read : Option ℤ) → instant_of at ≡ read
           → let step : Answer × State =
           option_map_or (event_step state)
           (option_map (λ moment. remove_collect removal moment 1) read)
-          (refused InvalidArgument, state) in IsAnswered state refusal line (of_event step.0)
+          (refused InvalidArgument, state) in IsAnswered state line (of_event step.0)
           step.1
       go None e = (refl, inl (own (A.Remove removal at) is ∙ (rw e refl)))
       go (Some moment) e = after moment e (remove_collect_fault state removal 1) refl
 
 -- ---- a line is answered
 
-line_kept : (state : State) (refusal : Option Refusal) (telling : Telling) (line : List ℕ)
-    → IsSound state → IsTrueOf state (short_request line) (line_answer state telling line).0
-    → IsAnswered state refusal line (line_answer state telling line).0
-    (line_answer state telling line).1
-line_kept state refusal telling line s right =
+line_kept : (state : State) (given : QuestionAnswer) (line : List ℕ)
+    → IsSound state → IsTrueOf state (short_request line) (line_answer state given line).0
+    → IsAnswered state line (line_answer state given line).0
+    (line_answer state given line).1
+line_kept state given line s right =
     go (nat_lt 65536 (length line)) (asked_in line) refl refl right
   where
-    go : (long : Bool) (asked : Option Asked) → nat_lt 65536 (length line) ≡ long → asked_in line ≡ asked
+    go : (long : Bool) (asked : Option Asked) → nat_lt 65536 (length line) ≡ long
+        → asked_in line ≡ asked
         → let step : LineAnswer × State =
         if long then (of_event (refused TooLong), state) else option_map_or
-        (asked_step state telling) asked (of_event (refused BadLine), state)
+        (asked_step state given) asked (of_event (refused BadLine), state)
         in let what : Option Asked = if long then None else asked
-        in IsTrueOf state what step.0 → IsAnswered state refusal line step.0 step.1
+        in IsTrueOf state what step.0 → IsAnswered state line step.0 step.1
     go true asked long is right = (refl, inl (rw long refl))
     go false None short is right = (refl, inl (rw (short, is) refl))
     go false (Some asked) short is right =
-        asked_kept state refusal line s short telling asked is right
+        asked_kept state line s short given asked is right
 
-answer_kept : (state : State) (refusal : Option Refusal) (line : List ℕ) → IsSound state
-    → IsTrueOf state (short_request line) (answer_step state refusal line).0
-    → IsAnswered state refusal line (answer_step state refusal line).0
-    (answer_step state refusal line).1
-answer_kept state None line s right = line_kept state None (told_in None) line s right
-answer_kept state (Some (tells telling)) line s right =
-    line_kept state (Some (tells telling)) telling line s right
-answer_kept state (Some out_of_memory) line s right = (refl, inr refl)
-answer_kept state (Some no_worker) line s right = go (asks_collection (short_request line)) right
+answer_kept : (state : State) (supplied : Option Supplied) (line : List ℕ) → IsSound state
+    → IsTrueOf state (short_request line) (answer_step state supplied line).0
+    → IsAnswered state line (answer_step state supplied line).0
+    (answer_step state supplied line).1
+answer_kept state None line s right = line_kept state (supplied_answer None) line s right
+answer_kept state (Some (gives given)) line s right = line_kept state given line s right
+answer_kept state (Some out_of_memory) line s right = (refl, inr (inl refl))
+answer_kept state (Some no_worker) line s right =
+    go (asks_collection (short_request line)) refl right
   where
-    go : (asks : Bool) → let step : LineAnswer × State =
-        if asks then (of_event (refused NoWorker), state) else line_answer state (told_in None) line
-        in IsTrueOf state (short_request line) step.0
-        → IsAnswered state (Some no_worker) line step.0 step.1
-    go true right = (refl, inr refl)
-    go false right = line_kept state (Some no_worker) (told_in None) line s right
+    go : (asks : Bool) → asks_collection (short_request line) ≡ asks
+        → let step : LineAnswer × State =
+        if asks then (of_event (refused NoWorker), state) else line_answer state (supplied_answer None) line
+        in IsTrueOf state (short_request line) step.0 → IsAnswered state line step.0 step.1
+    go true asks right = (refl, inr (inr (refl, asks)))
+    go false asks right = line_kept state (supplied_answer None) line s right
 
-step_kept : (state : State) (refusal : Option Refusal) (line : List ℕ) → IsSound state
-    → IsTrueAt state refusal line
-    → AnswersLine state refusal line (line_step state refusal line).0
-    (line_step state refusal line).1
+step_kept : (state : State) (supplied : Option Supplied) (line : List ℕ) → IsSound state
+    → IsTrueAt state supplied line
+    → AnswersLine state line (line_step state supplied line).0 (line_step state supplied line).1
 unfolding line_step
-step_kept state refusal [] s right = (refl, refl)
-step_kept state refusal (byte ∷ line) s right =
-    subst (λ (step : List ℕ × State). AnswersLine state refusal (byte ∷ line) step.0 step.1)
-    (sym (full_step state refusal byte line)) (
-      (answer_step state refusal (byte ∷ line)).0,
+step_kept state supplied [] s right = (refl, refl)
+step_kept state supplied (byte ∷ line) s right =
+    subst (λ (step : List ℕ × State). AnswersLine state (byte ∷ line) step.0 step.1)
+    (sym (full_step state supplied byte line)) (
+      (answer_step state supplied (byte ∷ line)).0,
       refl,
-      answer_kept state refusal (byte ∷ line) s
-          right,
+      answer_kept state supplied (byte ∷ line) s right,
     )
 
 -- ---- so is a script
 
-lines_kept : (state : State) (refusals : Refusals) (lines : List (List ℕ)) → IsSound state
-    → AreTrue state refusals lines
-    → AnswersLines state refusals lines (output_from state refusals lines)
-lines_kept state refusals [] s right = (s, refl)
-lines_kept state refusals (line ∷ lines) s right =
-    let refusal = first_refusal refusals in
-    let new = (line_step state refusal line).1 in (
-      s,
-      (line_step state refusal line).0,
+lines_kept : (state : State) (supplies : Supplies) (lines : List (List ℕ)) → IsSound state
+    → AreTrue state supplies lines
+    → AnswersLines state lines (output_from state supplies lines)
+lines_kept state supplies [] s right = refl
+lines_kept state supplies (line ∷ lines) s right =
+    let supplied = first_supplied supplies in
+    let new = (line_step state supplied line).1 in (
+      (line_step state supplied line).0,
       new,
-      step_kept state refusal line s right.0,
-      output_from
-          new (drop 1 refusals) lines,
+      step_kept state supplied line s right.0,
+      output_from new (drop 1 supplies) lines,
       refl,
-      lines_kept new (drop 1 refusals) lines
-          (step_sound state refusal line s) right.1,
+      lines_kept new (drop 1 supplies) lines (step_sound state supplied line s) right.1,
     )
 
 -- the empty store is sound
@@ -292,13 +304,258 @@ empty_is_sound = record {
   };
 }
 
-pub each_collection_keeps : EachCollectionKeepsWhatIsReached
-each_collection_keeps refusals script right =
-    lines_kept empty_store refusals (lines_of script) empty_is_sound right
+kept : (supplies : Supplies) (script bytes : List ℕ) → bytes ≡ output_of supplies script
+    → AreTrue empty_store supplies (lines_of script) → AnswersScript script bytes
+kept supplies script bytes is right =
+    subst (AnswersLines empty_store (lines_of script)) (sym is)
+    (lines_kept empty_store supplies (lines_of script) empty_is_sound right)
 
-pub each_run_keeps : EachRunKeepsWhatIsReached
-each_run_keeps script written out = (
-  out.0,
-  subst (λ (bytes : List ℕ). AnswersLines empty_store out.0 (lines_of script) bytes)
-      (sym out.1) (each_collection_keeps out.0 script out.2),
+pub answers_script : (script bytes : List ℕ) → IsOutput script bytes → AnswersScript script bytes
+answers_script script bytes out = kept out.0 script bytes out.1 out.2
+
+pub answers_whole : (script bytes : List ℕ) → IsWholeOutput script bytes
+    → AnswersWholeLines script bytes
+answers_whole script bytes out = answers_script (whole_lines script) bytes out
+
+pub begins_answers : (script bytes : List ℕ) → IsBeginning script bytes
+    → BeginsAnswers script bytes
+begins_answers script bytes begins =
+    (begins.1, kept begins.0 script (bytes ++ begins.1) begins.2 begins.3)
+
+-- ---- what answers a line is a step of it
+
+read_short : (long : Bool) (found : Option Asked) (asked : Asked)
+    → (if long then None else found) ≡ Some asked → (long ≡ false) × (found ≡ Some asked)
+read_short true found asked e = absurd cc
+read_short false found asked e = (refl, e)
+
+module _ (state : State) (fault : Fault) where
+  moment_step : (event : ℤ → Event) (call : Option Fault) (read : Option ℤ)
+      → ((moment : ℤ) → call ≡ Some fault
+      → event_step state (event moment) ≡ (refused fault, state))
+      → (if is_some read then call else Some InvalidArgument) ≡ Some fault
+      → option_map_or (event_step state) (option_map event read) (refused InvalidArgument, state)
+      ≡ (refused fault, state)
+  moment_step event call None each own = let same : InvalidArgument ≡ fault = cc in
+      (λ i. (refused (same i), state))
+  moment_step event call (Some moment) each own = each moment own
+
+  asked_fault_step : (asked : Asked) → asked_fault state asked ≡ Some fault
+      → asked_step state (supplied_answer None) asked ≡ (of_event (refused fault), state)
+  asked_fault_step (A.Request request) own = rw own refl
+  asked_fault_step (A.Explain ns kind name at) own = rw own refl
+  asked_fault_step (A.Impact ns kind name at) own = rw own refl
+  asked_fault_step (A.Collect at dry) own =
+      ap line_step_of
+      (moment_step (λ moment. collect moment dry 1) (collect_fault state.records 1) (instant_of at)
+      (λ moment e. rw e refl) own)
+  asked_fault_step (A.Remove removal at) own =
+      ap line_step_of
+      (moment_step (λ moment. remove_collect removal moment 1)
+      (remove_collect_fault state removal 1) (instant_of at) (λ moment e. rw e refl) own)
+
+  found_fault_step : (long : Bool) (found : Option Asked)
+      → (if long then Some TooLong else option_map_or (asked_fault state) found (Some BadLine))
+      ≡ Some fault
+      → let step : LineAnswer × State =
+      if long then (of_event (refused TooLong), state) else option_map_or
+      (asked_step state (supplied_answer None)) found (of_event (refused BadLine), state)
+      in step ≡ (of_event (refused fault), state)
+  found_fault_step true found own = let same : TooLong ≡ fault = cc in
+      (λ i. (of_event (refused (same i)), state))
+  found_fault_step false None own = let same : BadLine ≡ fault = cc in
+      (λ i. (of_event (refused (same i)), state))
+  found_fault_step false (Some asked) own = asked_fault_step asked own
+
+-- the line is refused
+refused_step : (state : State) (line : List ℕ) (fault : Fault) (new : State) → new ≡ state
+    → (line_fault state line ≡ Some fault) ⊎ MayBeRefused line fault
+    → IsLineAnswer state line (of_event (refused fault)) new
+refused_step state line fault new same why = elim why [
+  | inl own ↦ (
+    None,
+    found_fault_step state fault (nat_lt 65536 (length line)) (asked_in line) own
+        ∙ (λ i. (of_event (refused fault), sym same i)),
+    tt,
+  )
+  | inr may ↦ elim may [
+    | inl memory ↦ (
+      Some out_of_memory,
+      (λ i. (of_event (refused (sym memory i)), sym same i)),
+      tt,
+    )
+    | inr thread ↦ (
+      Some no_worker,
+      rw thread.1 (λ i. (of_event (refused (sym thread.0 i)), sym same i)),
+      tt,
+    )
+  ]
+]
+
+module _ (state : State) (line : List ℕ) (new : State) where
+  -- the line asks for an event, which gives this answer
+  event_done : (asked : Asked) (event : Event) (answer : Answer)
+      → answer_step state None line ≡ asked_step state (supplied_answer None) asked
+      → asked_step state (supplied_answer None) asked ≡ line_step_of (event_step state event)
+      → Step state event no_objects answer new
+      → IsLineAnswer state line (of_event answer) new
+  event_done asked event answer whole is step =
+      let s = no_event_has_another_step state event answer new step in (
+        None,
+        whole ∙ is ∙ (λ i. (of_event (sym s.0 i), sym s.1 i)),
+        tt,
+      )
+
+  -- what the line asks for is done
+  done_step : (answer : LineAnswer) (asked : Asked) → short_request line ≡ Some asked
+      → nat_lt 65536 (length line) ≡ false → asked_in line ≡ Some asked
+      → asked_fault state asked ≡ None → IsDone state asked answer new
+      → IsLineAnswer state line answer new
+  done_step (of_event (answered reply)) (A.Request request) asks short is free done =
+      let whole : answer_step state None line ≡ asked_step state (supplied_answer None) (A.Request request)
+      = rw (short, is) refl in
+      let made = outcome state request in
+      let step : asked_step state (supplied_answer None) (A.Request request)
+      ≡ (of_event (answered made.reply), made.after) = rw free refl in
+      (None, whole ∙ step ∙ (λ i. (of_event (answered (sym done.0 i)), sym done.1 i)), tt)
+  done_step (of_event (reported report)) (A.Collect at true) asks short is free done =
+      event_done (A.Collect at true) (collect done.0 true 1) (reported report)
+      (rw (short, is) refl) (rw done.1 refl) (rw done.1 at free, refl, done.2, done.3)
+  done_step (of_event (reported report)) (A.Collect at false) asks short is free done =
+      event_done (A.Collect at false) (collect done.0 false 1) (reported report)
+      (rw (short, is) refl) (rw done.1 refl) (rw done.1 at free, done.2)
+  done_step (of_event (reported report)) (A.Remove removal at) asks short is free done =
+      event_done (A.Remove removal at) (remove_collect removal done.0 1) (reported report)
+      (rw (short, is) refl) (rw done.1 refl) (rw done.1 at free, done.2)
+  done_step (of_question (explains told)) (A.Explain ns kind name at) asks short is free done =
+      let asked = A.Explain ns kind name at in
+      let whole : answer_step state (Some (gives (explains told))) line
+      ≡ asked_step state (explains told) asked = rw (short, is) refl in
+      let step : asked_step state (explains told) asked ≡ (of_question (explains told), state)
+      = rw free refl in (
+        Some (gives (explains told)),
+        whole ∙ step ∙ (λ i. (of_question (explains told), sym done.1 i)),
+        subst (λ (what : Option Asked). IsTrueOf state what (of_question (explains told)))
+            (sym asks) done.0,
+      )
+  done_step (of_question (foresees impact)) (A.Impact ns kind name at) asks short is free done =
+      let asked = A.Impact ns kind name at in
+      let whole : answer_step state (Some (gives (foresees impact))) line
+      ≡ asked_step state (foresees impact) asked = rw (short, is) refl in
+      let step : asked_step state (foresees impact) asked ≡ (of_question (foresees impact), state)
+      = rw free refl in (
+        Some (gives (foresees impact)),
+        whole ∙ step ∙ (λ i. (of_question (foresees impact), sym done.1 i)),
+        subst (λ (what : Option Asked). IsTrueOf state what (of_question (foresees impact)))
+            (sym asks) done.0,
+      )
+  done_step (of_event (answered reply)) (A.Collect at true) asks short is free done = absurd done
+  done_step (of_event (answered reply)) (A.Collect at false) asks short is free done = absurd done
+  done_step (of_event (answered reply)) (A.Remove removal at) asks short is free done = absurd done
+  done_step (of_event (answered reply)) (A.Explain ns kind name at) asks short is free done =
+      absurd done
+  done_step (of_event (answered reply)) (A.Impact ns kind name at) asks short is free done =
+      absurd done
+  done_step (of_event (reported report)) (A.Request request) asks short is free done = absurd done
+  done_step (of_event (reported report)) (A.Explain ns kind name at) asks short is free done =
+      absurd done
+  done_step (of_event (reported report)) (A.Impact ns kind name at) asks short is free done =
+      absurd done
+  done_step (of_event (refused fault)) (A.Request request) asks short is free done = absurd done
+  done_step (of_event (refused fault)) (A.Collect at true) asks short is free done = absurd done
+  done_step (of_event (refused fault)) (A.Collect at false) asks short is free done = absurd done
+  done_step (of_event (refused fault)) (A.Remove removal at) asks short is free done = absurd done
+  done_step (of_event (refused fault)) (A.Explain ns kind name at) asks short is free done =
+      absurd done
+  done_step (of_event (refused fault)) (A.Impact ns kind name at) asks short is free done =
+      absurd done
+  done_step (of_question (explains told)) (A.Request request) asks short is free done = absurd done
+  done_step (of_question (explains told)) (A.Collect at true) asks short is free done = absurd done
+  done_step (of_question (explains told)) (A.Collect at false) asks short is free done =
+      absurd done
+  done_step (of_question (explains told)) (A.Remove removal at) asks short is free done =
+      absurd done
+  done_step (of_question (explains told)) (A.Impact ns kind name at) asks short is free done =
+      absurd done
+  done_step (of_question (foresees impact)) (A.Request request) asks short is free done =
+      absurd done
+  done_step (of_question (foresees impact)) (A.Collect at true) asks short is free done =
+      absurd done
+  done_step (of_question (foresees impact)) (A.Collect at false) asks short is free done =
+      absurd done
+  done_step (of_question (foresees impact)) (A.Remove removal at) asks short is free done =
+      absurd done
+  done_step (of_question (foresees impact)) (A.Explain ns kind name at) asks short is free done =
+      absurd done
+
+  -- the line has no fault
+  full_done : (answer : LineAnswer) (asked : Asked) → short_request line ≡ Some asked
+      → line_fault state line ≡ None → IsDone state asked answer new
+      → IsLineAnswer state line answer new
+  full_done answer asked is free done =
+      let read = read_short (nat_lt 65536 (length line)) (asked_in line) asked is in
+      let own : line_fault state line ≡ asked_fault state asked = rw (read.0, read.1) refl in
+      done_step answer asked is read.0 read.1 (sym own ∙ free) done
+
+-- the line is answered so
+answer_made : (state : State) (line : List ℕ) (answer : LineAnswer) (new : State)
+    → IsAnswered state line answer new → IsLineAnswer state line answer new
+answer_made state line (of_event (refused fault)) new is =
+    refused_step state line fault new is.0 is.1
+answer_made state line (of_event (answered reply)) new is =
+    full_done state line new (of_event (answered reply)) is.0 is.1 is.2 is.3
+answer_made state line (of_event (reported report)) new is =
+    full_done state line new (of_event (reported report)) is.0 is.1 is.2 is.3
+answer_made state line (of_question given) new is =
+    full_done state line new (of_question given) is.0 is.1 is.2 is.3
+
+step_made : (state : State) (line reply : List ℕ) (new : State) → AnswersLine state line reply new
+    → Answers state line reply new
+step_made state [] reply new is = (
+  None,
+  line_step-empty state None [] refl ∙ (λ i. (sym is.0 i, sym is.1 i)),
+  tt,
+)
+step_made state (byte ∷ line) reply new is =
+    let made = answer_made state (byte ∷ line) is.0 new is.2 in (
+      made.0,
+      line_step-answer state made.0 (byte ∷ line) is.0 new
+          (some_byte (length (byte ∷ line)) (omega arith)) made.1
+          ∙ (λ i. (sym is.1 i, new)),
+      true_at state made.0 (byte ∷ line) is.0 new made.1 made.2,
+    )
+
+-- ---- so is what answers a script
+
+lines_made : (state : State) (lines : List (List ℕ)) (written : List ℕ)
+    → AnswersLines state lines written
+    → (supplies : Supplies) × (written ≡ output_from state supplies lines)
+    × AreTrue state supplies lines
+lines_made state [] written is = ([], is, tt)
+lines_made state (line ∷ lines) written is =
+    let made = step_made state line is.0 is.1 is.2 in
+    let more = lines_made is.1 lines is.3 is.5 in
+    let step = made.1 in (
+      made.0 ∷ more.0,
+      is.4 ∙ ap (λ rest. is.0 ++ rest) more.1
+          ∙ ap (λ (p : List ℕ × State). p.0 ++ output_from p.1 more.0 lines) (sym step),
+      (
+        made.2,
+        subst (λ (now : State). AreTrue now more.0 lines)
+            (ap (λ (p : List ℕ × State). p.1) (sym step)) more.2,
+      ),
+    )
+
+pub what_answers_is_an_output : WhatAnswersIsAnOutput
+what_answers_is_an_output script written = (
+  (λ is. lines_made empty_store (lines_of script) written is),
+  (λ out. answers_script script written out),
+)
+
+pub each_store_is_sound : EachStoreIsSound
+each_store_is_sound = (
+  empty_is_sound,
+  λ state line reply new s is.
+      let made = step_made state line reply new is in
+      subst IsSound (ap (λ (p : List ℕ × State). p.1) made.1) (step_sound state made.0 line s),
 )

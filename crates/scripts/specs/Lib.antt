@@ -3,9 +3,12 @@ pub mod EventSteps
 pub mod EventLaws
 pub mod LineSteps
 pub mod LineAnswers
-pub mod Telling
+pub mod SaidLines
 pub mod Served
+pub mod Exchanging
 pub mod Output
 pub mod WholeScripts
+pub mod ScriptLaws
+pub mod WorkedScripts
 pub mod OneOutput
 pub mod Progress

@@ -6,7 +6,7 @@ use Rattle.meta_types.specs.Rows.{State}
 use Rattle.meta_types.specs.Steps.{Answer, refused, Event, requested, collect, remove_collect}
 use Rattle.meta_types.specs.Explanations.{question_fault}
 use Rattle.meta_types.specs.Impacts.{impact_question_fault}
-use Rattle.meta_types.specs.Questions.{Telling, explained, foreseen, LineAnswer, of_event, of_question, Tells, Foresees}
+use Rattle.meta_types.specs.Questions.{QuestionAnswer, explains, foresees, LineAnswer, of_event, of_question, IsExplanationFor, IsImpactFor}
 use Rattle.meta_types.specs.declared.fault.Fault.{Fault}
 use Rattle.meta_types.specs.declared.fault.Fault.TheVariants.{InvalidArgument, BadLine, TooLong, OutOfMemory, NoWorker}
 use Rattle.request_line.specs.Lines.{asked_in}
@@ -14,18 +14,19 @@ use Rattle.request_line.specs.declared.asked.Asked.{Asked}
 use Rattle.request_line.specs.declared.asked.Asked.TheVariants as A
 use Rattle.reply_line.specs.Explained.{line_answer_text}
 use Rattle.scripts.specs.EventSteps.{event_step}
+use Rattle.scripts.specs.Lines.{short_request, asks_collection, with_line_feed}
 
--- What a run adds to a line of its own. It is a refusal of what the store would answer, since
--- memory ran out or a thread couldn't be started; or it is the answer to the line's question.
-pub data Refusal : Type 0 where
-  out_of_memory : Refusal
-  no_worker : Refusal
-  tells : Telling → Refusal
+-- What a run supplies to a line, beside nothing: that memory ran out, that a thread couldn't be
+-- started, or the answer to the line's question.
+pub data Supplied : Type 0 where
+  out_of_memory : Supplied
+  no_worker : Supplied
+  gives : QuestionAnswer → Supplied
 
--- the answer to a question; where the run adds none, that nothing ever kept the row
-abbrev pub told_in : Option Refusal → Telling
-told_in (Some (tells telling)) = telling
-told_in refusal = explained (record { kept = false; path = [] })
+-- the answer that the run supplies to a question; where it supplies none, that nothing ever kept the row
+abbrev pub supplied_answer : Option Supplied → QuestionAnswer
+supplied_answer (Some (gives given)) = given
+supplied_answer supplied = explains (record { kept = false; path = [] })
 
 -- the event that is asked for; none where the moment of a collection can't be read, and none for a
 -- question. The number of workers changes nothing, so one will do
@@ -41,9 +42,9 @@ abbrev pub line_step_of : Answer × State → LineAnswer × State
 line_step_of step = (of_event step.0, step.1)
 
 -- a question is refused with its fault or has this answer, and leaves the store as it was
-abbrev pub question_step : State → Telling → Option Fault → LineAnswer × State
-question_step state telling fault =
-    (option_map_or (λ f. of_event (refused f)) fault (of_question telling), state)
+abbrev pub question_step : State → QuestionAnswer → Option Fault → LineAnswer × State
+question_step state given fault =
+    (option_map_or (λ f. of_event (refused f)) fault (of_question given), state)
 
 -- the step of an event, where the moment could be read
 abbrev pub event_line_step : State → Option Event → LineAnswer × State
@@ -52,76 +53,61 @@ event_line_step state event =
 
 -- the answer to a request, and the store after it; a moment that can't be read
 -- is refused, and is no event
-abbrev pub asked_step : State → Telling → Asked → LineAnswer × State
-asked_step state telling (A.Explain ns kind name at) =
-    question_step state telling (question_fault state.records ns kind name at)
-asked_step state telling (A.Impact ns kind name at) =
-    question_step state telling (impact_question_fault state ns kind name at)
-asked_step state telling (A.Request request) = line_step_of (event_step state (requested request))
-asked_step state telling (A.Collect at dry) = event_line_step state (event_for (A.Collect at dry))
-asked_step state telling (A.Remove removal at) =
+abbrev pub asked_step : State → QuestionAnswer → Asked → LineAnswer × State
+asked_step state given (A.Explain ns kind name at) =
+    question_step state given (question_fault state.records ns kind name at)
+asked_step state given (A.Impact ns kind name at) =
+    question_step state given (impact_question_fault state ns kind name at)
+asked_step state given (A.Request request) = line_step_of (event_step state (requested request))
+asked_step state given (A.Collect at dry) = event_line_step state (event_for (A.Collect at dry))
+asked_step state given (A.Remove removal at) =
     event_line_step state (event_for (A.Remove removal at))
 
 -- The answer to a question is right: it explains the row that is asked for, or is what would go
 -- without it. Answers of events have no condition here.
 abbrev pub IsTrueOf : State → Option Asked → LineAnswer → Type 0
 IsTrueOf state asked (of_event answer) = Unit {0}
-IsTrueOf state (Some (A.Explain ns kind name at)) (of_question (explained told)) =
-    Tells state.records ns kind name at told
-IsTrueOf state (Some (A.Impact ns kind name at)) (of_question (foreseen impact)) =
-    Foresees state ns kind name at impact
-IsTrueOf state asked (of_question telling) = ⊥
-
--- what a line of this length asks for, if anything
-abbrev pub short_request : List ℕ → Option Asked
-short_request line = if nat_lt 65536 (length line) then None else asked_in line
+IsTrueOf state (Some (A.Explain ns kind name at)) (of_question (explains told)) =
+    IsExplanationFor state.records ns kind name at told
+IsTrueOf state (Some (A.Impact ns kind name at)) (of_question (foresees impact)) =
+    IsImpactFor state ns kind name at impact
+IsTrueOf state asked (of_question given) = ⊥
 
 -- the answer to a line that isn't empty, and the store after it
-abbrev pub line_answer : State → Telling → List ℕ → LineAnswer × State
-line_answer state telling line =
+abbrev pub line_answer : State → QuestionAnswer → List ℕ → LineAnswer × State
+line_answer state given line =
     if nat_lt 65536 (length line) then (of_event (refused TooLong), state)
-    else option_map_or (asked_step state telling) (asked_in line)
+    else option_map_or (asked_step state given) (asked_in line)
     (of_event (refused BadLine), state)
 
-abbrev pub asks_collection : Option Asked → Bool
-asks_collection (Some (A.Collect at dry)) = true
-asks_collection (Some (A.Remove removal at)) = true
-asks_collection (Some (A.Request request)) = false
-asks_collection (Some (A.Explain ns kind name at)) = false
-asks_collection (Some (A.Impact ns kind name at)) = false
-asks_collection None = false
-
 -- the same, where the line may be refused; NoWorker refuses only collections and dry runs
-abbrev pub answer_step : State → Option Refusal → List ℕ → LineAnswer × State
-answer_step state None line = line_answer state (told_in None) line
-answer_step state (Some (tells telling)) line = line_answer state telling line
+abbrev pub answer_step : State → Option Supplied → List ℕ → LineAnswer × State
+answer_step state None line = line_answer state (supplied_answer None) line
+answer_step state (Some (gives given)) line = line_answer state given line
 answer_step state (Some out_of_memory) line = (of_event (refused OutOfMemory), state)
 answer_step state (Some no_worker) line =
     if asks_collection (short_request line) then (of_event (refused NoWorker), state)
-    else line_answer state (told_in None) line
+    else line_answer state (supplied_answer None) line
 
--- the line is so answered, under some refusal, and leaves this store; an answer to a question is
--- right
+-- the line is so answered, whatever the run supplies, and leaves this store; an answer to a
+-- question is right
 abbrev pub IsLineAnswer : State → List ℕ → LineAnswer → State → Type 0
 IsLineAnswer old line answer new =
-    (refusal : Option Refusal) × (answer_step old refusal line ≡ (answer, new))
+    (supplied : Option Supplied) × (answer_step old supplied line ≡ (answer, new))
     × IsTrueOf old (short_request line) answer
 
 -- what a run answers to the question of a line is right; an empty line asks for nothing
-abbrev pub IsTrueAt : State → Option Refusal → List ℕ → Type 0
-IsTrueAt state refusal [] = Unit {0}
-IsTrueAt state refusal (byte ∷ line) =
-    IsTrueOf state (short_request (byte ∷ line)) (answer_step state refusal (byte ∷ line)).0
-
-abbrev pub with_line_feed : List ℕ → List ℕ
-with_line_feed text = text ++ 10 ∷ []
+abbrev pub IsTrueAt : State → Option Supplied → List ℕ → Type 0
+IsTrueAt state supplied [] = Unit {0}
+IsTrueAt state supplied (byte ∷ line) =
+    IsTrueOf state (short_request (byte ∷ line)) (answer_step state supplied (byte ∷ line)).0
 
 -- what is written for a line, with its line feed, and the store after it; an
 -- empty line asks for nothing
-unfoldable pub line_step : State → Option Refusal → List ℕ → List ℕ × State
-line_step state refusal line =
+unfoldable pub line_step : State → Option Supplied → List ℕ → List ℕ × State
+line_step state supplied line =
     if length line == 0 then ([], state)
     else (
-      with_line_feed (line_answer_text (answer_step state refusal line).0),
-      (answer_step state refusal line).1,
+      with_line_feed (line_answer_text (answer_step state supplied line).0),
+      (answer_step state supplied line).1,
     )

@@ -4,32 +4,33 @@ use Rattle.meta_types.specs.Text.{Text}
 use Rattle.meta_types.specs.Rows.{State, empty_store}
 use Rattle.meta_types.specs.Sound.{IsSound}
 use Rattle.meta_types.specs.Impacts.{Impact}
-use Rattle.meta_types.specs.Questions.{Told, Tells, Foresees}
-use Rattle.scripts.specs.LineSteps.{Refusal, tells}
+use Rattle.meta_types.specs.Questions.{ExplanationValue, IsExplanationFor, IsImpactFor}
+use Rattle.scripts.specs.LineSteps.{Supplied, gives}
 use Rattle.scripts.specs.Lines.{lines_of}
-use Rattle.scripts.specs.Output.{Refusals, output_of, AreTrue}
+use Rattle.scripts.specs.Output.{Supplies, output_of, AreTrue}
 
 -- a sound store has one right answer to what keeps a row at a moment
-abbrev pub EachTellingIsOne : Type 0
-EachTellingIsOne = (state : State) → IsSound state → (ns kind name at : Text) (told other : Told)
-    → Tells state.records ns kind name at told → Tells state.records ns kind name at other
+abbrev pub EachExplanationIsOne : Type 0
+EachExplanationIsOne = (state : State) → IsSound state → (ns kind name at : Text) (told other : ExplanationValue)
+    → IsExplanationFor state.records ns kind name at told
+    → IsExplanationFor state.records ns kind name at other
     → told ≡ other
 
 -- any store has one right answer to what would go without a row at a moment
 abbrev pub EachImpactIsOne : Type 0
 EachImpactIsOne = (state : State) (ns kind name at : Text) (impact other : Impact)
-    → Foresees state ns kind name at impact → Foresees state ns kind name at other
+    → IsImpactFor state ns kind name at impact → IsImpactFor state ns kind name at other
     → impact ≡ other
 
 -- what a line is refused with, without an answer to its question
-abbrev pub refused_with : Option Refusal → Option Refusal
-refused_with (Some (tells telling)) = None
-refused_with refusal = refusal
+abbrev pub refused_with : Option Supplied → Option Supplied
+refused_with (Some (gives given)) = None
+refused_with supplied = supplied
 
 -- Each question has one right answer: runs that are refused alike and answer nothing wrong write
 -- the same.
 abbrev pub EachScriptHasOneOutput : Type 0
-EachScriptHasOneOutput = (refusals others : Refusals) (script : List ℕ)
-    → map refused_with refusals ≡ map refused_with others
-    → AreTrue empty_store refusals (lines_of script) → AreTrue empty_store others (lines_of script)
-    → output_of refusals script ≡ output_of others script
+EachScriptHasOneOutput = (supplies others : Supplies) (script : List ℕ)
+    → map refused_with supplies ≡ map refused_with others
+    → AreTrue empty_store supplies (lines_of script) → AreTrue empty_store others (lines_of script)
+    → output_of supplies script ≡ output_of others script

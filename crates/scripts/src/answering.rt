@@ -10,10 +10,12 @@ ghost use Rattle.reply_line.specs.Replies.{answer_text};
 ghost use Rattle.reply_line.specs.Explained.{line_answer_text, told_of, told_text};
 ghost use Rattle.reply_line.specs.Foreseen.{impact_text};
 ghost use Rattle.scripts.specs.LineAnswers.{line_answer_of};
-ghost use Rattle.scripts.specs.LineSteps.{Refusal, line_step, IsLineAnswer, IsTrueAt};
-ghost use Rattle.scripts.specs.Telling.{only_tells, IsSaid, said_bytes, reply_bytes};
+ghost use Rattle.scripts.specs.LineSteps.{Supplied, line_step, IsLineAnswer, IsTrueAt};
+ghost use Rattle.scripts.specs.SaidLines.{is_read_only, IsSaid, said_bytes, reply_bytes};
 
 use crate::line_answer::LineAnswer;
+use crate::line_memory::LineMemory;
+use crate::reserving::{stored_in, take_in};
 use crate::said::Said;
 use crate::serving::do_asked;
 use gc_report::Impact;
@@ -36,6 +38,7 @@ fn do_line<L: Ledger, K: Keeps, R: Threads + Wait + Sync>(
     session: &mut Session<L>,
     line: &[u8],
     workers: usize,
+    memory: &mut LineMemory,
 ) -> Result<LineAnswer, Fault>
     requires opened { session.old.number < locked.old.opened }
     requires length { length line.now ≤ 65536 }
@@ -46,8 +49,16 @@ fn do_line<L: Ledger, K: Keeps, R: Threads + Wait + Sync>(
         (of_event (refused fault)) locked.new.store.state) }
     ensures opened { session.new.number < locked.new.opened }
 {
-    let asked = read_line(alloc, line)?;
-    do_asked(locked, rt, alloc, session, asked, workers)
+    let asked = read_line(alloc, line, &mut memory.scratch)?;
+    do_asked(
+        locked,
+        rt,
+        alloc,
+        session,
+        asked,
+        workers,
+        &mut memory.reserve,
+    )
 }
 
 // The answer to a line that isn't empty.
@@ -58,6 +69,7 @@ fn line_outcome<L: Ledger, K: Keeps, R: Threads + Wait + Sync>(
     session: &mut Session<L>,
     line: &[u8],
     workers: usize,
+    memory: &mut LineMemory,
 ) -> LineAnswer
     requires opened { session.old.number < locked.old.opened }
     requires length { length line.now ≤ 65536 }
@@ -66,15 +78,15 @@ fn line_outcome<L: Ledger, K: Keeps, R: Threads + Wait + Sync>(
         (line_answer_of result) locked.new.store.state }
     ensures opened { session.new.number < locked.new.opened }
 {
-    match do_line(locked, rt, alloc, session, line, workers) {
+    match do_line(locked, rt, alloc, session, line, workers, memory) {
         Ok(answer) => answer,
         Err(fault) => LineAnswer::Event(Answer::Refused(fault)),
     }
 }
 
-// Whether an answer only tells, so that the store is as before.
-fn only_tells(answer: &LineAnswer) -> bool
-    ensures { result ≡ only_tells (line_answer_of answer.now) }
+// Whether an answer is read-only, so that the store is as before.
+fn is_read_only(answer: &LineAnswer) -> bool
+    ensures { result ≡ is_read_only (line_answer_of answer.now) }
 {
     match answer {
         LineAnswer::Event(Answer::Replied(Reply::Done)) => false,
@@ -114,7 +126,7 @@ fn text_of(alloc: Global, answer: &LineAnswer) -> Result<CowStr<'static, Global>
     }
 }
 
-// The text of an answer. Where it can't be made for one that only tells, memory refuses the line.
+// The text of an answer. Where it can't be made for one that is read-only, memory refuses the line.
 fn said_text(alloc: Global, answer: &LineAnswer) -> Result<CowStr<'static, Global>, Fault>
     ensures fault { Refuses result None }
     ensures ok { IfOk result (λ text. IsSaid (line_answer_of answer.now) (cow_str_bytes text)) }
@@ -122,7 +134,7 @@ fn said_text(alloc: Global, answer: &LineAnswer) -> Result<CowStr<'static, Globa
     if let Ok(text) = text_of(alloc, answer) {
         return Ok(text);
     }
-    if only_tells(answer) {
+    if is_read_only(answer) {
         return Ok(CowStr::Borrowed(refusal_text(Fault::OutOfMemory)));
     }
     Err(Fault::OutOfMemory)
@@ -143,7 +155,7 @@ fn said(alloc: Global, answer: LineAnswer) -> Result<Said, Fault>
     }
 }
 
-/// Answers one line, without its line feed: nothing for an empty one. What only tells is refused
+/// Answers one line, without its line feed: nothing for an empty one. What is read-only is refused
 /// where memory for its text is.
 pub fn answer_line<L: Ledger, K: Keeps, R: Threads + Wait + Sync>(
     locked: &mut MemLocked<L, K>,
@@ -152,23 +164,25 @@ pub fn answer_line<L: Ledger, K: Keeps, R: Threads + Wait + Sync>(
     session: &mut Session<L>,
     line: &[u8],
     workers: usize,
+    memory: &mut LineMemory,
 ) -> Result<Option<Said>, Fault>
     requires opened { session.old.number < locked.old.opened }
     requires length { length line.now ≤ 65536 }
     requires workers { is_worker_count workers ≡ true }
     ensures fault { Refuses result None }
-    ensures ok { IfOk result (λ reply. (refusal : Option Refusal)
+    ensures ok { IfOk result (λ reply. (refusal : Option Supplied)
         × (line_step locked.old.store.state refusal line.now
         ≡ (reply_bytes reply, locked.new.store.state))
         × IsTrueAt locked.old.store.state refusal line.now) }
-    ensures err { OnErr result ((refusal : Option Refusal)
+    ensures err { OnErr result ((refusal : Option Supplied)
         × (locked.new.store.state ≡ (line_step locked.old.store.state refusal line.now).1)) }
     ensures opened { session.new.number < locked.new.opened }
 {
     if line.is_empty() {
         return Ok(None);
     }
-    let answer = line_outcome(locked, rt, alloc, session, line, workers);
+    let answer = line_outcome(locked, rt, alloc, session, line, workers, memory);
+    take_in(&mut memory.reserve, alloc, &stored_in(locked), &answer);
     Ok(Some(said(alloc, answer)?))
 }
 

@@ -1,7 +1,8 @@
 //! What holds of the definition of a script's output.
 ghost use Rattle.scripts.specs.EventLaws.{EachEventHasThisStep, NoEventHasAnotherStep};
-ghost use Rattle.scripts.specs.WholeScripts.{EachCollectionKeepsWhatIsReached, EachRunKeepsWhatIsReached};
-ghost use Rattle.scripts.specs.OneOutput.{EachTellingIsOne, EachImpactIsOne, EachScriptHasOneOutput};
+ghost use Rattle.scripts.specs.ScriptLaws.{WhatAnswersIsAnOutput, EachStoreIsSound};
+ghost use Rattle.scripts.specs.WorkedScripts.{RequestsAreAnswered, ACollectionIsAnswered};
+ghost use Rattle.scripts.specs.OneOutput.{EachExplanationIsOne, EachImpactIsOne, EachScriptHasOneOutput};
 
 /// The events of an output are steps of the definitions, and each has this one alone.
 pub fn outputs_go_by_the_steps_of_the_definitions()
@@ -9,18 +10,24 @@ pub fn outputs_go_by_the_steps_of_the_definitions()
     ensures alone { NoEventHasAnotherStep }
 {}
 
-/// Of every script: each store on the way is sound, and each line is refused and changes nothing,
-/// or is answered by the definitions. A collection keeps exactly what a path of references leads
-/// to, and names the rest in its report. What a run writes is such an output.
-pub fn each_collection_keeps_what_is_reached()
-    ensures outputs { EachCollectionKeepsWhatIsReached }
-    ensures runs { EachRunKeepsWhatIsReached }
+/// What answers a script is its computed output, and no other bytes are. So each script has an
+/// answer. Each store on the way is sound.
+pub fn what_answers_is_the_output()
+    ensures outputs { WhatAnswersIsAnOutput }
+    ensures stores { EachStoreIsSound }
 {}
 
 /// Each question has one right answer: what explains a row, since the store that it meets is sound,
 /// and what would go without it. So a script has one output for the same refusals.
 pub fn each_script_has_one_output()
-    ensures tellings { EachTellingIsOne }
+    ensures explanations { EachExplanationIsOne }
     ensures impacts { EachImpactIsOne }
     ensures output { EachScriptHasOneOutput }
+{}
+
+/// Two scripts and what answers them, byte for byte: requests, an empty line and a line that is
+/// none; and a collection.
+pub fn worked_scripts_are_answered()
+    ensures requests { RequestsAreAnswered }
+    ensures collection { ACollectionIsAnswered }
 {}

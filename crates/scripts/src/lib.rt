@@ -5,8 +5,10 @@ mod answering;
 pub mod laws;
 mod line_answer;
 mod line_buffer;
+mod line_memory;
 mod line_room;
 mod lines;
+mod reserving;
 mod said;
 mod script;
 mod script_store;
@@ -14,5 +16,6 @@ mod serving;
 mod writing;
 
 pub use answering::answer_line;
+pub use line_memory::LineMemory;
 pub use said::Said;
 pub use script::run_script;

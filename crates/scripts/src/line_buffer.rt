@@ -20,7 +20,7 @@ impl LineBuffer {
     ghost use Rattle.meta_types.specs.Faults.{Refuses};
     ghost use Rattle.scripts.specs.Progress.{IsLine};
 
-    /// An empty line, with room for the longest, so that no line ends a run for want of it.
+    /// An empty line, with room for the longest.
     pub fn new(alloc: Global) -> Result<LineBuffer, Fault>
         ensures fault { Refuses result None }
         ensures ok { IfOk result (λ buffer. IsLine buffer []) }

@@ -6,8 +6,10 @@ ghost use Rattle.std.specs.Io.KnownBytes.{IsAtEnd, ReadConsumes};
 ghost use Rattle.meta_types.specs.Faults.{Refuses};
 ghost use Rattle.meta_types.specs.Limits.{is_worker_count};
 ghost use Rattle.scripts.specs.Lines.{is_line_feed};
-ghost use Rattle.scripts.specs.Telling.{reply_bytes};
-ghost use Rattle.scripts.specs.Output.{IsOutput, IsWholeOutput, IsBeginning, IsLateFault, IsStartedFault, IsRunFault, Exchanges};
+ghost use Rattle.scripts.specs.SaidLines.{reply_bytes};
+ghost use Rattle.scripts.specs.Output.{IsOutput, IsWholeOutput, IsBeginning};
+ghost use Rattle.scripts.specs.Exchanging.{IsLateFault, IsStartedFault, IsRunFault, Exchanges};
+ghost use Rattle.scripts.specs.WholeScripts.{AnswersScript, AnswersWholeLines, BeginsAnswers};
 ghost use Rattle.scripts.specs.Progress.{IsLine, Answers, Advances, Breaks, Replies, BeginsReply, EndsWith, FollowsBlock, RunEnds};
 
 use crate::answering::too_long;
@@ -226,8 +228,8 @@ fn run_named<L: Ledger, T: Threads + Wait + Sync, R: Read, W: Write>(
         (R.remaining reader.new) (W.contents writer.old) (W.contents writer.new)) }
     ensures faults { IfErr result IsStartedFault }
 {
-    let mut store = ScriptStore::<L>::open(alloc, blank, workers)?;
     let mut buffer = LineBuffer::new(alloc)?;
+    let mut store = ScriptStore::<L>::open(alloc, blank, workers)?;
     'reads: for _ in 1..READ_LIMIT {
         match take_block(rt, alloc, &mut store, &mut buffer, reader, writer) {
             Ok(Run::GoesOn) => {}
@@ -245,9 +247,9 @@ fn run_named<L: Ledger, T: Threads + Wait + Sync, R: Read, W: Write>(
 }
 
 /// The headline: whatever the script, with 1 to 16 workers that steal and whatever their schedule,
-/// what is written is the output of what was read. In it a collection removes exactly what no path
-/// of references reaches. A line may also be refused with 7 or 8, for memory or for a thread; then
-/// it changes nothing. The store's memory isn't freed: it goes with the process.
+/// what is written answers what was read, line by line. A collection removes exactly what no path of
+/// references reaches. A line may also be refused with 7, for memory, or a collection with 8, for a
+/// thread; then it changes nothing. The store's memory isn't freed: it goes with the process.
 pub fn run_script<T: Threads + Wait + Sync, R: Read, W: Write>(
     rt: &T,
     alloc: Global,
@@ -256,14 +258,14 @@ pub fn run_script<T: Threads + Wait + Sync, R: Read, W: Write>(
     workers: usize,
 ) -> Result<(), Fault>
     ensures end { OnOk result (IsAtEnd (R.remaining reader.new)) }
-    ensures ok { OnOk result (Exchanges IsOutput (R.remaining reader.old)
+    ensures ok { OnOk result (Exchanges AnswersScript (R.remaining reader.old)
         (R.remaining reader.new) (W.contents writer.old) (W.contents writer.new)) }
 
     // A line that isn't whole when the reader fails isn't answered.
-    ensures read_failed { IsErrOf result Fault.ReadFailed → Exchanges IsWholeOutput
+    ensures read_failed { IsErrOf result Fault.ReadFailed → Exchanges AnswersWholeLines
         (R.remaining reader.old) (R.remaining reader.new)
         (W.contents writer.old) (W.contents writer.new) }
-    ensures err { OnErr result (Exchanges IsBeginning (R.remaining reader.old)
+    ensures err { OnErr result (Exchanges BeginsAnswers (R.remaining reader.old)
         (R.remaining reader.new) (W.contents writer.old) (W.contents writer.new)) }
     ensures workers { IsErrOf result Fault.InvalidArgument ↔ is_worker_count workers ≡ false }
     ensures unread { IsErrOf result Fault.InvalidArgument →

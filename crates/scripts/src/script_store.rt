@@ -5,11 +5,13 @@ ghost use Rattle.meta_types.specs.Faults.{Refuses};
 ghost use Rattle.meta_types.specs.Limits.{is_worker_count};
 ghost use Rattle.meta_types.specs.Rows.{empty_store};
 ghost use Rattle.reply_line.specs.Blocks.{WritesFront};
-ghost use Rattle.scripts.specs.LineSteps.{Refusal, line_step, with_line_feed, IsTrueAt};
-ghost use Rattle.scripts.specs.Telling.{said_bytes, reply_bytes};
-ghost use Rattle.scripts.specs.Output.{IsLateFault};
+ghost use Rattle.scripts.specs.LineSteps.{Supplied, line_step, IsTrueAt};
+ghost use Rattle.scripts.specs.Lines.{with_line_feed};
+ghost use Rattle.scripts.specs.SaidLines.{said_bytes, reply_bytes};
+ghost use Rattle.scripts.specs.Exchanging.{IsLateFault};
 
 use crate::answering::answer_line;
+use crate::line_memory::LineMemory;
 use crate::said::Said;
 use crate::writing::write_said;
 use meta_types::Fault;
@@ -32,6 +34,7 @@ pub struct ScriptStore<L: Ledger> {
     session: Session<L>,
     workers: usize,
     block: Vec<u8>,
+    memory: LineMemory,
 }
 
 impl<L: Ledger> Model for ScriptStore<L> {
@@ -59,6 +62,7 @@ impl<L: Ledger> ScriptStore<L> {
         ensures ok { IfOk result (λ store. store ≡ empty_store) }
     {
         let block = Vec::with_capacity(alloc, BLOCK_ROOM)?;
+        let memory = LineMemory::open(alloc)?;
         let mut locked = Locked::open_unkept(alloc, blank, State::empty(alloc));
         let session = locked.session(alloc)?;
         Ok(ScriptStore {
@@ -66,6 +70,7 @@ impl<L: Ledger> ScriptStore<L> {
             session,
             workers,
             block,
+            memory,
         })
     }
 
@@ -78,10 +83,10 @@ impl<L: Ledger> ScriptStore<L> {
     ) -> Result<Option<Said>, Fault>
         requires { length line.now ≤ 65536 }
         ensures fault { Refuses result None }
-        ensures ok { IfOk result (λ reply. (refusal : Option Refusal)
+        ensures ok { IfOk result (λ reply. (refusal : Option Supplied)
             × (line_step self.old refusal line.now ≡ (reply_bytes reply, self.new))
             × IsTrueAt self.old refusal line.now) }
-        ensures err { OnErr result ((refusal : Option Refusal)
+        ensures err { OnErr result ((refusal : Option Supplied)
             × (self.new ≡ (line_step self.old refusal line.now).1)) }
     {
         answer_line(
@@ -91,6 +96,7 @@ impl<L: Ledger> ScriptStore<L> {
             &mut self.session,
             line,
             self.workers,
+            &mut self.memory,
         )
     }
 

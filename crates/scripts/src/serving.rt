@@ -2,7 +2,7 @@
 ghost use Rattle.std.specs.Prelude.{◌≡◌, ◌<◌, IfOk, IfErr, true};
 ghost use Rattle.meta_types.specs.Limits.{is_worker_count};
 ghost use Rattle.meta_types.specs.Steps.{answered, reported};
-ghost use Rattle.meta_types.specs.Questions.{explained, foreseen, of_event, of_question};
+ghost use Rattle.meta_types.specs.Questions.{explains, foresees, of_event, of_question};
 ghost use Rattle.reply_line.specs.Explained.{told_of};
 ghost use Rattle.request_line.specs.declared.asked.Asked.TheVariants as A;
 ghost use Rattle.scripts.specs.LineAnswers.{line_answer_of};
@@ -10,12 +10,14 @@ ghost use Rattle.scripts.specs.Served.{IsServed, IsRefused};
 
 use crate::line_answer::LineAnswer;
 use crate::line_room::room_beside;
+use crate::reserving::{make_way, stored_in};
 use backend_sweep::OpenSweepGate;
 use gc_labels::read_instant;
 use gc_report::{Impact, Report};
 use meta_types::{Explanation, Fault, Object, RawText, Removal, Reply, Request, ShortName};
 use reply_line::Answer;
 use request_line::Asked;
+use reserve::Reserve;
 use std::alloc::Global;
 use std::mem::drop;
 use std::sync::Wait;
@@ -30,6 +32,7 @@ fn do_request<L: Ledger, K: Keeps>(
     alloc: Global,
     session: &mut Session<L>,
     request: Request,
+    reserve: &mut Reserve,
 ) -> Result<Reply, Fault>
     requires { session.old.number < locked.old.opened }
     ensures ok { IfOk result (λ reply. IsServed locked.old.store.state (A.Request request)
@@ -38,7 +41,7 @@ fn do_request<L: Ledger, K: Keeps>(
         fault locked.new.store.state) }
     ensures opened { session.new.number < locked.new.opened }
 {
-    let Ok(room) = room_beside(alloc, &request) else {
+    let Ok(room) = room_beside(alloc, reserve, &stored_in(locked), &request) else {
         drop(request);
         return Err(Fault::OutOfMemory);
     };
@@ -133,7 +136,7 @@ fn explain<L: Ledger, K: Keeps, R: Threads + Wait + Sync>(
 ) -> Result<Explanation, Fault>
     ensures ok { IfOk result (λ e. IsServed locked.now.store.state
         (A.Explain ns.now kind.now resource.now at.now)
-        (of_question (explained (told_of e))) locked.now.store.state) }
+        (of_question (explains (told_of e))) locked.now.store.state) }
     ensures err { IfErr result (λ fault. IsRefused locked.now.store.state
         (A.Explain ns.now kind.now resource.now at.now) fault locked.now.store.state) }
 {
@@ -157,7 +160,7 @@ fn foresee<L: Ledger, K: Keeps, R: Threads + Wait + Sync>(
 ) -> Result<Impact, Fault>
     ensures ok { IfOk result (λ impact. IsServed locked.now.store.state
         (A.Impact ns.now kind.now resource.now at.now)
-        (of_question (foreseen impact)) locked.now.store.state) }
+        (of_question (foresees impact)) locked.now.store.state) }
     ensures err { IfErr result (λ fault. IsRefused locked.now.store.state
         (A.Impact ns.now kind.now resource.now at.now) fault locked.now.store.state) }
 {
@@ -169,7 +172,8 @@ fn foresee<L: Ledger, K: Keeps, R: Threads + Wait + Sync>(
     locked.impact(rt, alloc, ns, row, at)
 }
 
-/// Does what a line asks for, with this number of workers where it is a collection.
+/// Does what a line asks for, with this number of workers where it is a collection. What is kept
+/// for collections is given up where it is one, or a question.
 pub fn do_asked<L: Ledger, K: Keeps, R: Threads + Wait + Sync>(
     locked: &mut MemLocked<L, K>,
     rt: &R,
@@ -177,6 +181,7 @@ pub fn do_asked<L: Ledger, K: Keeps, R: Threads + Wait + Sync>(
     session: &mut Session<L>,
     asked: Asked,
     workers: usize,
+    reserve: &mut Reserve,
 ) -> Result<LineAnswer, Fault>
     requires opened { session.old.number < locked.old.opened }
     requires workers { is_worker_count workers ≡ true }
@@ -186,9 +191,10 @@ pub fn do_asked<L: Ledger, K: Keeps, R: Threads + Wait + Sync>(
         locked.new.store.state) }
     ensures opened { session.new.number < locked.new.opened }
 {
+    let workers = make_way(reserve, alloc, &stored_in(locked), &asked, workers);
     match asked {
         Asked::Request(asked) => {
-            let reply = do_request(locked, alloc, session, asked)?;
+            let reply = do_request(locked, alloc, session, asked, reserve)?;
             Ok(LineAnswer::Event(Answer::Replied(reply)))
         }
         Asked::Collect { at, dry } => {

@@ -2,9 +2,9 @@
 ghost use Rattle.std.specs.Prelude.{◌≡◌, ℕ, List, OnOk, OnErr, IfErr};
 ghost use Rattle.std.specs.Io.KnownBytes.{Appends, Keeps};
 ghost use Rattle.reply_line.specs.Blocks.{WritesFront};
-ghost use Rattle.scripts.specs.LineSteps.{with_line_feed};
-ghost use Rattle.scripts.specs.Telling.{said_bytes};
-ghost use Rattle.scripts.specs.Output.{IsLateFault};
+ghost use Rattle.scripts.specs.Lines.{with_line_feed};
+ghost use Rattle.scripts.specs.SaidLines.{said_bytes};
+ghost use Rattle.scripts.specs.Exchanging.{IsLateFault};
 
 use crate::said::Said;
 use meta_types::Fault;

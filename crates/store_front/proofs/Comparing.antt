@@ -5,8 +5,8 @@ use Rattle.std.proofs.lemmas.Bool.{eq-eqb, ne_eqb, cases_lt}
 use Rattle.std.proofs.lemmas.List.{take_all, get_or-set_same, get_or-set_other}
 use Rattle.std.proofs.lemmas.List.Sums.{length-filter}
 use Rattle.meta_types.specs.Histories.{Entry}
-use Rattle.store_front.specs.Told.{Seat}
-use Rattle.store_front.specs.Parts.{part, told_of, IsPart, AreOpened}
+use Rattle.store_front.specs.SessionEntries.{Seat}
+use Rattle.store_front.specs.Parts.{part, session_entry_of, IsPart, AreOpened}
 use Rattle.store_front.specs.Finish.{AreEach, OneDiffers}
 use Rattle.store_front.specs.Cursors.{IsUpTo, AreUpTo, AreEnded, IsShort}
 use Rattle.store_front.proofs.SessionCounts.{with, some_with, nat_lt_true}
@@ -72,7 +72,8 @@ module _ (opened : ℕ) (log : List Entry) (seats : List Seat) (next : List ℕ)
     (inside : place < length seats) (long : length next ≡ length seats) (number : (d : Seat) → (slice_index_or seats place d).number ≡ entry.session) (so_far : AreUpTo (take i log) seats next) where
   -- the entry stands in its session's list
   pub one_further : (c : Seat) (m : ℕ)
-      → slice_get (slice_index_or seats place c).list (slice_index_or next place m) ≡ Some (told_of entry) → AreUpTo (take (i + 1) log) seats (slice_set next place (slice_index_or next place m + 1))
+      → slice_get (slice_index_or seats place c).list (slice_index_or next place m) ≡ Some (session_entry_of entry)
+      → AreUpTo (take (i + 1) log) seats (slice_set next place (slice_index_or next place m + 1))
   one_further c m stands j d e within =
       elim (cases_lt j place) [
         | inl less ↦ other (λ same. omega (arith, less, same))
@@ -113,7 +114,8 @@ module _ (opened : ℕ) (log : List Entry) (seats : List Seat) (next : List ℕ)
 
   -- the session's list has another there, or has ended
   pub one_differs : (c : Seat) (m : ℕ)
-      → slice_get (slice_index_or seats place c).list (slice_index_or next place m) ≢ Some (told_of entry) → OneDiffers log seats (slice_index_or next place m)
+      → slice_get (slice_index_or seats place c).list (slice_index_or next place m) ≢ Some (session_entry_of entry)
+      → OneDiffers log seats (slice_index_or next place m)
   one_differs c m another =
       let seat = slice_index_or seats place c in
       let before = so_far place c m inside in
@@ -121,14 +123,14 @@ module _ (opened : ℕ) (log : List Entry) (seats : List Seat) (next : List ℕ)
 
   -- the same of the seat and the place that were read
   pub reads_on : (s : Seat) (at : ℕ) → s ≡ slice_index_or seats place s
-      → at ≡ slice_index_or next place at → slice_get s.list at ≡ Some (told_of entry)
+      → at ≡ slice_index_or next place at → slice_get s.list at ≡ Some (session_entry_of entry)
       → AreUpTo (take (i + 1) log) seats (slice_set next place (at + 1))
   reads_on s at seat_is at_is stands =
       subst (λ (n : ℕ). AreUpTo (take (i + 1) log) seats (slice_set next place (n + 1))) (sym at_is)
       (one_further s at ((λ j. slice_get (sym seat_is j).list (sym at_is j)) ∙ stands))
 
   pub reads_another : (s : Seat) (at : ℕ) → s ≡ slice_index_or seats place s
-      → at ≡ slice_index_or next place at → slice_get s.list at ≢ Some (told_of entry)
+      → at ≡ slice_index_or next place at → slice_get s.list at ≢ Some (session_entry_of entry)
       → OneDiffers log seats at
   reads_another s at seat_is at_is another =
       subst (λ (n : ℕ). OneDiffers log seats n) (sym at_is) (one_differs s at (λ h. another ((λ j. slice_get (seat_is j).list (at_is j)) ∙ h)))

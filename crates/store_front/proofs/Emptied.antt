@@ -1,7 +1,7 @@
 -- Lists of sessions, emptied one after the other.
 use Rattle.std.proofs.Common.{◌≡◌, ℕ, zero, suc, ◌+◌, ◌<◌, ◌≤◌, List, [], ◌∷◌, length, slice_index_or, slice_set, refl, sym, ap, ◌∙◌, arith}
 use Rattle.std.specs.Prelude.{map}
-use Rattle.store_front.specs.Told.{Seat}
+use Rattle.store_front.specs.SessionEntries.{Seat}
 use Rattle.store_front.specs.Finish.{fresh, told_to, cleared, told_first}
 
 -- the one at the place isn't emptied yet

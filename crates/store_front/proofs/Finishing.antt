@@ -5,7 +5,7 @@ use Rattle.std.specs.Result.{IsErrAnd}
 use Rattle.meta_types.specs.Histories.{Entry, IsLegal}
 use Rattle.meta_types.specs.declared.fault.Fault.{Fault}
 use Rattle.meta_types.specs.declared.fault.Fault.TheVariants.{InvalidArgument, NotFound, AlreadyExists, FailedPrecondition, BadLine, TooLong, OutOfMemory, NoWorker, BackendFailed, ReadFailed, WriteFailed, Mismatch}
-use Rattle.store_front.specs.Told.{Seat, Course}
+use Rattle.store_front.specs.SessionEntries.{Seat, Course}
 use Rattle.store_front.specs.Front.{Front}
 use Rattle.store_front.specs.Parts.{IsPart, AreOpened}
 use Rattle.store_front.specs.Finish.{AreEach, FinishFails, IsHistory, AreOfThese}
@@ -30,7 +30,8 @@ each_fault ReadFailed opened log seats h = absurd h
 each_fault WriteFailed opened log seats h = absurd h
 
 -- so it is of the answer that `?` passes on
-pub each_refused : (r : Result Course Fault) (fault : Fault) (inside opened : ℕ) (log : List Entry) (now seats : List Seat) → IsErrAnd r (λ other. other ≡ fault) → inside ≡ opened → now ≡ seats
+pub each_refused : (r : Result Course Fault) (fault : Fault) (inside opened : ℕ) (log : List Entry) (now seats : List Seat)
+    → IsErrAnd r (λ other. other ≡ fault) → inside ≡ opened → now ≡ seats
     → FinishFails fault inside log now → IsEach r opened seats
 each_refused (Ok h) fault inside opened log now seats same o s fails = absurd same
 each_refused (Err other) fault inside opened log now seats same o s fails =

@@ -10,18 +10,20 @@ use Rattle.meta_types.specs.Steps.{collect_fault}
 use Rattle.meta_types.specs.declared.fault.Fault.{Fault}
 use Rattle.meta_types.specs.declared.fault.Fault.TheVariants.{InvalidArgument, NotFound, AlreadyExists, FailedPrecondition, BadLine, TooLong, OutOfMemory, NoWorker, BackendFailed, ReadFailed, WriteFailed, Mismatch}
 use Rattle.steal_mark.specs.Refusing.{RefusesThreads}
-use Rattle.store_front.specs.Told.{Seat}
+use Rattle.store_front.specs.SessionEntries.{Seat}
 use Rattle.store_front.specs.Parts.{part, IsPart}
 use Rattle.store_front.specs.Finish.{CutFails, PlanFails}
 
 -- `?` passes a fault on as it is
-pub passed_on : {T : Type 0} (result : Result T Fault) (fault : Fault) (P : Fault → Type 0) → IsErrAnd result (λ other. other ≡ fault) → P fault
+pub passed_on : {T : Type 0} (result : Result T Fault) (fault : Fault) (P : Fault → Type 0)
+    → IsErrAnd result (λ other. other ≡ fault) → P fault
     → IfErr result P
 passed_on (Ok x) fault P same p = absurd same
 passed_on (Err other) fault P same p = subst P (sym same) p
 
 -- where the workers are allowed, they aren't what refuses the plan
-pub not_for_workers : {T : Type 0} (result : Result T Fault) (workers : ℕ) (session : Seat) → is_worker_count workers ≡ true → IfErr result (λ f. PlanFails f workers session)
+pub not_for_workers : {T : Type 0} (result : Result T Fault) (workers : ℕ) (session : Seat)
+    → is_worker_count workers ≡ true → IfErr result (λ f. PlanFails f workers session)
     → (result ≡ Err InvalidArgument) ↔ (is_worker_count workers ≡ false)
 not_for_workers result workers session allowed fails =
     (λ is. subst (λ r. IfErr r (λ f. PlanFails f workers session)) is fails, λ no. absurd cc)
@@ -43,14 +45,18 @@ cut_refuses workers session log ReadFailed h = absurd h
 cut_refuses workers session log WriteFailed h = absurd h
 
 module _ (workers : ℕ) (session : Seat) (base : State) (log : List Entry) (state : State) (legal : IsLegal base log state) (own : IsPart log session) where
-  by_size : (large : Bool) → is_too_large state.records ≡ large → is_worker_count workers ≡ true → (f : Fault)
-      → RefusesThreads {X = Report} (Err f) (if large then Some FailedPrecondition else None) → PlanFails f workers session
+  by_size : (large : Bool) → is_too_large state.records ≡ large → is_worker_count workers ≡ true
+      → (f : Fault)
+      → RefusesThreads {X = Report} (Err f) (if large then Some FailedPrecondition else None)
+      → PlanFails f workers session
   by_size true is allowed f h = subst (λ (x : Fault). PlanFails x workers session) (sym h) (base, log, state, legal, own, is)
   by_size false is allowed f (inl h) = subst (λ (x : Fault). PlanFails x workers session) (sym h) tt
   by_size false is allowed f (inr h) = subst (λ (x : Fault). PlanFails x workers session) (sym h) allowed
 
   -- what refuses the dry run of these records, which are the state's, refuses the plan
-  pub dry_refuses : (records : Records) → records ≡ state.records → is_worker_count workers ≡ true → (f : Fault)
-      → RefusesThreads {X = Report} (Err f) (collect_fault records workers) → PlanFails f workers session
+  pub dry_refuses : (records : Records) → records ≡ state.records → is_worker_count workers ≡ true
+      → (f : Fault)
+      → RefusesThreads {X = Report} (Err f) (collect_fault records workers)
+      → PlanFails f workers session
   dry_refuses records same allowed f h =
       by_size (is_too_large state.records) refl allowed f (rw allowed at (subst (λ (r : Records). RefusesThreads {X = Report} (Err f) (collect_fault r workers)) same h))

@@ -4,7 +4,7 @@ use Rattle.std.specs.Prelude.{◌==◌, cond, filter, count_by, nat_lt, if◌the
 use Rattle.std.proofs.lemmas.Bool.{eq-eqb, ne_eqb, cases_lt}
 use Rattle.std.proofs.lemmas.Bool.Decides.{nat_tests}
 use Rattle.std.proofs.lemmas.List.Sums.{length-filter}
-use Rattle.store_front.specs.Told.{Seat}
+use Rattle.store_front.specs.SessionEntries.{Seat}
 use Rattle.store_front.specs.Finish.{AreEach}
 
 abbrev count : ℕ → List Seat → ℕ

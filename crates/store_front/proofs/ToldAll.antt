@@ -5,8 +5,8 @@ use Rattle.std.proofs.lemmas.Bool.{eq-eqb}
 use Rattle.std.proofs.lemmas.Bool.Decides.{Decides-eqb}
 use Rattle.std.proofs.lemmas.List.Sums.{length-filter}
 use Rattle.meta_types.specs.Histories.{Entry}
-use Rattle.store_front.specs.Told.{Seat}
-use Rattle.store_front.specs.Parts.{part, told_of, IsPart, AreOpened}
+use Rattle.store_front.specs.SessionEntries.{Seat}
+use Rattle.store_front.specs.Parts.{part, session_entry_of, IsPart, AreOpened}
 use Rattle.store_front.specs.Finish.{AreEach, told_to}
 use Rattle.store_front.proofs.SessionCounts.{with, nat_lt_true}
 
@@ -19,7 +19,7 @@ parts log [] = 0
 parts log (s ∷ seats) = length (part s.number log) + parts log seats
 
 step_entry : (b : Bool) (e : Entry) (log : List Entry)
-    → length (map told_of (cond b (e ∷ log) log)) ≡ one_if b + length (map told_of log)
+    → length (map session_entry_of (cond b (e ∷ log) log)) ≡ one_if b + length (map session_entry_of log)
 step_entry true e log = omega arith
 step_entry false e log = omega arith
 

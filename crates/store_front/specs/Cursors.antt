@@ -1,7 +1,7 @@
 -- How far the sessions' lists are compared with the log. Ours, unless a source stands beside.
 use Rattle.std.specs.Prelude.{ℕ, ◌≡◌, ◌≢◌, ◌<◌, ◌≤◌, List, take, length, slice_index_or}
 use Rattle.meta_types.specs.Histories.{Entry}
-use Rattle.store_front.specs.Told.{Seat}
+use Rattle.store_front.specs.SessionEntries.{Seat}
 use Rattle.store_front.specs.Parts.{part}
 
 -- the list begins with the session's part of these entries, which ends before place `next`

@@ -5,11 +5,11 @@ use Rattle.meta_types.specs.Histories.{Entry, IsLegal}
 use Rattle.meta_types.specs.declared.fault.Fault.{Fault}
 use Rattle.meta_types.specs.declared.fault.Fault.TheVariants.{InvalidArgument, NotFound, AlreadyExists, FailedPrecondition, BadLine, TooLong, OutOfMemory, NoWorker, BackendFailed, ReadFailed, WriteFailed, Mismatch}
 use Rattle.meta_types.specs.Limits.{is_worker_count, is_too_large}
-use Rattle.store_front.specs.Told.{Told, Seat, Course}
+use Rattle.store_front.specs.SessionEntries.{SessionEntry, Seat, Course}
 use Rattle.store_front.specs.Parts.{part, IsPart, DifferFirst, AreOpened}
 
 -- memory ran out, or the session's part of the log and its list differ first at the named place
-abbrev pub CutFails : Fault → List Told → List Told → Type 0
+abbrev pub CutFails : Fault → List SessionEntry → List SessionEntry → Type 0
 CutFails OutOfMemory xs ys = ⊤
 CutFails (Mismatch place) xs ys = DifferFirst xs ys place
 CutFails InvalidArgument xs ys = ⊥

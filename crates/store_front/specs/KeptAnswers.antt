@@ -9,7 +9,7 @@ use Rattle.meta_types.specs.declared.reply.Reply.{Reply}
 use Rattle.meta_types.specs.declared.fault.Fault.{Fault}
 use Rattle.meta_types.specs.declared.fault.Fault.TheVariants.{InvalidArgument, NotFound, AlreadyExists, FailedPrecondition, BadLine, TooLong, OutOfMemory, NoWorker, BackendFailed, ReadFailed, WriteFailed, Mismatch}
 use Rattle.backend_sweep.specs.Swept.{count_names}
-use Rattle.store_front.specs.Told.{Told}
+use Rattle.store_front.specs.SessionEntries.{SessionEntry}
 
 -- events that are refused with a fault of the model are entries, others aren't
 abbrev pub kept_fault : Fault → Option Answer
@@ -52,7 +52,7 @@ log_after log number event None = log
 log_after log number event (Some answer) = log ++ (record { session = number; event = event; answer = answer }) ∷ []
 
 -- the same in the session's list
-abbrev pub list_after : List Told → Event → Option Answer → List Told
+abbrev pub list_after : List SessionEntry → Event → Option Answer → List SessionEntry
 list_after list event None = list
 list_after list event (Some answer) = list ++ (record { event = event; answer = answer }) ∷ []
 

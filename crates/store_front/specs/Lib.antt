@@ -1,4 +1,4 @@
-pub mod Told
+pub mod SessionEntries
 pub mod Entries
 pub mod Front
 pub mod KeptAnswers

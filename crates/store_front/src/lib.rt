@@ -13,7 +13,7 @@ mod store;
 pub use calls::explain::Explained;
 pub use calls::impact::Foreseen;
 pub use calls::plan_copy::Planned;
-pub use event::entry::{Entry, Told};
+pub use event::entry::{Entry, SessionEntry};
 pub use event::event::{Answer, Event};
 pub use event::kept_report::KeptReport;
 pub use history::base::{Base, History};

@@ -1,7 +1,7 @@
 //! Sessions: the clients of a store, each with the answers that it got.
 ghost use Rattle.std.specs.Prelude.{◌≡◌};
 
-use crate::event::entry::Told;
+use crate::event::entry::SessionEntry;
 use std::marker::Model;
 use std::sync::ledger::{Ledger, Share};
 
@@ -9,14 +9,14 @@ use std::sync::ledger::{Ledger, Share};
 #[derive(Drop)]
 pub struct Session<L: Ledger> {
     pub(crate) number: u32,
-    pub(crate) list: Vec<Told>,
+    pub(crate) list: Vec<SessionEntry>,
     pub(crate) share: Share<L>,
 }
 
 impl<L: Ledger> Model for Session<L> {
     ghost use Rattle.std.specs.Prelude.{◌≡◌, ◌<◌};
     ghost use Rattle.std.specs.Vec.{vec_len};
-    ghost use Rattle.store_front.specs.Told.{Seat};
+    ghost use Rattle.store_front.specs.SessionEntries.{Seat};
 
     ghost Value = { Seat };
 
@@ -38,7 +38,7 @@ impl<L: Ledger> Session<L> {
     }
 
     /// The events that it asked for and the answers that it got, in order.
-    pub fn list(&self) -> &[Told]
+    pub fn list(&self) -> &[SessionEntry]
         ensures { result.now ≡ self.now.list }
     {
         &self.list

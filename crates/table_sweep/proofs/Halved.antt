@@ -1,6 +1,6 @@
 -- What halving finds in a list in which each snapshot stands before the next.
 use Rattle.std.proofs.Common.{◌≡◌, ℕ, zero, suc, ◌+◌, ◌-◌, ◌<◌, Bool, true, false, List, length, position, refl, sym, ap, subst, ◌∙◌, arith, inl, inr, Ok, Err, Result, ltb-true, ltb-false}
-use Rattle.std.specs.Prelude.{◌&&◌, ◌==◌, bytes_eq, nat_lt, slice_get, slice_index_or, Option, Some, None}
+use Rattle.std.specs.Prelude.{◌&&◌, nat_lt, slice_get, slice_index_or, Option, Some, None}
 use Rattle.std.specs.Option.{option_map_or}
 use Rattle.std.proofs.lemmas.Option.{slice_get_within, get_or_from_slice_get}
 use Rattle.std.specs.Result.{result_ok}

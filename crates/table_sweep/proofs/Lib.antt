@@ -14,7 +14,7 @@ pub mod Deep
 pub mod SortedObjects
 pub mod SortedRows
 pub mod NamesOrder
-pub mod CameRecords
+pub mod RecordsArrived
 pub mod KeyOrder
 pub mod Goes
 pub mod Planned

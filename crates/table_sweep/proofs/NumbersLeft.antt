@@ -36,7 +36,8 @@ module _ (records : Records) (at : ℤ) (reached : Thing → Bool) (tells_reache
   abbrev begun_left : List IngestRow
   begun_left = filter (ingest_stays reached) begun
 
-  has_parent : (row : SnapRow) → Contains snaps row → snapshot_stays reached row ≡ true → HasParent snaps row → HasParent snaps_left row
+  has_parent : (row : SnapRow) → Contains snaps row → snapshot_stays reached row ≡ true
+      → HasParent snaps row → HasParent snaps_left row
   has_parent row c stays has = subst (λ (o : Option SnapRow). IfSome row.parent (λ name. (above : SnapRow) × (o ≡ Some above) × IsTrue (is_committed above.kind) × (above.number < row.number)))
       (sym (same_parent records at reached tells_reached row c stays has)) has
 
@@ -49,12 +50,15 @@ module _ (records : Records) (at : ℤ) (reached : Thing → Bool) (tells_reache
         (λ row c stays. All-filter (ingest_stays reached) (UnlikeIngest row) begun (All-contains (λ (snap : SnapRow). All (UnlikeIngest snap) begun) snaps row s.apart c));
   }
 
--- what the masks keep of rows as they came is numbered
-pub stay_numbered : (came : Records) (at : ℤ) (reached : Thing → Bool) → TellsReached (records_in_key_order came) at reached → (masks : Masks) → AreMasks came at reached masks
-    → AreNumbered (sorted snap_key came.tables.snapshots) (sorted ingest_key came.tables.ingests) → StayNumbered came.tables masks
-stay_numbered came at reached told masks are s = record {
+-- what the masks keep of rows as they arrived is numbered
+pub stay_numbered : (arrived : Records) (at : ℤ) (reached : Thing → Bool)
+    → TellsReached (records_in_key_order arrived) at reached → (masks : Masks)
+    → AreMasks arrived at reached masks
+    → AreNumbered (sorted snap_key arrived.tables.snapshots) (sorted ingest_key arrived.tables.ingests)
+    → StayNumbered arrived.tables masks
+stay_numbered arrived at reached told masks are s = record {
   numbered = numbered_as _ _ _ _
-      (sym (ap (sorted snap_key) (kept_by (snapshot_stays reached) came.tables.snapshots masks.snapshots.items are.snapshots) ∙ sorted_filter snap_key (snapshot_stays reached) came.tables.snapshots))
-      (sym (ap (sorted ingest_key) (kept_by (ingest_stays reached) came.tables.ingests masks.ingests.items are.ingests) ∙ sorted_filter ingest_key (ingest_stays reached) came.tables.ingests))
-      (numbered_left (records_in_key_order came) at reached told s);
+      (sym (ap (sorted snap_key) (kept_by (snapshot_stays reached) arrived.tables.snapshots masks.snapshots.items are.snapshots) ∙ sorted_filter snap_key (snapshot_stays reached) arrived.tables.snapshots))
+      (sym (ap (sorted ingest_key) (kept_by (ingest_stays reached) arrived.tables.ingests masks.ingests.items are.ingests) ∙ sorted_filter ingest_key (ingest_stays reached) arrived.tables.ingests))
+      (numbered_left (records_in_key_order arrived) at reached told s);
 }

@@ -1,5 +1,5 @@
 -- Rows in the order of their keys: what a test keeps, names and owners don't
--- see in which order rows came.
+-- see in which order rows arrived.
 use Rattle.std.proofs.Common.{◌⊎◌, inl, inr, ◌≡◌, Bool, true, false, List, [], ◌∷◌, map, filter, length, refl, sym, ap, ◌∙◌, if◌then◌else◌}
 use Rattle.std.specs.Prelude.{◌||◌, ⊤}
 use Rattle.std.specs.List.{AllByRecursion, list_any}
@@ -39,14 +39,16 @@ module _ {Row : Type 0} (key_of : Row → Key) where
   Ascends [] = ⊤
   Ascends (row ∷ rows) = AllBehind row rows × Ascends rows
 
-  behind_added : (row x : Row) (rows : List Row) → is_before (key_of x) (key_of row) ≡ false → AllBehind row rows → AllBehind row (add_row key_of x rows)
+  behind_added : (row x : Row) (rows : List Row) → is_before (key_of x) (key_of row) ≡ false
+      → AllBehind row rows → AllBehind row (add_row key_of x rows)
   behind_added row x [] n all = (n, tt)
   behind_added row x (next ∷ rows) n all = elim (cases_Bool (is_before (key_of x) (key_of next))) [
     | inl t ↦ rw t (n, all)
     | inr f ↦ rw f (all.0, behind_added row x rows n all.1)
   ]
 
-  behind_all : (row next : Row) (rows : List Row) → is_before (key_of next) (key_of row) ≡ false → AllBehind next rows → AllBehind row rows
+  behind_all : (row next : Row) (rows : List Row) → is_before (key_of next) (key_of row) ≡ false
+      → AllBehind next rows → AllBehind row rows
   behind_all row next [] n all = tt
   behind_all row next (x ∷ rows) n all = (further (key_of x) (key_of next) (key_of row) all.0 n, behind_all row next rows n all.1)
 
@@ -65,7 +67,8 @@ module _ {Row : Type 0} (key_of : Row → Key) where
 
   module _ (stays : Row → Bool) where
     -- a row that stands before all goes to the front of those that are kept
-    added_first : (row next : Row) (rows : List Row) → is_before (key_of row) (key_of next) ≡ true → AllBehind next rows
+    added_first : (row next : Row) (rows : List Row) → is_before (key_of row) (key_of next) ≡ true
+        → AllBehind next rows
         → add_row key_of row (filter stays rows) ≡ row ∷ filter stays rows
     added_first row next [] first all = refl
     added_first row next (x ∷ rows) first all = go (stays x) (added_first row next rows first all.1)
@@ -100,12 +103,14 @@ module _ {Row : Type 0} (key_of : Row → Key) where
         behind f false rest = rest
         behind f true rest = ap (λ (l : List Row). next ∷ l) rest ∙ moved (stays row)
           where
-            moved : (b : Bool) → next ∷ (if b then add_row key_of row (filter stays rows) else filter stays rows) ≡ (if b then add_row key_of row (next ∷ filter stays rows) else next ∷ filter stays rows)
+            moved : (b : Bool)
+                → next ∷ (if b then add_row key_of row (filter stays rows) else filter stays rows) ≡ (if b then add_row key_of row (next ∷ filter stays rows) else next ∷ filter stays rows)
             moved true = rw f refl
             moved false = refl
 
     -- the kept ones of the sorted rows are the kept rows, sorted
-    pub sorted_filter : (rows : List Row) → sorted key_of (filter stays rows) ≡ filter stays (sorted key_of rows)
+    pub sorted_filter : (rows : List Row)
+        → sorted key_of (filter stays rows) ≡ filter stays (sorted key_of rows)
     sorted_filter [] = refl
     sorted_filter (row ∷ rows) = go (stays row) (sorted_filter rows) ∙ sym (filter_added row (sorted key_of rows) (sorted_ascends rows))
       where
@@ -115,12 +120,14 @@ module _ {Row : Type 0} (key_of : Row → Key) where
         go false rest = rest
 
     -- as many are kept
-    pub as_many : (rows : List Row) → length (filter stays rows) ≡ length (filter stays (sorted key_of rows))
+    pub as_many : (rows : List Row)
+        → length (filter stays rows) ≡ length (filter stays (sorted key_of rows))
     as_many rows = sym (length_sorted key_of (filter stays rows)) ∙ ap length (sorted_filter rows)
 
   -- ---- what some row passes
 
-  any_added : (passes : Row → Bool) (row : Row) (rows : List Row) → list_any passes (add_row key_of row rows) ≡ (passes row || list_any passes rows)
+  any_added : (passes : Row → Bool) (row : Row) (rows : List Row)
+      → list_any passes (add_row key_of row rows) ≡ (passes row || list_any passes rows)
   any_added passes row [] = refl
   any_added passes row (next ∷ rows) = elim (cases_Bool (is_before (key_of row) (key_of next))) [
     | inl t ↦ rw t refl
@@ -133,14 +140,16 @@ module _ {Row : Type 0} (key_of : Row → Key) where
       swapped false true c = refl
       swapped false false c = refl
 
-  pub any_sorted : (passes : Row → Bool) (rows : List Row) → list_any passes (sorted key_of rows) ≡ list_any passes rows
+  pub any_sorted : (passes : Row → Bool) (rows : List Row)
+      → list_any passes (sorted key_of rows) ≡ list_any passes rows
   any_sorted passes [] = refl
   any_sorted passes (row ∷ rows) = any_added passes row (sorted key_of rows) ∙ ap (λ b. passes row || b) (any_sorted passes rows)
 
 -- ---- names
 
 module _ {Row Name : Type 0} (name : Row → Name) (key_of : Name → Key) where
-  name_added : (row : Row) (rows : List Row) → add_row key_of (name row) (map name rows) ≡ map name (add_row (λ other. key_of (name other)) row rows)
+  name_added : (row : Row) (rows : List Row)
+      → add_row key_of (name row) (map name rows) ≡ map name (add_row (λ other. key_of (name other)) row rows)
   name_added row [] = refl
   name_added row (next ∷ rows) = elim (cases_Bool (is_before (key_of (name row)) (key_of (name next)))) [
     | inl t ↦ rw t refl
@@ -148,10 +157,12 @@ module _ {Row Name : Type 0} (name : Row → Name) (key_of : Name → Key) where
   ]
 
   -- names in order are the names of the rows in order
-  pub sorted_names : (rows : List Row) → sorted key_of (map name rows) ≡ map name (sorted (λ row. key_of (name row)) rows)
+  pub sorted_names : (rows : List Row)
+      → sorted key_of (map name rows) ≡ map name (sorted (λ row. key_of (name row)) rows)
   sorted_names [] = refl
   sorted_names (row ∷ rows) = ap (add_row key_of (name row)) (sorted_names rows) ∙ name_added row (sorted (λ other. key_of (name other)) rows)
 
   -- so are the names of those that a test keeps
-  pub names_kept : (stays : Row → Bool) (rows : List Row) → sorted key_of (map name (filter stays rows)) ≡ map name (filter stays (sorted (λ row. key_of (name row)) rows))
+  pub names_kept : (stays : Row → Bool) (rows : List Row)
+      → sorted key_of (map name (filter stays rows)) ≡ map name (filter stays (sorted (λ row. key_of (name row)) rows))
   names_kept stays rows = sorted_names (filter stays rows) ∙ ap (map name) (sorted_filter (λ row. key_of (name row)) stays rows)

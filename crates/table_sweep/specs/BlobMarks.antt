@@ -9,4 +9,4 @@ is_unnamed names digest = not (list_any (bytes_eq digest) names)
 
 -- each mark says of the blob at its place whether it stays: these names go
 abbrev pub AreBlobMarks : List Text → List Text → List Bool → Type 0
-AreBlobMarks names came marks = marks ≡ map (is_unnamed names) came
+AreBlobMarks names arrived marks = marks ≡ map (is_unnamed names) arrived

@@ -1,4 +1,4 @@
--- Records as they came, and in the order of their keys. Ours.
+-- Records as they arrived, and in the order of their keys. Ours.
 use Rattle.std.specs.Prelude.{[], ◌∷◌}
 use Rattle.std.specs.Ordering.{ordering_then}
 use Rattle.std.specs.declared.cmp.Ordering.{Ordering}

@@ -15,20 +15,20 @@ dry_report_of records namespaces back at reached =
     let report = report_of (record { records = records; backends = back }) at reached no_objects true in
     record report { kept = record report.kept { namespaces = namespaces } }
 
--- The plan is that of a collection of these rows as they came: some test tells where paths end. By
+-- The plan is that of a collection of these rows as they arrived: some test tells where paths end. By
 -- it the masks are in arrival order, and the report is of the rows in key order.
-pub record IsPlanOfRows (came : Records) (namespaces : ℕ) (back : BackLists) (at : ℤ) (plan : Plan) : Type 0 where
+pub record IsPlanOfRows (arrived : Records) (namespaces : ℕ) (back : BackLists) (at : ℤ) (plan : Plan) : Type 0 where
   pub reached : Thing → Bool
-  pub tells : TellsReached (records_in_key_order came) at reached
-  pub masks : AreMasks came at reached plan.masks
-  pub report_is : plan.report ≡ dry_report_of (records_in_key_order came) namespaces back at reached
+  pub tells : TellsReached (records_in_key_order arrived) at reached
+  pub masks : AreMasks arrived at reached plan.masks
+  pub report_is : plan.report ≡ dry_report_of (records_in_key_order arrived) namespaces back at reached
 
 -- The plan is that of a collection of these records: some test tells where paths end, and the plan
 -- is by it. Its masks are of the rows in some arrival order.
 pub record IsPlanOf (records : Records) (namespaces : ℕ) (back : BackLists) (at : ℤ) (plan : Plan) : Type 0 where
   pub reached : Thing → Bool
   pub tells : TellsReached records at reached
-  pub came : Records
-  pub in_order : records_in_key_order came ≡ records
-  pub masks : AreMasks came at reached plan.masks
+  pub arrived : Records
+  pub in_order : records_in_key_order arrived ≡ records
+  pub masks : AreMasks arrived at reached plan.masks
   pub report_is : plan.report ≡ dry_report_of records namespaces back at reached

@@ -10,7 +10,7 @@ ghost use Rattle.table_sweep.specs.BlobMarks.{AreBlobMarks};
 ghost use Rattle.table_sweep.specs.Masks.{gone};
 ghost use Rattle.table_sweep.specs.Owned.{owns_blob};
 
-use crate::sorting::first_bytes;
+use crate::masks::count_gone;
 use meta_types::{ContentRow, Digest, Fault};
 use row_tables::RowTable;
 use std::alloc::Global;
@@ -110,13 +110,13 @@ fn push_blob(digest: &Digest, is_owned: bool, gone: &mut Vec<Digest>) -> Result<
     Ok(())
 }
 
-// The blobs whose mark is unset, as they came.
+// The blobs whose mark is unset, as they arrived.
 fn unowned(alloc: Global, blobs: &[Digest], owned: &[bool]) -> Result<Vec<Digest>, Fault>
     requires { length owned.now ≡ length blobs.now }
     ensures fault { Refuses result None }
     ensures ok { IfOk result (λ gone_ones. gone_ones.items ≡ gone owned.now blobs.now) }
 {
-    let mut gone = Vec::new(alloc);
+    let mut gone = Vec::with_capacity(alloc, count_gone(owned))?;
     for (i, digest) in blobs.iter().enumerate() {
         push_blob(digest, owned[i], &mut gone)?;
     }
@@ -134,8 +134,7 @@ fn digests_in_order(digests: Vec<Digest>) -> Result<Vec<Digest>, Fault>
     ensures ok { IfOk result (λ list. list.items ≡ sorted one_text digests.items) }
 {
     let mut digests = digests;
-    digests.sort_by_cached_key(|digest| first_bytes(digest))?;
-    digests.sort_by(|a, b| compare(a, b))?;
+    digests.sort_unstable_by(|a, b| compare(a, b));
     Ok(digests)
 }
 

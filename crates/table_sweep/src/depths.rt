@@ -13,7 +13,7 @@ use std::cmp::Ordering;
 /// A backend snapshot: its snapshotter, its number, and the number of its parent.
 pub type BackSnap = (ShortName, u64, Option<u64>);
 
-// A snapshot that goes, by what orders it. Its depth is the number of its ancestors.
+// The sort key of a removed snapshot. Its depth is the number of its ancestors.
 #[derive(Drop)]
 pub(crate) struct Key {
     pub(crate) snapshotter: ShortName,
@@ -97,7 +97,7 @@ pub(crate) fn in_order(keys: Vec<Key>) -> Result<Vec<Key>, Fault>
     ensures ok { IfOk result (λ v. v.items ≡ in_order is_first keys.items) }
 {
     let mut keys = keys;
-    keys.sort_by(|a, b| compare(a, b))?;
+    keys.sort_unstable_by(|a, b| compare(a, b));
     Ok(keys)
 }
 
@@ -106,7 +106,7 @@ pub(crate) fn names_of(alloc: Global, keys: &[Key]) -> Result<Vec<(ShortName, u6
     ensures fault { Refuses result None }
     ensures ok { IfOk result (λ names. names.items ≡ map key_name keys.now) }
 {
-    let mut names = Vec::new(alloc);
+    let mut names = Vec::with_capacity(alloc, keys.len())?;
     for key in keys {
         names.push((key.snapshotter.copy()?, key.number))?;
     }

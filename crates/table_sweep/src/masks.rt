@@ -24,6 +24,16 @@ pub struct Masks {
     pub(crate) snapshots: Vec<bool>,
 }
 
+// How many rows stay.
+pub(crate) fn count_left(mask: &[bool]) -> usize {
+    mask.iter().filter(|stays| **stays).count()
+}
+
+// How many rows go.
+pub(crate) fn count_gone(mask: &[bool]) -> usize {
+    mask.iter().filter(|stays| !**stays).count()
+}
+
 pub(crate) fn is_marked(marks: &Marks, number: u32) -> bool
     ensures { result ≡ is_marked marks.now number }
 {

@@ -6,7 +6,7 @@ ghost use Rattle.table_sweep.specs.Masks.{gone};
 ghost use Rattle.table_sweep.specs.Stays.{FitRows, gone_names};
 ghost use Rattle.table_sweep.specs.InKeyOrder.{names_in_key_order};
 
-use crate::masks::Masks;
+use crate::masks::{Masks, count_gone};
 use crate::sorting::{digests_in_order, names_in_order, snapshots_in_order};
 use gc_graph::StoreRows;
 use gc_report::Removed;
@@ -35,7 +35,7 @@ fn image_names(
     ensures ok { IfOk result (λ names. names.items
         ≡ map (λ row. (row.now.ns, row.now.name)) (gone mask.now rows.now)) }
 {
-    let mut names = Vec::new(alloc);
+    let mut names = Vec::with_capacity(alloc, count_gone(mask))?;
     for (i, row) in rows.iter().enumerate() {
         push_image(row, mask[i], &mut names)?;
     }
@@ -63,7 +63,7 @@ fn lease_names(
     ensures ok { IfOk result (λ names. names.items
         ≡ map (λ row. (row.now.ns, row.now.id)) (gone mask.now rows.now)) }
 {
-    let mut names = Vec::new(alloc);
+    let mut names = Vec::with_capacity(alloc, count_gone(mask))?;
     for (i, row) in rows.iter().enumerate() {
         push_lease(row, mask[i], &mut names)?;
     }
@@ -95,7 +95,7 @@ fn ingest_names(
     ensures ok { IfOk result (λ names. names.items
         ≡ map (λ row. (row.now.ns, row.now.name)) (gone mask.now rows.now)) }
 {
-    let mut names = Vec::new(alloc);
+    let mut names = Vec::with_capacity(alloc, count_gone(mask))?;
     for (i, row) in rows.iter().enumerate() {
         push_ingest(row, mask[i], &mut names)?;
     }
@@ -127,7 +127,7 @@ fn content_names(
     ensures ok { IfOk result (λ names. names.items
         ≡ map (λ row. (row.now.ns, row.now.digest)) (gone mask.now rows.now)) }
 {
-    let mut names = Vec::new(alloc);
+    let mut names = Vec::with_capacity(alloc, count_gone(mask))?;
     for (i, row) in rows.iter().enumerate() {
         push_content(row, mask[i], &mut names)?;
     }
@@ -161,7 +161,7 @@ fn snapshot_names(
         ≡ map (λ row. (row.now.key.ns, row.now.key.snapshotter, row.now.key.name))
         (gone mask.now rows.now)) }
 {
-    let mut names = Vec::new(alloc);
+    let mut names = Vec::with_capacity(alloc, count_gone(mask))?;
     for (i, row) in rows.iter().enumerate() {
         push_snapshot(row, mask[i], &mut names)?;
     }

@@ -8,6 +8,7 @@ ghost use Rattle.object_tables.specs.Calls.{kept};
 ghost use Rattle.table_sweep.specs.Owned.{object_of, object_cmp, name_of, begun_goes, snap_goes};
 
 use crate::depths::BackSnap;
+use crate::masks::count_left;
 use meta_types::{Fault, IngestRow, SnapRow};
 use std::alloc::Global;
 use std::cmp::Ordering;
@@ -23,13 +24,13 @@ fn push_number(row: &IngestRow, stays: bool, numbers: &mut Vec<u64>) -> Result<(
     Ok(())
 }
 
-// The numbers of the ingests that stay, as these came.
+// The numbers of the ingests that stay, as these arrived.
 fn numbers_of(alloc: Global, rows: &[&IngestRow], mask: &[bool]) -> Result<Vec<u64>, Fault>
     requires { length mask.now ≡ length rows.now }
     ensures fault { Refuses result None }
     ensures ok { IfOk result (λ v. v.items ≡ map (λ row. row.now.number) (kept mask.now rows.now)) }
 {
-    let mut numbers = Vec::new(alloc);
+    let mut numbers = Vec::with_capacity(alloc, count_left(mask))?;
     for (i, row) in rows.iter().enumerate() {
         push_number(row, mask[i], &mut numbers)?;
     }
@@ -72,7 +73,7 @@ fn push_owner<'a>(row: &'a SnapRow, stays: bool, owners: &mut Vec<&'a SnapRow>) 
     Ok(())
 }
 
-// The rows that stay, as they came.
+// The rows that stay, as they arrived.
 fn owners_of<'a>(
     alloc: Global,
     rows: &[&'a SnapRow],
@@ -83,7 +84,7 @@ fn owners_of<'a>(
     ensures ok { IfOk result (λ v. map (λ owner. owner.now) v.items
         ≡ map (λ row. row.now) (kept mask.now rows.now)) }
 {
-    let mut owners = Vec::new(alloc);
+    let mut owners = Vec::with_capacity(alloc, count_left(mask))?;
     for (i, row) in rows.iter().enumerate() {
         push_owner(row, mask[i], &mut owners)?;
     }
@@ -115,7 +116,7 @@ pub(crate) fn snapshot_owners<'a>(
         (λ a b. object_cmp (object_of a.now) (object_of b.now)) v.items) }
 {
     let mut owners = owners_of(alloc, rows, mask)?;
-    owners.sort_by(|a, b| compare(a, b))?;
+    owners.sort_unstable_by(|a, b| compare(a, b));
     Ok(owners)
 }
 

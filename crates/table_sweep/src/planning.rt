@@ -22,7 +22,7 @@ use mark_core::Marks;
 use meta_types::{Fault, Instant};
 use std::alloc::Global;
 
-/// Which rows stay, by their places as they came; which blobs stay, by their places as they were
+/// Which rows stay, by their places as they arrived; which blobs stay, by their places as they were
 /// lent; and the report of a dry run.
 #[derive(Drop)]
 pub struct Plan {

@@ -1,6 +1,5 @@
 //! Names in key order: only those of removed and of ignored rows are sorted.
 ghost use Rattle.std.specs.Prelude.{◌≡◌, None, IfOk};
-ghost use Rattle.std.specs.List.Sorted.{IsPermutation};
 ghost use Rattle.meta_types.specs.Faults.{Refuses};
 ghost use Rattle.row_tables.specs.Arrived.{sorted};
 ghost use Rattle.table_sweep.specs.InKeyOrder.{name_key, name_cmp, snapshot_name_key, snapshot_name_cmp};
@@ -20,36 +19,7 @@ pub(crate) fn names_in_order(names: Vec<(ShortName, Name)>) -> Result<Vec<(Short
     ensures ok { IfOk result (λ list. list.items ≡ sorted name_key names.items) }
 {
     let mut names = names;
-    names.sort_by(|a, b| compare_names(a, b))?;
-    Ok(names)
-}
-
-// The first eight bytes of a digest, as a number.
-pub(crate) fn first_bytes(digest: &Digest) -> u64 {
-    let bytes = digest.bytes();
-    if bytes.len() < 8 {
-        return 0;
-    }
-    u64::from_be_bytes([
-        bytes[0], bytes[1], bytes[2], bytes[3], bytes[4], bytes[5], bytes[6], bytes[7],
-    ])
-}
-
-fn compare_namespaces(a: &(ShortName, Digest), b: &(ShortName, Digest)) -> Ordering {
-    a.0.cmp(&b.0)
-}
-
-// By namespace and first bytes, the latter as numbers beside places: few digests are compared.
-// Names of equal first bytes, or of two algorithms, may still stand in any order.
-fn digests_nearly_in_order(
-    names: Vec<(ShortName, Digest)>,
-) -> Result<Vec<(ShortName, Digest)>, Fault>
-    ensures fault { Refuses result None }
-    ensures ok { IfOk result (λ list. IsPermutation names.items list.items) }
-{
-    let mut names = names;
-    names.sort_by_cached_key(|name| first_bytes(&name.1))?;
-    names.sort_by(|a, b| compare_namespaces(a, b))?;
+    names.sort_unstable_by(|a, b| compare_names(a, b));
     Ok(names)
 }
 
@@ -59,17 +29,16 @@ fn compare_digests(a: &(ShortName, Digest), b: &(ShortName, Digest)) -> Ordering
     a.0.cmp(&b.0).then(a.1.cmp(&b.1))
 }
 
-// Names of content, by namespace and digest. The last sort compares each with the next, and moves
-// those that the first ones left.
+// Names of content, by namespace and digest.
 pub(crate) fn digests_in_order(
     names: Vec<(ShortName, Digest)>,
 ) -> Result<Vec<(ShortName, Digest)>, Fault>
     ensures fault { Refuses result None }
     ensures ok { IfOk result (λ list. list.items ≡ sorted name_key names.items) }
 {
-    let mut nearly = digests_nearly_in_order(names)?;
-    nearly.sort_by(|a, b| compare_digests(a, b))?;
-    Ok(nearly)
+    let mut names = names;
+    names.sort_unstable_by(|a, b| compare_digests(a, b));
+    Ok(names)
 }
 
 fn compare_snapshots(a: &(ShortName, ShortName, Name), b: &(ShortName, ShortName, Name)) -> Ordering
@@ -86,6 +55,6 @@ pub(crate) fn snapshots_in_order(
     ensures ok { IfOk result (λ list. list.items ≡ sorted snapshot_name_key names.items) }
 {
     let mut names = names;
-    names.sort_by(|a, b| compare_snapshots(a, b))?;
+    names.sort_unstable_by(|a, b| compare_snapshots(a, b));
     Ok(names)
 }

@@ -1,4 +1,4 @@
-//! The rows of a store, listed as they came.
+//! The rows of a store, listed as they arrived.
 ghost use Rattle.std.specs.Prelude.{◌≡◌, None, IfOk};
 ghost use Rattle.meta_types.specs.Faults.{Refuses};
 ghost use Rattle.gc_graph.specs.Built.{AreApart};
@@ -57,25 +57,25 @@ impl<'a> Model for ListedRows<'a> {
 }
 
 impl<'a> ListedRows<'a> {
-    /// Lists rows as they came; none is sorted. The profile is 2 where images expire, else 1.
+    /// Lists rows as they arrived; none is sorted. The profile is 2 where images expire, else 1.
     pub fn new(
         alloc: Global,
-        came: &ArrivedRows<'a>,
+        arrived: &ArrivedRows<'a>,
         leases: &'a ArrivedByNamespace<Name, Lease>,
         profile: u8,
     ) -> Result<ListedRows<'a>, Fault>
         ensures fault { Refuses result None }
-        ensures ok { IfOk result (λ listed. listed ≡ lent_in came.now leases.now profile) }
+        ensures ok { IfOk result (λ listed. listed ≡ lent_in arrived.now leases.now profile) }
     {
-        let images = came.images.list_came(alloc)?;
-        let containers = came.containers.list_came(alloc)?;
-        let held = leases.list_came(alloc)?;
-        let ingests = came.ingests.list_came(alloc)?;
-        let content = came.content.list_came(alloc)?;
-        let snapshots = came.snapshots.list_came(alloc)?;
-        let ingest_places = came.ingests.places(alloc)?;
-        let content_places = came.content.places(alloc)?;
-        let snapshot_places = came.snapshots.places(alloc)?;
+        let images = arrived.images.list_arrived(alloc)?;
+        let containers = arrived.containers.list_arrived(alloc)?;
+        let held = leases.list_arrived(alloc)?;
+        let ingests = arrived.ingests.list_arrived(alloc)?;
+        let content = arrived.content.list_arrived(alloc)?;
+        let snapshots = arrived.snapshots.list_arrived(alloc)?;
+        let ingest_places = arrived.ingests.places(alloc)?;
+        let content_places = arrived.content.places(alloc)?;
+        let snapshot_places = arrived.snapshots.places(alloc)?;
         Ok(ListedRows {
             images,
             containers,

@@ -1,52 +1,56 @@
 -- What requests on images do. A call in brackets is of containerd's image store. Ours, unless a
 -- source stands beside.
-use Rattle.std.specs.Prelude.{not, ◌||◌, List, [], ◌∷◌, None, is_none}
+use Rattle.std.specs.Prelude.{not, ◌||◌, [], ◌∷◌, None, is_none}
 use Rattle.meta_types.specs.Text.{Text, is_short_name, is_name, is_digest}
 use Rattle.meta_types.specs.Keys.{row_at, has_row, add_row, remove_row, change_row}
 use Rattle.meta_types.specs.Labels.{labels_of, are_labels, put_label}
 use Rattle.meta_types.specs.Rows.{State, image_key}
 use Rattle.meta_types.specs.Changes.{with_images, all_of}
 use Rattle.meta_types.specs.Ops.{Outcome, done, labelled, row_reply, names_in, lacks}
+use Rattle.meta_types.specs.declared.raw.RawLabel.{RawLabel}
+use Rattle.meta_types.specs.declared.request.RawName.{RawName}
+use Rattle.meta_types.specs.declared.request.ImageAdd.{ImageAdd}
+use Rattle.meta_types.specs.declared.request.ImageTarget.{ImageTarget}
 use Rattle.meta_types.specs.declared.reply.ReplyRow.TheVariants as W
 use Rattle.meta_types.specs.declared.reply.Reply.TheVariants as R
 
 -- adds an image; its target needn't be stored (Create)
-abbrev pub adds_image : State → Text → Text → Text → List (Text × Text) → Outcome
-adds_image state ns name target labels =
+abbrev pub adds_image : State → ImageAdd → Outcome
+adds_image state asked =
     let rows = state.records.tables.images in
     record (done state) {
-      invalid = not (all_of (is_short_name ns ∷ is_name name ∷ is_digest target ∷ are_labels labels ∷ []));
-      missing = lacks state ns None;
-      there = has_row image_key (ns ∷ name ∷ []) rows;
-      after = with_images state (add_row image_key (record { ns = ns; name = name; target = target; labels = labels_of labels }) rows);
+      invalid = not (all_of (is_short_name asked.image.ns ∷ is_name asked.image.name ∷ is_digest asked.target ∷ are_labels asked.labels ∷ []));
+      missing = lacks state asked.image.ns None;
+      there = has_row image_key (asked.image.ns ∷ asked.image.name ∷ []) rows;
+      after = with_images state (add_row image_key (record { ns = asked.image.ns; name = asked.image.name; target = asked.target; labels = labels_of asked.labels }) rows);
     }
 
 -- sets an image's target, and keeps its labels (Update)
-abbrev pub targets_image : State → Text → Text → Text → Outcome
-targets_image state ns name target =
+abbrev pub targets_image : State → ImageTarget → Outcome
+targets_image state asked =
     let rows = state.records.tables.images in
     record (done state) {
-      invalid = not (all_of (is_short_name ns ∷ is_name name ∷ is_digest target ∷ []));
-      missing = not (has_row image_key (ns ∷ name ∷ []) rows);
-      after = with_images state (change_row image_key (ns ∷ name ∷ []) (λ row. record row { target = target }) rows);
+      invalid = not (all_of (is_short_name asked.image.ns ∷ is_name asked.image.name ∷ is_digest asked.target ∷ []));
+      missing = not (has_row image_key (asked.image.ns ∷ asked.image.name ∷ []) rows);
+      after = with_images state (change_row image_key (asked.image.ns ∷ asked.image.name ∷ []) (λ row. record row { target = asked.target }) rows);
     }
 
 -- removes an image's row (Delete)
-abbrev pub removes_image : State → Text → Text → Outcome
-removes_image state ns name =
+abbrev pub removes_image : State → RawName → Outcome
+removes_image state image =
     let rows = state.records.tables.images in
     record (done state) {
-      invalid = not (all_of (is_short_name ns ∷ is_name name ∷ []));
-      missing = not (has_row image_key (ns ∷ name ∷ []) rows);
-      after = with_images state (remove_row image_key (ns ∷ name ∷ []) rows);
+      invalid = not (all_of (is_short_name image.ns ∷ is_name image.name ∷ []));
+      missing = not (has_row image_key (image.ns ∷ image.name ∷ []) rows);
+      after = with_images state (remove_row image_key (image.ns ∷ image.name ∷ []) rows);
     }
 
 -- shows an image (Get)
-abbrev pub gets_image : State → Text → Text → Outcome
-gets_image state ns name =
-    let found = row_at image_key (ns ∷ name ∷ []) state.records.tables.images in
+abbrev pub gets_image : State → RawName → Outcome
+gets_image state image =
+    let found = row_at image_key (image.ns ∷ image.name ∷ []) state.records.tables.images in
     record (done state) {
-      invalid = not (all_of (is_short_name ns ∷ is_name name ∷ []));
+      invalid = not (all_of (is_short_name image.ns ∷ is_name image.name ∷ []));
       missing = is_none found;
       reply = row_reply W.Image found;
     }
@@ -61,12 +65,12 @@ lists_images state ns =
     }
 
 -- puts one label on an image (Update)
-abbrev pub labels_image : State → Text → Text → Text → Text → Outcome
-labels_image state ns name key value =
+abbrev pub labels_image : State → RawName → RawLabel → Outcome
+labels_image state image label =
     let rows = state.records.tables.images in
-    let found = row_at image_key (ns ∷ name ∷ []) rows in
+    let found = row_at image_key (image.ns ∷ image.name ∷ []) rows in
     record (done state) {
-      invalid = not (all_of (is_short_name ns ∷ is_name name ∷ [])) || not (all_of (labelled (λ row. row.labels) key value found));
+      invalid = not (all_of (is_short_name image.ns ∷ is_name image.name ∷ [])) || not (all_of (labelled (λ row. row.labels) label.key label.value found));
       missing = is_none found;
-      after = with_images state (change_row image_key (ns ∷ name ∷ []) (λ row. record row { labels = put_label key value row.labels }) rows);
+      after = with_images state (change_row image_key (image.ns ∷ image.name ∷ []) (λ row. record row { labels = put_label label.key label.value row.labels }) rows);
     }

@@ -1,5 +1,5 @@
 -- What requests on ingests do. Ours, unless a source stands beside.
-use Rattle.std.specs.Prelude.{false, not, List, [], ◌∷◌, Option, None, if◌then◌else◌, bytes_eq, is_some, is_none, option_map, pos, ◌+ℤ◌}
+use Rattle.std.specs.Prelude.{false, not, [], ◌∷◌, Option, None, if◌then◌else◌, bytes_eq, is_some, is_none, option_map, pos, ◌+ℤ◌}
 use Rattle.std.specs.Option.{option_map_or}
 use Rattle.meta_types.specs.Text.{Text, is_short_name, is_name, is_digest}
 use Rattle.meta_types.specs.Time.{instant_of}
@@ -11,6 +11,9 @@ use Rattle.meta_types.specs.Changes.{with_content, with_ingests, with_blob, with
 use Rattle.meta_types.specs.Ops.{Outcome, Findings, in_store, done, row_reply, names_in, lacks}
 use Rattle.meta_types.specs.declared.instant.Instant.{Instant}
 use Rattle.meta_types.specs.declared.resource.Resource.TheVariants.{Content, Ingest}
+use Rattle.meta_types.specs.declared.request.RawName.{RawName}
+use Rattle.meta_types.specs.declared.request.IngestBegin.{IngestBegin}
+use Rattle.meta_types.specs.declared.request.IngestCommit.{IngestCommit}
 use Rattle.meta_types.specs.declared.reply.ReplyRow.TheVariants as W
 use Rattle.meta_types.specs.declared.reply.Reply.TheVariants as R
 
@@ -24,15 +27,15 @@ abbrev pub own_end : Option Text → Text → Option Instant
 own_end lease at = if is_some lease then None else end_of at
 
 -- begins an ingest under the next backend number (containerd content-flow.md)
-abbrev pub begins_ingest : State → Text → Text → Text → Option Text → Option Text → Outcome
-begins_ingest state ns name at expected lease =
+abbrev pub begins_ingest : State → IngestBegin → Outcome
+begins_ingest state asked =
     let rows = state.records.tables.ingests in
     record (done state) {
-      invalid = not (all_of (is_short_name ns ∷ is_name name ∷ is_some (instant_of at) ∷ is_allowed_if is_digest expected ∷ is_allowed_if is_name lease ∷ []));
-      missing = lacks state ns lease;
-      there = has_row ingest_key (ns ∷ name ∷ []) rows;
+      invalid = not (all_of (is_short_name asked.ingest.ns ∷ is_name asked.ingest.name ∷ is_some (instant_of asked.at) ∷ is_allowed_if is_digest asked.expected ∷ is_allowed_if is_name asked.lease ∷ []));
+      missing = lacks state asked.ingest.ns asked.lease;
+      there = has_row ingest_key (asked.ingest.ns ∷ asked.ingest.name ∷ []) rows;
       forbidden = is_out_of_numbers state;
-      after = holding ns lease (Ingest name) (with_ingest_object (with_ingests state (add_row ingest_key (record { ns = ns; name = name; expected = expected; expires = own_end lease at; number = state.records.next }) rows)));
+      after = holding asked.ingest.ns asked.lease (Ingest asked.ingest.name) (with_ingest_object (with_ingests state (add_row ingest_key (record { ns = asked.ingest.ns; name = asked.ingest.name; expected = asked.expected; expires = own_end asked.lease asked.at; number = state.records.next }) rows)));
     }
 
 -- what a commit of an ingest finds: the ingest, content of the digest in its namespace, and which
@@ -48,35 +51,35 @@ ingest_commit_findings state ns name digest lease =
 
 -- commits an ingest as content, which isn't there yet and is the one expected; its backend object
 -- goes at a later collection (containerd content-flow.md)
-abbrev pub commits_ingest : State → Text → Text → Text → List (Text × Text) → Option Text → Outcome
-commits_ingest state ns name digest labels lease =
+abbrev pub commits_ingest : State → IngestCommit → Outcome
+commits_ingest state asked =
     let rows = state.records.tables.ingests in
     let content = state.records.tables.content in
-    let found = ingest_commit_findings state ns name digest lease in
+    let found = ingest_commit_findings state asked.ingest.ns asked.ingest.name asked.digest asked.lease in
     record (done state) {
-      invalid = not (all_of (is_short_name ns ∷ is_name name ∷ is_digest digest ∷ are_labels labels ∷ is_allowed_if is_name lease ∷ []));
+      invalid = not (all_of (is_short_name asked.ingest.ns ∷ is_name asked.ingest.name ∷ is_digest asked.digest ∷ are_labels asked.labels ∷ is_allowed_if is_name asked.lease ∷ []));
       missing = found.missing;
       there = found.there;
       forbidden = found.forbidden;
-      after = holding ns lease (Content digest) (with_blob digest (with_content (with_ingests state (remove_row ingest_key (ns ∷ name ∷ []) rows)) (add_row content_key (record { ns = ns; digest = digest; labels = labels_of labels }) content)));
+      after = holding asked.ingest.ns asked.lease (Content asked.digest) (with_blob asked.digest (with_content (with_ingests state (remove_row ingest_key (asked.ingest.ns ∷ asked.ingest.name ∷ []) rows)) (add_row content_key (record { ns = asked.ingest.ns; digest = asked.digest; labels = labels_of asked.labels }) content)));
     }
 
 -- aborts an ingest; its backend object goes at a later collection (containerd content-flow.md)
-abbrev pub aborts_ingest : State → Text → Text → Outcome
-aborts_ingest state ns name =
+abbrev pub aborts_ingest : State → RawName → Outcome
+aborts_ingest state ingest =
     let rows = state.records.tables.ingests in
     record (done state) {
-      invalid = not (all_of (is_short_name ns ∷ is_name name ∷ []));
-      missing = not (has_row ingest_key (ns ∷ name ∷ []) rows);
-      after = with_ingests state (remove_row ingest_key (ns ∷ name ∷ []) rows);
+      invalid = not (all_of (is_short_name ingest.ns ∷ is_name ingest.name ∷ []));
+      missing = not (has_row ingest_key (ingest.ns ∷ ingest.name ∷ []) rows);
+      after = with_ingests state (remove_row ingest_key (ingest.ns ∷ ingest.name ∷ []) rows);
     }
 
 -- shows an ingest (containerd content store, Status)
-abbrev pub gets_ingest : State → Text → Text → Outcome
-gets_ingest state ns name =
-    let found = row_at ingest_key (ns ∷ name ∷ []) state.records.tables.ingests in
+abbrev pub gets_ingest : State → RawName → Outcome
+gets_ingest state ingest =
+    let found = row_at ingest_key (ingest.ns ∷ ingest.name ∷ []) state.records.tables.ingests in
     record (done state) {
-      invalid = not (all_of (is_short_name ns ∷ is_name name ∷ []));
+      invalid = not (all_of (is_short_name ingest.ns ∷ is_name ingest.name ∷ []));
       missing = is_none found;
       reply = row_reply W.Ingest found;
     }

@@ -1,6 +1,6 @@
 -- What requests on leases do. A call in brackets is of containerd's leases service. Ours, unless a
 -- source stands beside.
-use Rattle.std.specs.Prelude.{false, not, ◌||◌, List, [], ◌∷◌, None, is_some, is_none}
+use Rattle.std.specs.Prelude.{false, not, ◌||◌, [], ◌∷◌, None, is_some, is_none}
 use Rattle.std.specs.Option.{option_map_or}
 use Rattle.meta_types.specs.Text.{Text, is_short_name, is_name}
 use Rattle.meta_types.specs.Keys.{row_at, has_row, add_row, remove_row, change_row}
@@ -9,49 +9,53 @@ use Rattle.meta_types.specs.Resources.{resource_of}
 use Rattle.meta_types.specs.Rows.{State, lease_key}
 use Rattle.meta_types.specs.Changes.{with_leases, lease_holds, hold_in_lease, release_in_lease, all_of}
 use Rattle.meta_types.specs.Ops.{Outcome, done, labelled, row_reply, names_in, lacks}
+use Rattle.meta_types.specs.declared.raw.RawLabel.{RawLabel}
+use Rattle.meta_types.specs.declared.request.RawName.{RawName}
+use Rattle.meta_types.specs.declared.request.LeaseAdd.{LeaseAdd}
+use Rattle.meta_types.specs.declared.request.LeaseResource.{LeaseResource}
 use Rattle.meta_types.specs.declared.reply.ReplyRow.TheVariants as W
 use Rattle.meta_types.specs.declared.reply.Reply.TheVariants as R
 
 -- adds a lease that holds nothing yet (Create)
-abbrev pub adds_lease : State → Text → Text → List (Text × Text) → Outcome
-adds_lease state ns id labels =
+abbrev pub adds_lease : State → LeaseAdd → Outcome
+adds_lease state asked =
     let rows = state.records.leases in
     record (done state) {
-      invalid = not (all_of (is_short_name ns ∷ is_name id ∷ are_labels labels ∷ []));
-      missing = lacks state ns None;
-      there = has_row lease_key (ns ∷ id ∷ []) rows;
-      after = with_leases state (add_row lease_key (record { ns = ns; id = id; labels = labels_of labels; resources = [] }) rows);
+      invalid = not (all_of (is_short_name asked.lease.ns ∷ is_name asked.lease.name ∷ are_labels asked.labels ∷ []));
+      missing = lacks state asked.lease.ns None;
+      there = has_row lease_key (asked.lease.ns ∷ asked.lease.name ∷ []) rows;
+      after = with_leases state (add_row lease_key (record { ns = asked.lease.ns; id = asked.lease.name; labels = labels_of asked.labels; resources = [] }) rows);
     }
 
 -- removes a lease with what it holds (Delete)
-abbrev pub removes_lease : State → Text → Text → Outcome
-removes_lease state ns id =
+abbrev pub removes_lease : State → RawName → Outcome
+removes_lease state lease =
     let rows = state.records.leases in
     record (done state) {
-      invalid = not (all_of (is_short_name ns ∷ is_name id ∷ []));
-      missing = not (has_row lease_key (ns ∷ id ∷ []) rows);
-      after = with_leases state (remove_row lease_key (ns ∷ id ∷ []) rows);
+      invalid = not (all_of (is_short_name lease.ns ∷ is_name lease.name ∷ []));
+      missing = not (has_row lease_key (lease.ns ∷ lease.name ∷ []) rows);
+      after = with_leases state (remove_row lease_key (lease.ns ∷ lease.name ∷ []) rows);
     }
 
 -- shows a lease (containerd leases service), expired or not
-abbrev pub gets_lease : State → Text → Text → Outcome
-gets_lease state ns id =
-    let found = row_at lease_key (ns ∷ id ∷ []) state.records.leases in
+abbrev pub gets_lease : State → RawName → Outcome
+gets_lease state lease =
+    let found = row_at lease_key (lease.ns ∷ lease.name ∷ []) state.records.leases in
     record (done state) {
-      invalid = not (all_of (is_short_name ns ∷ is_name id ∷ []));
+      invalid = not (all_of (is_short_name lease.ns ∷ is_name lease.name ∷ []));
       missing = is_none found;
       reply = row_reply (λ row. W.Lease row.id row.labels) found;
     }
 
 -- puts one label on a lease
-abbrev pub labels_lease : State → Text → Text → Text → Text → Outcome
-labels_lease state ns id key value =
+abbrev pub labels_lease : State → RawName → RawLabel → Outcome
+labels_lease state lease label =
     let rows = state.records.leases in
-    let found = row_at lease_key (ns ∷ id ∷ []) rows in
+    let found = row_at lease_key (lease.ns ∷ lease.name ∷ []) rows in
     record (done state) {
-      invalid = not (all_of (is_short_name ns ∷ is_name id ∷ [])) || not (all_of (labelled (λ row. row.labels) key value found));
+      invalid = not (all_of (is_short_name lease.ns ∷ is_name lease.name ∷ [])) || not (all_of (labelled (λ row. row.labels) label.key label.value found));
       missing = is_none found;
-      after = with_leases state (change_row lease_key (ns ∷ id ∷ []) (λ row. record row { labels = put_label key value row.labels }) rows);
+      after = with_leases state (change_row lease_key (lease.ns ∷ lease.name ∷ []) (λ row. record row { labels = put_label label.key label.value row.labels }) rows);
     }
 
 -- the ids of a namespace's leases (List)
@@ -64,31 +68,31 @@ lists_leases state ns =
     }
 
 -- gives a lease a resource, which needn't be there; held already, nothing changes (AddResource)
-abbrev pub holds_resource : State → Text → Text → Text → Text → Outcome
-holds_resource state ns id kind text =
+abbrev pub holds_resource : State → LeaseResource → Outcome
+holds_resource state asked =
     let rows = state.records.leases in
     record (done state) {
-      invalid = not (all_of (is_short_name ns ∷ is_name id ∷ is_some (resource_of kind text) ∷ []));
-      missing = not (has_row lease_key (ns ∷ id ∷ []) rows);
-      after = with_leases state (option_map_or (λ resource. hold_in_lease (ns ∷ id ∷ []) resource rows) (resource_of kind text) rows);
+      invalid = not (all_of (is_short_name asked.lease.ns ∷ is_name asked.lease.name ∷ is_some (resource_of asked.kind asked.resource) ∷ []));
+      missing = not (has_row lease_key (asked.lease.ns ∷ asked.lease.name ∷ []) rows);
+      after = with_leases state (option_map_or (λ resource. hold_in_lease (asked.lease.ns ∷ asked.lease.name ∷ []) resource rows) (resource_of asked.kind asked.resource) rows);
     }
 
 -- takes a resource from a lease that holds it (DeleteResource)
-abbrev pub releases_resource : State → Text → Text → Text → Text → Outcome
-releases_resource state ns id kind text =
+abbrev pub releases_resource : State → LeaseResource → Outcome
+releases_resource state asked =
     let rows = state.records.leases in
     record (done state) {
-      invalid = not (all_of (is_short_name ns ∷ is_name id ∷ is_some (resource_of kind text) ∷ []));
-      missing = not (option_map_or (λ resource. lease_holds (ns ∷ id ∷ []) resource rows) (resource_of kind text) false);
-      after = with_leases state (option_map_or (λ resource. release_in_lease (ns ∷ id ∷ []) resource rows) (resource_of kind text) rows);
+      invalid = not (all_of (is_short_name asked.lease.ns ∷ is_name asked.lease.name ∷ is_some (resource_of asked.kind asked.resource) ∷ []));
+      missing = not (option_map_or (λ resource. lease_holds (asked.lease.ns ∷ asked.lease.name ∷ []) resource rows) (resource_of asked.kind asked.resource) false);
+      after = with_leases state (option_map_or (λ resource. release_in_lease (asked.lease.ns ∷ asked.lease.name ∷ []) resource rows) (resource_of asked.kind asked.resource) rows);
     }
 
 -- what a lease holds, by types and ids (ListResources)
-abbrev pub lists_resources : State → Text → Text → Outcome
-lists_resources state ns id =
-    let found = row_at lease_key (ns ∷ id ∷ []) state.records.leases in
+abbrev pub lists_resources : State → RawName → Outcome
+lists_resources state lease =
+    let found = row_at lease_key (lease.ns ∷ lease.name ∷ []) state.records.leases in
     record (done state) {
-      invalid = not (all_of (is_short_name ns ∷ is_name id ∷ []));
+      invalid = not (all_of (is_short_name lease.ns ∷ is_name lease.name ∷ []));
       missing = is_none found;
       reply = option_map_or (λ row. R.Resources row.resources) found R.Done;
     }

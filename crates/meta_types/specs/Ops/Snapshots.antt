@@ -14,6 +14,10 @@ use Rattle.meta_types.specs.declared.rows.SnapRow.{SnapRow}
 use Rattle.meta_types.specs.declared.rows.SnapKind.{SnapKind}
 use Rattle.meta_types.specs.declared.rows.SnapKind.TheVariants.{Active, View, Committed}
 use Rattle.meta_types.specs.declared.resource.Resource.TheVariants.{Snapshot}
+use Rattle.meta_types.specs.declared.raw.RawLabel.{RawLabel}
+use Rattle.meta_types.specs.declared.request.RawSnapshot.{RawSnapshot}
+use Rattle.meta_types.specs.declared.request.SnapAdd.{SnapAdd}
+use Rattle.meta_types.specs.declared.request.SnapCommit.{SnapCommit}
 use Rattle.meta_types.specs.declared.reply.ReplyRow.TheVariants as W
 use Rattle.meta_types.specs.declared.reply.Reply.TheVariants as R
 
@@ -52,18 +56,18 @@ prepare_findings state ns snapshotter key parent lease =
 
 -- makes a snapshot over a committed parent or none, under the next
 -- backend number (Prepare and View)
-abbrev pub prepares : State → SnapKind → Text → Text → Text → Option Text → List (Text × Text) → Option Text → Outcome
-prepares state kind ns snapshotter key parent labels lease =
+abbrev pub prepares : State → SnapKind → SnapAdd → Outcome
+prepares state kind asked =
     let rows = state.records.tables.snapshots in
-    let above = parent_row rows ns snapshotter parent in
-    let new : SnapRow = record { key = record { ns = ns; snapshotter = snapshotter; name = key }; kind = kind; parent = parent; number = state.records.next; labels = labels_of labels } in
-    let found = prepare_findings state ns snapshotter key parent lease in
+    let above = parent_row rows asked.snapshot.ns asked.snapshot.snapshotter asked.parent in
+    let new : SnapRow = record { key = record { ns = asked.snapshot.ns; snapshotter = asked.snapshot.snapshotter; name = asked.snapshot.name }; kind = kind; parent = asked.parent; number = state.records.next; labels = labels_of asked.labels } in
+    let found = prepare_findings state asked.snapshot.ns asked.snapshot.snapshotter asked.snapshot.name asked.parent asked.lease in
     record (done state) {
-      invalid = not (all_of (is_short_name ns ∷ is_short_name snapshotter ∷ is_name key ∷ is_allowed_if is_name parent ∷ are_labels labels ∷ is_allowed_if is_name lease ∷ []));
+      invalid = not (all_of (is_short_name asked.snapshot.ns ∷ is_short_name asked.snapshot.snapshotter ∷ is_name asked.snapshot.name ∷ is_allowed_if is_name asked.parent ∷ are_labels asked.labels ∷ is_allowed_if is_name asked.lease ∷ []));
       missing = found.missing;
       there = found.there;
       forbidden = found.forbidden;
-      after = holding ns lease (Snapshot snapshotter key) (with_snapshot_object snapshotter (option_map (λ row. row.number) above) (with_snapshots state (add_row snap_key new rows)));
+      after = holding asked.snapshot.ns asked.lease (Snapshot asked.snapshot.snapshotter asked.snapshot.name) (with_snapshot_object asked.snapshot.snapshotter (option_map (λ row. row.number) above) (with_snapshots state (add_row snap_key new rows)));
     }
 
 -- the rows with a key's row committed under a name, with its parent and number and with these
@@ -85,16 +89,16 @@ commit_findings ns snapshotter key name rows =
     }
 
 -- commits an active snapshot under a name that no snapshot has, itself included (Commit)
-abbrev pub commits_snapshot : State → Text → Text → Text → Text → List (Text × Text) → Option Text → Outcome
-commits_snapshot state ns snapshotter key name labels lease =
+abbrev pub commits_snapshot : State → SnapCommit → Outcome
+commits_snapshot state asked =
     let rows = state.records.tables.snapshots in
-    let found = in_store state ns lease (commit_findings ns snapshotter key name rows) in
+    let found = in_store state asked.snapshot.ns asked.lease (commit_findings asked.snapshot.ns asked.snapshot.snapshotter asked.snapshot.name asked.name rows) in
     record (done state) {
-      invalid = not (all_of (is_short_name ns ∷ is_short_name snapshotter ∷ is_name key ∷ is_name name ∷ are_labels labels ∷ is_allowed_if is_name lease ∷ []));
+      invalid = not (all_of (is_short_name asked.snapshot.ns ∷ is_short_name asked.snapshot.snapshotter ∷ is_name asked.snapshot.name ∷ is_name asked.name ∷ are_labels asked.labels ∷ is_allowed_if is_name asked.lease ∷ []));
       missing = found.missing;
       there = found.there;
       forbidden = found.forbidden;
-      after = holding ns lease (Snapshot snapshotter name) (with_snapshots state (committed ns snapshotter key name (labels_of labels) rows));
+      after = holding asked.snapshot.ns asked.lease (Snapshot asked.snapshot.snapshotter asked.name) (with_snapshots state (committed asked.snapshot.ns asked.snapshot.snapshotter asked.snapshot.name asked.name (labels_of asked.labels) rows));
     }
 
 -- the snapshot's parent has this name, in this namespace and snapshotter
@@ -103,35 +107,37 @@ abbrev pub is_child_of : Text → Text → Text → SnapRow → Bool
 is_child_of ns snapshotter key row = bytes_eq ns row.key.ns && bytes_eq snapshotter row.key.snapshotter && option_map_or (bytes_eq key) row.parent false
 
 -- removes a snapshot that is no parent; its backend object goes at a later collection (Remove)
-abbrev pub removes_snapshot : State → Text → Text → Text → Outcome
-removes_snapshot state ns snapshotter key =
+abbrev pub removes_snapshot : State → RawSnapshot → Outcome
+removes_snapshot state snapshot =
     let rows = state.records.tables.snapshots in
     record (done state) {
-      invalid = not (all_of (is_short_name ns ∷ is_short_name snapshotter ∷ is_name key ∷ []));
-      missing = not (has_row snap_key (ns ∷ snapshotter ∷ key ∷ []) rows);
-      forbidden = list_any (is_child_of ns snapshotter key) rows;
-      after = with_snapshots state (remove_row snap_key (ns ∷ snapshotter ∷ key ∷ []) rows);
+      invalid = not (all_of (is_short_name snapshot.ns ∷ is_short_name snapshot.snapshotter ∷ is_name snapshot.name ∷ []));
+      missing = not (has_row snap_key (snapshot.ns ∷ snapshot.snapshotter ∷ snapshot.name ∷ []) rows);
+      forbidden = list_any (is_child_of snapshot.ns snapshot.snapshotter snapshot.name) rows;
+      after = with_snapshots state
+          (remove_row snap_key (snapshot.ns ∷ snapshot.snapshotter ∷ snapshot.name ∷ []) rows);
     }
 
 -- shows a snapshot (Stat)
-abbrev pub gets_snapshot : State → Text → Text → Text → Outcome
-gets_snapshot state ns snapshotter key =
-    let found = row_at snap_key (ns ∷ snapshotter ∷ key ∷ []) state.records.tables.snapshots in
+abbrev pub gets_snapshot : State → RawSnapshot → Outcome
+gets_snapshot state snapshot =
+    let found =
+    row_at snap_key (snapshot.ns ∷ snapshot.snapshotter ∷ snapshot.name ∷ []) state.records.tables.snapshots in
     record (done state) {
-      invalid = not (all_of (is_short_name ns ∷ is_short_name snapshotter ∷ is_name key ∷ []));
+      invalid = not (all_of (is_short_name snapshot.ns ∷ is_short_name snapshot.snapshotter ∷ is_name snapshot.name ∷ []));
       missing = is_none found;
       reply = row_reply W.Snap found;
     }
 
 -- puts one label on a snapshot (Update)
-abbrev pub labels_snapshot : State → Text → Text → Text → Text → Text → Outcome
-labels_snapshot state ns snapshotter name key value =
+abbrev pub labels_snapshot : State → RawSnapshot → RawLabel → Outcome
+labels_snapshot state snapshot label =
     let rows = state.records.tables.snapshots in
-    let found = row_at snap_key (ns ∷ snapshotter ∷ name ∷ []) rows in
+    let found = row_at snap_key (snapshot.ns ∷ snapshot.snapshotter ∷ snapshot.name ∷ []) rows in
     record (done state) {
-      invalid = not (all_of (is_short_name ns ∷ is_short_name snapshotter ∷ is_name name ∷ [])) || not (all_of (labelled (λ row. row.labels) key value found));
+      invalid = not (all_of (is_short_name snapshot.ns ∷ is_short_name snapshot.snapshotter ∷ is_name snapshot.name ∷ [])) || not (all_of (labelled (λ row. row.labels) label.key label.value found));
       missing = is_none found;
-      after = with_snapshots state (change_row snap_key (ns ∷ snapshotter ∷ name ∷ []) (λ row. record row { labels = put_label key value row.labels }) rows);
+      after = with_snapshots state (change_row snap_key (snapshot.ns ∷ snapshot.snapshotter ∷ snapshot.name ∷ []) (λ row. record row { labels = put_label label.key label.value row.labels }) rows);
     }
 
 -- the names of a snapshotter's snapshots in a namespace (List)

@@ -1,22 +1,22 @@
 -- Whole scripts with images, content and leases: the report of a collection, and the store that it
 -- leaves. Ours, unless a source stands beside.
-use Rattle.std.specs.Prelude.{List, [], ◌∷◌, ◌++◌, codes, Some}
+use Rattle.std.specs.Prelude.{List, [], ◌∷◌, ◌++◌, codes}
 use Rattle.meta_types.specs.Text.{Text}
 use Rattle.meta_types.specs.Rows.{State, empty_store}
 use Rattle.meta_types.specs.Backends.{no_objects}
 use Rattle.meta_types.specs.Reports.{Collects}
 use Rattle.meta_types.specs.Steps.{after}
-use Rattle.meta_types.specs.Worked.{after_all, a, b, c, x, i, l, first_of_march, first_of_march_text, just_after, adds, content_label, one_namespace, nothing_removed, plain_report}
+use Rattle.meta_types.specs.Worked.{after_all, a, b, c, x, i, l, first_of_march, first_of_march_text, just_after, named, adds_image, adds, adds_held, adds_lease, holds, content_label, one_namespace, nothing_removed, plain_report}
 use Rattle.meta_types.specs.declared.request.Request.{Request}
-use Rattle.meta_types.specs.declared.request.Request.TheVariants.{NsAdd, ImageAdd, ImageRemove, ContentAdd, LeaseAdd, LeaseHold}
+use Rattle.meta_types.specs.declared.request.Request.TheVariants.{NsAdd, ImageRemove}
 
 -- content that an image leads to, and other content
 abbrev pub with_image : State
-with_image = after_all empty_store (NsAdd x ∷ adds b [] ∷ adds a (content_label b) ∷ adds c [] ∷ ImageAdd x i a [] ∷ [])
+with_image = after_all empty_store (NsAdd x ∷ adds b [] ∷ adds a (content_label b) ∷ adds c [] ∷ adds_image a [] ∷ [])
 
 -- the same without the other content
 abbrev pub image_alone : State
-image_alone = after_all empty_store (NsAdd x ∷ adds b [] ∷ adds a (content_label b) ∷ ImageAdd x i a [] ∷ [])
+image_alone = after_all empty_store (NsAdd x ∷ adds b [] ∷ adds a (content_label b) ∷ adds_image a [] ∷ [])
 
 -- content that an image leads to stays; other content goes, as if it had never been added
 abbrev pub AnImageKeepsItsContent : Type 0
@@ -42,7 +42,7 @@ ACycleGoes = Collects cycle_alone first_of_march no_objects
 
 -- the cycle under an image
 abbrev pub cycle_under_image : State
-cycle_under_image = after_all empty_store (NsAdd x ∷ cycle ++ (ImageAdd x i b [] ∷ []))
+cycle_under_image = after_all empty_store (NsAdd x ∷ cycle ++ (adds_image b [] ∷ []))
 
 -- and stays where an image leads into it
 abbrev pub ACycleUnderAnImageStays : Type 0
@@ -55,7 +55,7 @@ flat_label = (codes "containerd.io/gc.flat", codes "t") ∷ []
 
 -- content that an image holds in full and a lease holds flat
 abbrev pub held_in_both_modes : State
-held_in_both_modes = after_all empty_store (NsAdd x ∷ adds b [] ∷ adds a (content_label b) ∷ LeaseAdd x l flat_label ∷ LeaseHold x l (codes "content") a ∷ ImageAdd x i a [] ∷ [])
+held_in_both_modes = after_all empty_store (NsAdd x ∷ adds b [] ∷ adds a (content_label b) ∷ adds_lease flat_label ∷ holds (codes "content") a ∷ adds_image a [] ∷ [])
 
 -- is scanned in both modes, and its labels are followed
 abbrev pub BothModesAreScanned : Type 0
@@ -64,11 +64,11 @@ BothModesAreScanned = Collects held_in_both_modes first_of_march no_objects
 
 -- the same after the image was removed
 abbrev pub image_removed : State
-image_removed = after held_in_both_modes (ImageRemove x i)
+image_removed = after held_in_both_modes (ImageRemove (named i))
 
 -- content that a flat lease holds, alone
 abbrev pub held_flat : State
-held_flat = after_all empty_store (NsAdd x ∷ adds a (content_label b) ∷ LeaseAdd x l flat_label ∷ LeaseHold x l (codes "content") a ∷ [])
+held_flat = after_all empty_store (NsAdd x ∷ adds a (content_label b) ∷ adds_lease flat_label ∷ holds (codes "content") a ∷ [])
 
 -- once the image has gone, the flat lease keeps the content and not what its labels name
 abbrev pub AFlatLeaseFollowsNoLabels : Type 0
@@ -77,7 +77,7 @@ AFlatLeaseFollowsNoLabels = Collects image_removed first_of_march no_objects
 
 -- a lease that ends on the first of March, with content
 abbrev pub leased : State
-leased = after_all empty_store (NsAdd x ∷ LeaseAdd x l ((codes "containerd.io/gc.expire", first_of_march_text) ∷ []) ∷ ContentAdd x a [] (Some l) ∷ [])
+leased = after_all empty_store (NsAdd x ∷ adds_lease ((codes "containerd.io/gc.expire", first_of_march_text) ∷ []) ∷ adds_held a ∷ [])
 
 -- at that very moment it still holds
 abbrev pub ALeaseHoldsAtItsExpiry : Type 0

@@ -1,16 +1,16 @@
 -- Whole scripts: images that expire, and a removal with a collection. Ours,
 -- unless a source stands beside.
-use Rattle.std.specs.Prelude.{◌≡◌, [], ◌∷◌, codes, Some}
+use Rattle.std.specs.Prelude.{◌≡◌, [], ◌∷◌, codes}
 use Rattle.meta_types.specs.Rows.{State, empty_store}
 use Rattle.meta_types.specs.Backends.{no_objects}
 use Rattle.meta_types.specs.Reports.{Collects}
 use Rattle.meta_types.specs.Requests.{removal_outcome}
 use Rattle.meta_types.specs.Histories.{Step}
 use Rattle.meta_types.specs.Steps.{refused, reported, answered, answer_to, remove_collect}
-use Rattle.meta_types.specs.Worked.{after_all, a, x, i, l, first_of_march, first_of_march_text, just_after, adds, one_namespace, nothing_removed, report_with, plain_report}
+use Rattle.meta_types.specs.Worked.{after_all, a, x, i, l, first_of_march, first_of_march_text, just_after, named, adds_image, adds, adds_held, adds_lease, one_namespace, nothing_removed, report_with, plain_report}
 use Rattle.meta_types.specs.declared.fault.Fault.TheVariants.{NotFound}
 use Rattle.meta_types.specs.declared.reply.Reply.TheVariants.{Names}
-use Rattle.meta_types.specs.declared.request.Request.TheVariants.{NsAdd, ImageAdd, ContentAdd, LeaseAdd, LeaseList, Profile}
+use Rattle.meta_types.specs.declared.request.Request.TheVariants.{NsAdd, LeaseList, Profile}
 use Rattle.meta_types.specs.declared.request.Removal.TheVariants as Removing
 
 -- a store in which images expire
@@ -23,7 +23,7 @@ AnEmptyStoreIsCollected = Collects expiring first_of_march no_objects (report_wi
 
 -- an image that ends on the first of March, with its content
 abbrev pub image_to_expire : State
-image_to_expire = after_all expiring (NsAdd x ∷ adds a [] ∷ ImageAdd x i a ((codes "containerd.io/gc.expire", first_of_march_text) ∷ []) ∷ [])
+image_to_expire = after_all expiring (NsAdd x ∷ adds a [] ∷ adds_image a ((codes "containerd.io/gc.expire", first_of_march_text) ∷ []) ∷ [])
 
 -- at that very moment it still holds
 abbrev pub AnImageHoldsAtItsExpiry : Type 0
@@ -41,11 +41,11 @@ AnExpiredImageGoes = Collects image_to_expire just_after no_objects
 
 -- content that a lease holds
 abbrev pub under_lease : State
-under_lease = after_all empty_store (NsAdd x ∷ LeaseAdd x l [] ∷ ContentAdd x a [] (Some l) ∷ [])
+under_lease = after_all empty_store (NsAdd x ∷ adds_lease [] ∷ adds_held a ∷ [])
 
 -- the store without the lease's row
 abbrev pub without_lease_row : State
-without_lease_row = (removal_outcome under_lease (Removing.Lease x l)).after
+without_lease_row = (removal_outcome under_lease (Removing.Lease (named l))).after
 
 -- what is left of it
 abbrev pub without_lease : State
@@ -55,7 +55,7 @@ without_lease = after_all empty_store (NsAdd x ∷ [])
 -- reported, and a second one finds none
 abbrev pub ALeaseGoesWithACollection : Type 0
 ALeaseGoesWithACollection =
-    Step under_lease (remove_collect (Removing.Lease x l) first_of_march 1) no_objects
+    Step under_lease (remove_collect (Removing.Lease (named l)) first_of_march 1) no_objects
     (reported (plain_report (record no_objects { blobs = a ∷ [] }) one_namespace (record nothing_removed { content = (x, a) ∷ [] }) 0)) without_lease
-    × Step without_lease (remove_collect (Removing.Lease x l) first_of_march 1) no_objects (refused NotFound) without_lease
+    × Step without_lease (remove_collect (Removing.Lease (named l)) first_of_march 1) no_objects (refused NotFound) without_lease
     × (answer_to without_lease (LeaseList x) ≡ answered (Names []))

@@ -9,14 +9,14 @@ use Rattle.meta_types.specs.declared.rows.SnapKind.TheVariants.{Active, Committe
 use Rattle.meta_types.specs.declared.resource.Resource.TheVariants.{Snapshot}
 use Rattle.meta_types.specs.Backends.{no_objects}
 use Rattle.meta_types.specs.Reports.{Collects}
-use Rattle.meta_types.specs.Worked.{after_all, a, b, c, d, x, i, l, overlayfs, native, first_of_march, first_of_march_text, adds, content_label, chain, one_namespace, nothing_removed, plain_report}
+use Rattle.meta_types.specs.Worked.{after_all, a, b, c, d, x, l, overlayfs, native, first_of_march, first_of_march_text, named, adds_image, adds, adds_lease, holds, content_label, prepares, chain, one_namespace, nothing_removed, plain_report}
 use Rattle.meta_types.specs.declared.request.Request.{Request}
-use Rattle.meta_types.specs.declared.request.Request.TheVariants.{NsAdd, ImageAdd, ContainerAdd, IngestBegin, SnapPrepare, LeaseAdd, LeaseHold}
+use Rattle.meta_types.specs.declared.request.Request.TheVariants.{NsAdd, ContainerAdd, IngestBegin}
 use Rattle.meta_types.specs.Worked.Images.{flat_label, namespace_alone}
 
 -- four snapshots, one over the other, the last with a label
 abbrev pub chain_held : List Request
-chain_held = chain overlayfs (content_label b) ++ (LeaseAdd x l flat_label ∷ LeaseHold x l (codes "snapshots/overlayfs") (codes "t") ∷ [])
+chain_held = chain overlayfs (content_label b) ++ (adds_lease flat_label ∷ holds (codes "snapshots/overlayfs") (codes "t") ∷ [])
 
 -- the chain, and content that its label names
 abbrev pub chain_and_content : State
@@ -75,7 +75,7 @@ ChildrenGoBeforeParents = Collects two_chains first_of_march no_objects
 
 -- content that an ingest expects
 abbrev pub ingesting : State
-ingesting = after_all empty_store (NsAdd x ∷ adds b [] ∷ IngestBegin x (codes "r") first_of_march_text (Some b) None ∷ [])
+ingesting = after_all empty_store (NsAdd x ∷ adds b [] ∷ IngestBegin (record { ingest = named (codes "r"); at = first_of_march_text; expected = Some b; lease = None }) ∷ [])
 
 -- an ingest holds itself for a day, the end included
 abbrev pub AnIngestHoldsForADay : Type 0
@@ -93,7 +93,7 @@ keys_of_all_forms = (codes "containerd.io/gc.ref.contents", b) ∷ (codes "conta
 
 -- content with these labels, a snapshot, and an image
 abbrev pub many_keys : List Request
-many_keys = adds a keys_of_all_forms ∷ adds c [] ∷ SnapPrepare x overlayfs (codes "t") None [] None ∷ ImageAdd x i a [] ∷ []
+many_keys = adds a keys_of_all_forms ∷ adds c [] ∷ prepares overlayfs (codes "t") None [] ∷ adds_image a [] ∷ []
 
 -- the same, and content that no reference names
 abbrev pub many_keys_and_content : State
@@ -110,8 +110,8 @@ OnlyReferenceKeysReference = Collects many_keys_and_content first_of_march no_ob
 
 -- a container on a snapshot, and content with a root label
 abbrev pub rooted : State
-rooted = after_all empty_store (NsAdd x ∷ SnapPrepare x overlayfs (codes "t") None [] None ∷ SnapPrepare x native (codes "n") None [] None
-    ∷ adds a ((codes "containerd.io/gc.root", codes "now") ∷ (codes "containerd.io/gc.ref.snapshot.overlayfs", codes "t") ∷ []) ∷ ContainerAdd x (codes "c") (Some native) (Some (codes "n")) [] ∷ [])
+rooted = after_all empty_store (NsAdd x ∷ prepares overlayfs (codes "t") None [] ∷ prepares native (codes "n") None []
+    ∷ adds a ((codes "containerd.io/gc.root", codes "now") ∷ (codes "containerd.io/gc.ref.snapshot.overlayfs", codes "t") ∷ []) ∷ ContainerAdd (record { container = named (codes "c"); snapshotter = Some native; key = Some (codes "n"); labels = [] }) ∷ [])
 
 -- a container's snapshot, and content with a root label and the snapshot that it names, stay
 abbrev pub ContainersAndRootLabelsHold : Type 0

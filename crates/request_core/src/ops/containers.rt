@@ -9,19 +9,18 @@ use crate::read::rows::read_container;
 use crate::refusal::Refusal;
 use crate::state::State;
 use back_model::{BlobBackend, IngestBackend, SnapBackend};
-use meta_types::{Fault, RawLabels, RawText, Reply, ReplyRow};
+use meta_types::{ContainerAdd, Fault, RawLabel, RawName, Reply, ReplyRow};
 use std::alloc::Global;
 
 impl<S: SnapBackend, B: BlobBackend, I: IngestBackend> State<S, B, I> {
     pub(crate) fn container_remove(
         &mut self,
         alloc: Global,
-        ns: &RawText,
-        name: &RawText,
+        container: &RawName,
     ) -> Result<Reply, Refusal>
-        ensures { AnswersExactly self.old (R.ContainerRemove ns.now name.now) result self.new }
+        ensures { AnswersExactly self.old (R.ContainerRemove container.now) result self.new }
     {
-        let (ns, name) = read_object(alloc, ns, name)?;
+        let (ns, name) = read_object(alloc, container)?;
         self.records.tables.remove_container(&ns, &name)?;
         Ok(Reply::Done)
     }
@@ -29,12 +28,11 @@ impl<S: SnapBackend, B: BlobBackend, I: IngestBackend> State<S, B, I> {
     pub(crate) fn container_get(
         &mut self,
         alloc: Global,
-        ns: &RawText,
-        name: &RawText,
+        container: &RawName,
     ) -> Result<Reply, Refusal>
-        ensures { AnswersExactly self.old (R.ContainerGet ns.now name.now) result self.new }
+        ensures { AnswersExactly self.old (R.ContainerGet container.now) result self.new }
     {
-        let (ns, name) = read_object(alloc, ns, name)?;
+        let (ns, name) = read_object(alloc, container)?;
         match self.records.tables.get_container(&ns, &name) {
             Some(row) => Ok(Reply::Row(ReplyRow::Container(row.copy(alloc)?))),
             None => Err(Refusal::By(Fault::NotFound)),
@@ -44,34 +42,26 @@ impl<S: SnapBackend, B: BlobBackend, I: IngestBackend> State<S, B, I> {
     pub(crate) fn container_label(
         &mut self,
         alloc: Global,
-        ns: &RawText,
-        name: &RawText,
-        key: &RawText,
-        value: &RawText,
+        container: &RawName,
+        label: &RawLabel,
     ) -> Result<Reply, Refusal>
-        ensures { AnswersExactly self.old (R.ContainerLabel ns.now name.now key.now value.now)
-            result self.new }
+        ensures { AnswersExactly self.old (R.ContainerLabel container.now label.now) result self.new }
     {
-        let (ns, name) = read_object(alloc, ns, name)?;
+        let (ns, name) = read_object(alloc, container)?;
         self.records
             .tables
-            .relabel_container(alloc, &ns, &name, key.text(), value.text())?;
+            .relabel_container(alloc, &ns, &name, label.key.text(), label.value.text())?;
         Ok(Reply::Done)
     }
 
     pub(crate) fn container_add(
         &mut self,
         alloc: Global,
-        ns: &RawText,
-        name: &RawText,
-        snapshotter: &Option<RawText>,
-        key: &Option<RawText>,
-        labels: &RawLabels,
+        asked: &ContainerAdd,
     ) -> Result<Reply, Refusal>
-        ensures { AnswersExactly self.old
-            (R.ContainerAdd ns.now name.now snapshotter.now key.now labels.now) result self.new }
+        ensures { AnswersExactly self.old (R.ContainerAdd asked.now) result self.new }
     {
-        let row = read_container(alloc, ns, name, snapshotter, key, labels)?;
+        let row = read_container(alloc, asked)?;
         self.records.tables.add_container(alloc, row)?;
         Ok(Reply::Done)
     }

@@ -10,22 +10,18 @@ use crate::read::rows::read_new_content;
 use crate::refusal::Refusal;
 use crate::state::State;
 use back_model::{BlobBackend, IngestBackend, SnapBackend};
-use meta_types::{Fault, RawLabels, RawText, Reply, ReplyRow};
+use meta_types::{ContentAdd, Fault, RawContent, RawLabel, Reply, ReplyRow};
 use std::alloc::Global;
 
 impl<S: SnapBackend, B: BlobBackend, I: IngestBackend> State<S, B, I> {
     pub(crate) fn content_add(
         &mut self,
         alloc: Global,
-        ns: &RawText,
-        digest: &RawText,
-        labels: &RawLabels,
-        lease: &Option<RawText>,
+        asked: &ContentAdd,
     ) -> Result<Reply, Refusal>
-        ensures { AnswersExactly self.old (R.ContentAdd ns.now digest.now labels.now lease.now)
-            result self.new }
+        ensures { AnswersExactly self.old (R.ContentAdd asked.now) result self.new }
     {
-        let (ns, digest, labels, lease) = read_new_content(alloc, ns, digest, labels, lease)?;
+        let (ns, digest, labels, lease) = read_new_content(alloc, asked)?;
         if self.lacks(&ns, &lease) {
             return Err(Refusal::By(Fault::NotFound));
         }
@@ -44,12 +40,11 @@ impl<S: SnapBackend, B: BlobBackend, I: IngestBackend> State<S, B, I> {
     pub(crate) fn content_remove(
         &mut self,
         alloc: Global,
-        ns: &RawText,
-        digest: &RawText,
+        content: &RawContent,
     ) -> Result<Reply, Refusal>
-        ensures { AnswersExactly self.old (R.ContentRemove ns.now digest.now) result self.new }
+        ensures { AnswersExactly self.old (R.ContentRemove content.now) result self.new }
     {
-        let (ns, digest) = read_content(alloc, ns, digest)?;
+        let (ns, digest) = read_content(alloc, content)?;
         self.records.tables.remove_content(&ns, &digest)?;
         Ok(Reply::Done)
     }
@@ -57,12 +52,11 @@ impl<S: SnapBackend, B: BlobBackend, I: IngestBackend> State<S, B, I> {
     pub(crate) fn content_get(
         &mut self,
         alloc: Global,
-        ns: &RawText,
-        digest: &RawText,
+        content: &RawContent,
     ) -> Result<Reply, Refusal>
-        ensures { AnswersExactly self.old (R.ContentGet ns.now digest.now) result self.new }
+        ensures { AnswersExactly self.old (R.ContentGet content.now) result self.new }
     {
-        let (ns, digest) = read_content(alloc, ns, digest)?;
+        let (ns, digest) = read_content(alloc, content)?;
         match self.records.tables.get_content(&ns, &digest) {
             Some(row) => Ok(Reply::Row(ReplyRow::Content(row.copy(alloc)?))),
             None => Err(Refusal::By(Fault::NotFound)),
@@ -72,18 +66,15 @@ impl<S: SnapBackend, B: BlobBackend, I: IngestBackend> State<S, B, I> {
     pub(crate) fn content_label(
         &mut self,
         alloc: Global,
-        ns: &RawText,
-        digest: &RawText,
-        key: &RawText,
-        value: &RawText,
+        content: &RawContent,
+        label: &RawLabel,
     ) -> Result<Reply, Refusal>
-        ensures { AnswersExactly self.old (R.ContentLabel ns.now digest.now key.now value.now)
-            result self.new }
+        ensures { AnswersExactly self.old (R.ContentLabel content.now label.now) result self.new }
     {
-        let (ns, digest) = read_content(alloc, ns, digest)?;
+        let (ns, digest) = read_content(alloc, content)?;
         self.records
             .tables
-            .relabel_content(alloc, &ns, &digest, key.text(), value.text())?;
+            .relabel_content(alloc, &ns, &digest, label.key.text(), label.value.text())?;
         Ok(Reply::Done)
     }
 }

@@ -9,22 +9,14 @@ use crate::read::rows::{read_image, read_target};
 use crate::refusal::Refusal;
 use crate::state::State;
 use back_model::{BlobBackend, IngestBackend, SnapBackend};
-use meta_types::{Fault, RawLabels, RawText, Reply, ReplyRow};
+use meta_types::{Fault, ImageAdd, ImageTarget, RawLabel, RawName, Reply, ReplyRow};
 use std::alloc::Global;
 
 impl<S: SnapBackend, B: BlobBackend, I: IngestBackend> State<S, B, I> {
-    pub(crate) fn image_add(
-        &mut self,
-        alloc: Global,
-        ns: &RawText,
-        name: &RawText,
-        target: &RawText,
-        labels: &RawLabels,
-    ) -> Result<Reply, Refusal>
-        ensures { AnswersExactly self.old (R.ImageAdd ns.now name.now target.now labels.now)
-            result self.new }
+    pub(crate) fn image_add(&mut self, alloc: Global, asked: &ImageAdd) -> Result<Reply, Refusal>
+        ensures { AnswersExactly self.old (R.ImageAdd asked.now) result self.new }
     {
-        let row = read_image(alloc, ns, name, target, labels)?;
+        let row = read_image(alloc, asked)?;
         self.records.tables.add_image(alloc, row)?;
         Ok(Reply::Done)
     }
@@ -32,40 +24,27 @@ impl<S: SnapBackend, B: BlobBackend, I: IngestBackend> State<S, B, I> {
     pub(crate) fn image_target(
         &mut self,
         alloc: Global,
-        ns: &RawText,
-        name: &RawText,
-        target: &RawText,
+        asked: &ImageTarget,
     ) -> Result<Reply, Refusal>
-        ensures { AnswersExactly self.old (R.ImageTarget ns.now name.now target.now)
-            result self.new }
+        ensures { AnswersExactly self.old (R.ImageTarget asked.now) result self.new }
     {
-        let (ns, name, target) = read_target(alloc, ns, name, target)?;
+        let (ns, name, target) = read_target(alloc, asked)?;
         self.records.tables.set_target(&ns, &name, target)?;
         Ok(Reply::Done)
     }
 
-    pub(crate) fn image_remove(
-        &mut self,
-        alloc: Global,
-        ns: &RawText,
-        name: &RawText,
-    ) -> Result<Reply, Refusal>
-        ensures { AnswersExactly self.old (R.ImageRemove ns.now name.now) result self.new }
+    pub(crate) fn image_remove(&mut self, alloc: Global, image: &RawName) -> Result<Reply, Refusal>
+        ensures { AnswersExactly self.old (R.ImageRemove image.now) result self.new }
     {
-        let (ns, name) = read_object(alloc, ns, name)?;
+        let (ns, name) = read_object(alloc, image)?;
         self.records.tables.remove_image(&ns, &name)?;
         Ok(Reply::Done)
     }
 
-    pub(crate) fn image_get(
-        &mut self,
-        alloc: Global,
-        ns: &RawText,
-        name: &RawText,
-    ) -> Result<Reply, Refusal>
-        ensures { AnswersExactly self.old (R.ImageGet ns.now name.now) result self.new }
+    pub(crate) fn image_get(&mut self, alloc: Global, image: &RawName) -> Result<Reply, Refusal>
+        ensures { AnswersExactly self.old (R.ImageGet image.now) result self.new }
     {
-        let (ns, name) = read_object(alloc, ns, name)?;
+        let (ns, name) = read_object(alloc, image)?;
         match self.records.tables.get_image(&ns, &name) {
             Some(row) => Ok(Reply::Row(ReplyRow::Image(row.copy(alloc)?))),
             None => Err(Refusal::By(Fault::NotFound)),
@@ -75,18 +54,15 @@ impl<S: SnapBackend, B: BlobBackend, I: IngestBackend> State<S, B, I> {
     pub(crate) fn image_label(
         &mut self,
         alloc: Global,
-        ns: &RawText,
-        name: &RawText,
-        key: &RawText,
-        value: &RawText,
+        image: &RawName,
+        label: &RawLabel,
     ) -> Result<Reply, Refusal>
-        ensures { AnswersExactly self.old (R.ImageLabel ns.now name.now key.now value.now)
-            result self.new }
+        ensures { AnswersExactly self.old (R.ImageLabel image.now label.now) result self.new }
     {
-        let (ns, name) = read_object(alloc, ns, name)?;
+        let (ns, name) = read_object(alloc, image)?;
         self.records
             .tables
-            .relabel_image(alloc, &ns, &name, key.text(), value.text())?;
+            .relabel_image(alloc, &ns, &name, label.key.text(), label.value.text())?;
         Ok(Reply::Done)
     }
 }

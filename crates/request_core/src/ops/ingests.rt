@@ -22,7 +22,8 @@ use crate::refusal::Refusal;
 use crate::state::State;
 use back_model::{BlobBackend, IngestBackend, SnapBackend};
 use meta_types::{
-    Digest, Fault, IngestRow, MAX_NUMBER, Name, RawLabels, RawText, Reply, ReplyRow, ShortName,
+    Digest, Fault, IngestBegin, IngestCommit, IngestRow, MAX_NUMBER, Name, RawName, Reply,
+    ReplyRow, ShortName,
 };
 use std::alloc::Global;
 
@@ -63,19 +64,12 @@ impl<S: SnapBackend, B: BlobBackend, I: IngestBackend> State<S, B, I> {
     pub(crate) fn ingest_begin(
         &mut self,
         alloc: Global,
-        ns: &RawText,
-        name: &RawText,
-        at: &RawText,
-        expected: &Option<RawText>,
-        lease: &Option<RawText>,
+        asked: &IngestBegin,
     ) -> Result<Reply, Refusal>
         requires { IsSound self.old.state }
-        ensures { AnswersExactly self.old
-            (R.IngestBegin ns.now name.now at.now expected.now lease.now) result self.new }
+        ensures { AnswersExactly self.old (R.IngestBegin asked.now) result self.new }
     {
-        let (ns, name, expires, expected, lease) = read_begin(
-            alloc, ns, name, at, expected, lease,
-        )?;
+        let (ns, name, expires, expected, lease) = read_begin(alloc, asked)?;
         if let Err(fault) = self.check_begin(&ns, &name, &lease) {
             return Err(Refusal::By(fault));
         }
@@ -92,28 +86,18 @@ impl<S: SnapBackend, B: BlobBackend, I: IngestBackend> State<S, B, I> {
         Ok(Reply::Done)
     }
 
-    pub(crate) fn ingest_abort(
-        &mut self,
-        alloc: Global,
-        ns: &RawText,
-        name: &RawText,
-    ) -> Result<Reply, Refusal>
-        ensures { AnswersExactly self.old (R.IngestAbort ns.now name.now) result self.new }
+    pub(crate) fn ingest_abort(&mut self, alloc: Global, ingest: &RawName) -> Result<Reply, Refusal>
+        ensures { AnswersExactly self.old (R.IngestAbort ingest.now) result self.new }
     {
-        let (ns, name) = read_object(alloc, ns, name)?;
+        let (ns, name) = read_object(alloc, ingest)?;
         self.records.tables.remove_ingest(&ns, &name)?;
         Ok(Reply::Done)
     }
 
-    pub(crate) fn ingest_get(
-        &mut self,
-        alloc: Global,
-        ns: &RawText,
-        name: &RawText,
-    ) -> Result<Reply, Refusal>
-        ensures { AnswersExactly self.old (R.IngestGet ns.now name.now) result self.new }
+    pub(crate) fn ingest_get(&mut self, alloc: Global, ingest: &RawName) -> Result<Reply, Refusal>
+        ensures { AnswersExactly self.old (R.IngestGet ingest.now) result self.new }
     {
-        let (ns, name) = read_object(alloc, ns, name)?;
+        let (ns, name) = read_object(alloc, ingest)?;
         match self.records.tables.get_ingest(&ns, &name) {
             Some(row) => Ok(Reply::Row(ReplyRow::Ingest(row.copy()?))),
             None => Err(Refusal::By(Fault::NotFound)),
@@ -154,18 +138,11 @@ impl<S: SnapBackend, B: BlobBackend, I: IngestBackend> State<S, B, I> {
     pub(crate) fn ingest_commit(
         &mut self,
         alloc: Global,
-        ns: &RawText,
-        name: &RawText,
-        digest: &RawText,
-        labels: &RawLabels,
-        lease: &Option<RawText>,
+        asked: &IngestCommit,
     ) -> Result<Reply, Refusal>
-        ensures { AnswersExactly self.old
-            (R.IngestCommit ns.now name.now digest.now labels.now lease.now) result self.new }
+        ensures { AnswersExactly self.old (R.IngestCommit asked.now) result self.new }
     {
-        let (ns, name, digest, labels, lease) = read_ingest_commit(
-            alloc, ns, name, digest, labels, lease,
-        )?;
+        let (ns, name, digest, labels, lease) = read_ingest_commit(alloc, asked)?;
         if let Err(fault) = self.check_ingest_commit(&ns, &name, &digest, &lease) {
             return Err(Refusal::By(fault));
         }

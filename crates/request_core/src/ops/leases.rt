@@ -10,20 +10,16 @@ use crate::read::rows::read_lease;
 use crate::refusal::Refusal;
 use crate::state::State;
 use back_model::{BlobBackend, IngestBackend, SnapBackend};
-use meta_types::{Fault, Holdings, RawLabels, RawText, Reply, ReplyRow};
+use meta_types::{
+    Fault, Holdings, LeaseAdd, LeaseResource, RawLabel, RawName, RawText, Reply, ReplyRow,
+};
 use std::alloc::Global;
 
 impl<S: SnapBackend, B: BlobBackend, I: IngestBackend> State<S, B, I> {
-    pub(crate) fn lease_add(
-        &mut self,
-        alloc: Global,
-        ns: &RawText,
-        id: &RawText,
-        labels: &RawLabels,
-    ) -> Result<Reply, Refusal>
-        ensures { AnswersExactly self.old (R.LeaseAdd ns.now id.now labels.now) result self.new }
+    pub(crate) fn lease_add(&mut self, alloc: Global, asked: &LeaseAdd) -> Result<Reply, Refusal>
+        ensures { AnswersExactly self.old (R.LeaseAdd asked.now) result self.new }
     {
-        let (ns, id, labels) = read_lease(alloc, ns, id, labels)?;
+        let (ns, id, labels) = read_lease(alloc, asked)?;
         if !self.records.tables.has_ns(&ns) {
             return Err(Refusal::By(Fault::NotFound));
         }
@@ -31,15 +27,10 @@ impl<S: SnapBackend, B: BlobBackend, I: IngestBackend> State<S, B, I> {
         Ok(Reply::Done)
     }
 
-    pub(crate) fn lease_remove(
-        &mut self,
-        alloc: Global,
-        ns: &RawText,
-        id: &RawText,
-    ) -> Result<Reply, Refusal>
-        ensures { AnswersExactly self.old (R.LeaseRemove ns.now id.now) result self.new }
+    pub(crate) fn lease_remove(&mut self, alloc: Global, lease: &RawName) -> Result<Reply, Refusal>
+        ensures { AnswersExactly self.old (R.LeaseRemove lease.now) result self.new }
     {
-        let (ns, id) = read_object(alloc, ns, id)?;
+        let (ns, id) = read_object(alloc, lease)?;
         self.records.leases.remove(&ns, &id)?;
         Ok(Reply::Done)
     }
@@ -47,30 +38,22 @@ impl<S: SnapBackend, B: BlobBackend, I: IngestBackend> State<S, B, I> {
     pub(crate) fn lease_label(
         &mut self,
         alloc: Global,
-        ns: &RawText,
-        id: &RawText,
-        key: &RawText,
-        value: &RawText,
+        lease: &RawName,
+        label: &RawLabel,
     ) -> Result<Reply, Refusal>
-        ensures { AnswersExactly self.old (R.LeaseLabel ns.now id.now key.now value.now)
-            result self.new }
+        ensures { AnswersExactly self.old (R.LeaseLabel lease.now label.now) result self.new }
     {
-        let (ns, id) = read_object(alloc, ns, id)?;
+        let (ns, id) = read_object(alloc, lease)?;
         self.records
             .leases
-            .relabel(alloc, &ns, &id, key.text(), value.text())?;
+            .relabel(alloc, &ns, &id, label.key.text(), label.value.text())?;
         Ok(Reply::Done)
     }
 
-    pub(crate) fn lease_get(
-        &mut self,
-        alloc: Global,
-        ns: &RawText,
-        id: &RawText,
-    ) -> Result<Reply, Refusal>
-        ensures { AnswersExactly self.old (R.LeaseGet ns.now id.now) result self.new }
+    pub(crate) fn lease_get(&mut self, alloc: Global, lease: &RawName) -> Result<Reply, Refusal>
+        ensures { AnswersExactly self.old (R.LeaseGet lease.now) result self.new }
     {
-        let (ns, id) = read_object(alloc, ns, id)?;
+        let (ns, id) = read_object(alloc, lease)?;
         match self.records.leases.lease_labels(&ns, &id) {
             Some(labels) => {
                 let labels = labels.copy(alloc)?;
@@ -95,15 +78,11 @@ impl<S: SnapBackend, B: BlobBackend, I: IngestBackend> State<S, B, I> {
     pub(crate) fn lease_hold(
         &mut self,
         alloc: Global,
-        ns: &RawText,
-        id: &RawText,
-        kind: &RawText,
-        resource: &RawText,
+        asked: &LeaseResource,
     ) -> Result<Reply, Refusal>
-        ensures { AnswersExactly self.old (R.LeaseHold ns.now id.now kind.now resource.now)
-            result self.new }
+        ensures { AnswersExactly self.old (R.LeaseHold asked.now) result self.new }
     {
-        let (ns, id, resource) = read_held(alloc, ns, id, kind, resource)?;
+        let (ns, id, resource) = read_held(alloc, asked)?;
         self.records.leases.add_resource(alloc, &ns, &id, resource)?;
         Ok(Reply::Done)
     }
@@ -111,15 +90,11 @@ impl<S: SnapBackend, B: BlobBackend, I: IngestBackend> State<S, B, I> {
     pub(crate) fn lease_drop(
         &mut self,
         alloc: Global,
-        ns: &RawText,
-        id: &RawText,
-        kind: &RawText,
-        resource: &RawText,
+        asked: &LeaseResource,
     ) -> Result<Reply, Refusal>
-        ensures { AnswersExactly self.old (R.LeaseDrop ns.now id.now kind.now resource.now)
-            result self.new }
+        ensures { AnswersExactly self.old (R.LeaseDrop asked.now) result self.new }
     {
-        let (ns, id, resource) = read_held(alloc, ns, id, kind, resource)?;
+        let (ns, id, resource) = read_held(alloc, asked)?;
         self.records.leases.drop_resource(&ns, &id, &resource)?;
         Ok(Reply::Done)
     }
@@ -127,12 +102,11 @@ impl<S: SnapBackend, B: BlobBackend, I: IngestBackend> State<S, B, I> {
     pub(crate) fn lease_resources(
         &mut self,
         alloc: Global,
-        ns: &RawText,
-        id: &RawText,
+        lease: &RawName,
     ) -> Result<Reply, Refusal>
-        ensures { AnswersExactly self.old (R.LeaseResources ns.now id.now) result self.new }
+        ensures { AnswersExactly self.old (R.LeaseResources lease.now) result self.new }
     {
-        let (ns, id) = read_object(alloc, ns, id)?;
+        let (ns, id) = read_object(alloc, lease)?;
         let resources = self.records.leases.resources(alloc, &ns, &id)?;
         let held = copies(alloc, &resources)?;
         Ok(Reply::Resources(Holdings::new(held)))

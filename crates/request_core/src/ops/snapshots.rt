@@ -21,7 +21,8 @@ use crate::refusal::Refusal;
 use crate::state::State;
 use back_model::{BlobBackend, IngestBackend, SnapBackend};
 use meta_types::{
-    Fault, MAX_NUMBER, Name, RawLabels, RawText, Reply, ReplyRow, SnapKey, SnapKind, SnapRow,
+    Fault, MAX_NUMBER, Name, RawLabel, RawSnapshot, RawText, Reply, ReplyRow, SnapAdd, SnapCommit,
+    SnapKey, SnapKind, SnapRow,
 };
 use std::alloc::Global;
 
@@ -81,28 +82,12 @@ impl<S: SnapBackend, B: BlobBackend, I: IngestBackend> State<S, B, I> {
         &mut self,
         alloc: Global,
         kind: SnapKind,
-        ns: &RawText,
-        snapshotter: &RawText,
-        key: &RawText,
-        parent: &Option<RawText>,
-        labels: &RawLabels,
-        lease: &Option<RawText>,
+        asked: &SnapAdd,
     ) -> Result<Reply, Refusal>
         requires { IsSound self.old.state }
-        ensures { FollowsExactly self.old (prepares self.old.state kind ns.now snapshotter.now
-            key.now parent.now labels.now lease.now) result self.new }
+        ensures { FollowsExactly self.old (prepares self.old.state kind asked.now) result self.new }
     {
-        let (row, lease) = read_prepare(
-            alloc,
-            kind,
-            self.records.next,
-            ns,
-            snapshotter,
-            key,
-            parent,
-            labels,
-            lease,
-        )?;
+        let (row, lease) = read_prepare(alloc, kind, self.records.next, asked)?;
         if let Err(fault) = self.check_prepare(&row, &lease) {
             return Err(Refusal::By(fault));
         }
@@ -122,25 +107,11 @@ impl<S: SnapBackend, B: BlobBackend, I: IngestBackend> State<S, B, I> {
     pub(crate) fn snap_commit(
         &mut self,
         alloc: Global,
-        ns: &RawText,
-        snapshotter: &RawText,
-        key: &RawText,
-        name: &RawText,
-        labels: &RawLabels,
-        lease: &Option<RawText>,
+        asked: &SnapCommit,
     ) -> Result<Reply, Refusal>
-        ensures { AnswersExactly self.old (R.SnapCommit ns.now snapshotter.now key.now name.now
-            labels.now lease.now) result self.new }
+        ensures { AnswersExactly self.old (R.SnapCommit asked.now) result self.new }
     {
-        let (key, name, labels, lease) = read_commit(
-            alloc,
-            ns,
-            snapshotter,
-            key,
-            name,
-            labels,
-            lease,
-        )?;
+        let (key, name, labels, lease) = read_commit(alloc, asked)?;
         if let Err(fault) = self.check_commit(&key, &name, &lease) {
             return Err(Refusal::By(fault));
         }
@@ -151,14 +122,11 @@ impl<S: SnapBackend, B: BlobBackend, I: IngestBackend> State<S, B, I> {
     pub(crate) fn snap_remove(
         &mut self,
         alloc: Global,
-        ns: &RawText,
-        snapshotter: &RawText,
-        key: &RawText,
+        snapshot: &RawSnapshot,
     ) -> Result<Reply, Refusal>
-        ensures { AnswersExactly self.old (R.SnapRemove ns.now snapshotter.now key.now)
-            result self.new }
+        ensures { AnswersExactly self.old (R.SnapRemove snapshot.now) result self.new }
     {
-        let key = read_snap(alloc, ns, snapshotter, key)?;
+        let key = read_snap(alloc, snapshot)?;
         self.records.tables.remove_snap(&key)?;
         Ok(Reply::Done)
     }
@@ -166,14 +134,11 @@ impl<S: SnapBackend, B: BlobBackend, I: IngestBackend> State<S, B, I> {
     pub(crate) fn snap_get(
         &mut self,
         alloc: Global,
-        ns: &RawText,
-        snapshotter: &RawText,
-        key: &RawText,
+        snapshot: &RawSnapshot,
     ) -> Result<Reply, Refusal>
-        ensures { AnswersExactly self.old (R.SnapGet ns.now snapshotter.now key.now)
-            result self.new }
+        ensures { AnswersExactly self.old (R.SnapGet snapshot.now) result self.new }
     {
-        let key = read_snap(alloc, ns, snapshotter, key)?;
+        let key = read_snap(alloc, snapshot)?;
         match self.records.tables.get_snap(&key) {
             Some(row) => Ok(Reply::Row(ReplyRow::Snap(row.copy(alloc)?))),
             None => Err(Refusal::By(Fault::NotFound)),
@@ -196,19 +161,15 @@ impl<S: SnapBackend, B: BlobBackend, I: IngestBackend> State<S, B, I> {
     pub(crate) fn snap_label(
         &mut self,
         alloc: Global,
-        ns: &RawText,
-        snapshotter: &RawText,
-        name: &RawText,
-        key: &RawText,
-        value: &RawText,
+        snapshot: &RawSnapshot,
+        label: &RawLabel,
     ) -> Result<Reply, Refusal>
-        ensures { AnswersExactly self.old
-            (R.SnapLabel ns.now snapshotter.now name.now key.now value.now) result self.new }
+        ensures { AnswersExactly self.old (R.SnapLabel snapshot.now label.now) result self.new }
     {
-        let at = read_snap(alloc, ns, snapshotter, name)?;
+        let at = read_snap(alloc, snapshot)?;
         self.records
             .tables
-            .relabel_snap(alloc, &at, key.text(), value.text())?;
+            .relabel_snap(alloc, &at, label.key.text(), label.value.text())?;
         Ok(Reply::Done)
     }
 }

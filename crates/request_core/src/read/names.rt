@@ -7,7 +7,10 @@ ghost use Rattle.meta_types.specs.Changes.{all_of, is_allowed_if};
 ghost use Rattle.request_core.specs.Follows.{ReadsTexts};
 
 use crate::refusal::{Refusal, reading};
-use meta_types::{Digest, Name, RawText, Resource, ShortName, SnapKey};
+use meta_types::{
+    Digest, LeaseResource, Name, RawContent, RawName, RawSnapshot, RawText, Resource, ShortName,
+    SnapKey,
+};
 use std::alloc::Global;
 
 /// Reads a namespace or a snapshotter.
@@ -58,49 +61,41 @@ pub(crate) fn read_ns(alloc: Global, ns: &RawText) -> Result<ShortName, Refusal>
 }
 
 /// Reads a namespace and a name.
-pub(crate) fn read_object(
-    alloc: Global,
-    ns: &RawText,
-    name: &RawText,
-) -> Result<(ShortName, Name), Refusal>
-    ensures { ReadsTexts result (all_of (is_short_name ns.now ∷ is_name name.now ∷ []))
-        (ns.now, name.now) }
+pub(crate) fn read_object(alloc: Global, object: &RawName) -> Result<(ShortName, Name), Refusal>
+    ensures { ReadsTexts result
+        (all_of (is_short_name object.now.ns ∷ is_name object.now.name ∷ []))
+        (object.now.ns, object.now.name) }
 {
-    let ns = read_short_name(alloc, ns)?;
-    let name = read_name(alloc, name)?;
+    let ns = read_short_name(alloc, &object.ns)?;
+    let name = read_name(alloc, &object.name)?;
     Ok((ns, name))
 }
 
 /// Reads a namespace and a digest.
 pub(crate) fn read_content(
     alloc: Global,
-    ns: &RawText,
-    digest: &RawText,
+    content: &RawContent,
 ) -> Result<(ShortName, Digest), Refusal>
-    ensures { ReadsTexts result (all_of (is_short_name ns.now ∷ is_digest digest.now ∷ []))
-        (ns.now, digest.now) }
+    ensures { ReadsTexts result
+        (all_of (is_short_name content.now.ns ∷ is_digest content.now.digest ∷ []))
+        (content.now.ns, content.now.digest) }
 {
-    let ns = read_short_name(alloc, ns)?;
-    let digest = read_digest(alloc, digest)?;
+    let ns = read_short_name(alloc, &content.ns)?;
+    let digest = read_digest(alloc, &content.digest)?;
     Ok((ns, digest))
 }
 
 /// Reads what names a snapshot.
-pub(crate) fn read_snap(
-    alloc: Global,
-    ns: &RawText,
-    snapshotter: &RawText,
-    name: &RawText,
-) -> Result<SnapKey, Refusal>
-    ensures { ReadsTexts result (all_of (is_short_name ns.now ∷ is_short_name snapshotter.now
-        ∷ is_name name.now ∷ [])) (record {
-          ns = ns.now;
-          snapshotter = snapshotter.now;
-          name = name.now;
+pub(crate) fn read_snap(alloc: Global, snapshot: &RawSnapshot) -> Result<SnapKey, Refusal>
+    ensures { ReadsTexts result (all_of (is_short_name snapshot.now.ns
+        ∷ is_short_name snapshot.now.snapshotter ∷ is_name snapshot.now.name ∷ [])) (record {
+          ns = snapshot.now.ns;
+          snapshotter = snapshot.now.snapshotter;
+          name = snapshot.now.name;
         }) }
 {
-    let (ns, snapshotter) = read_snapshotter(alloc, ns, snapshotter)?;
-    let name = read_name(alloc, name)?;
+    let (ns, snapshotter) = read_snapshotter(alloc, &snapshot.ns, &snapshot.snapshotter)?;
+    let name = read_name(alloc, &snapshot.name)?;
     Ok(SnapKey {
         ns,
         snapshotter,
@@ -138,17 +133,18 @@ pub(crate) fn read_digest_if(
 /// Reads a lease's namespace and id, and a resource.
 pub(crate) fn read_held(
     alloc: Global,
-    ns: &RawText,
-    id: &RawText,
-    kind: &RawText,
-    resource: &RawText,
+    asked: &LeaseResource,
 ) -> Result<(ShortName, Name, Resource), Refusal>
-    ensures { ReadsTexts (some_third result) (all_of (is_short_name ns.now ∷ is_name id.now
-        ∷ is_some (resource_of kind.now resource.now) ∷ []))
-        (ns.now, id.now, resource_of kind.now resource.now) }
+    ensures { ReadsTexts (some_third result) (all_of (is_short_name asked.now.lease.ns
+        ∷ is_name asked.now.lease.name
+        ∷ is_some (resource_of asked.now.kind asked.now.resource) ∷ [])) (
+          asked.now.lease.ns,
+          asked.now.lease.name,
+          resource_of asked.now.kind asked.now.resource,
+        ) }
 {
-    let (ns, id) = read_object(alloc, ns, id)?;
-    let resource = read_resource(alloc, kind, resource)?;
+    let (ns, id) = read_object(alloc, &asked.lease)?;
+    let resource = read_resource(alloc, &asked.kind, &asked.resource)?;
     Ok((ns, id, resource))
 }
 

@@ -15,30 +15,26 @@ use crate::read::names::{
 use crate::refusal::Refusal;
 use gc_labels::read_instant;
 use meta_types::{
-    ContainerRow, Digest, Fault, ImageRow, Instant, Labels, Name, RawLabels, RawText, ShortName,
-    SnapKey, SnapKind, SnapRow,
+    ContainerAdd, ContainerRow, ContentAdd, Digest, Fault, ImageAdd, ImageRow, ImageTarget,
+    IngestBegin, IngestCommit, Instant, Labels, LeaseAdd, Name, RawText, ShortName, SnapAdd,
+    SnapCommit, SnapKey, SnapKind, SnapRow,
 };
 use std::alloc::Global;
 
 /// Reads an image's row.
-pub(crate) fn read_image(
-    alloc: Global,
-    ns: &RawText,
-    name: &RawText,
-    target: &RawText,
-    labels: &RawLabels,
-) -> Result<ImageRow, Refusal>
-    ensures { ReadsTexts result (all_of (is_short_name ns.now ∷ is_name name.now
-        ∷ is_digest target.now ∷ are_labels labels.now ∷ [])) (record {
-          ns = ns.now;
-          name = name.now;
-          target = target.now;
-          labels = labels_of labels.now;
+pub(crate) fn read_image(alloc: Global, asked: &ImageAdd) -> Result<ImageRow, Refusal>
+    ensures { ReadsTexts result (all_of (is_short_name asked.now.image.ns
+        ∷ is_name asked.now.image.name ∷ is_digest asked.now.target ∷ are_labels asked.now.labels
+        ∷ [])) (record {
+          ns = asked.now.image.ns;
+          name = asked.now.image.name;
+          target = asked.now.target;
+          labels = labels_of asked.now.labels;
         }) }
 {
-    let (ns, name) = read_object(alloc, ns, name)?;
-    let target = read_digest(alloc, target)?;
-    let labels = read_labels(alloc, labels)?;
+    let (ns, name) = read_object(alloc, &asked.image)?;
+    let target = read_digest(alloc, &asked.target)?;
+    let labels = read_labels(alloc, &asked.labels)?;
     Ok(ImageRow {
         ns,
         name,
@@ -50,74 +46,74 @@ pub(crate) fn read_image(
 /// Reads the texts of new content.
 pub(crate) fn read_new_content(
     alloc: Global,
-    ns: &RawText,
-    digest: &RawText,
-    labels: &RawLabels,
-    lease: &Option<RawText>,
+    asked: &ContentAdd,
 ) -> Result<(ShortName, Digest, Labels, Option<Name>), Refusal>
-    ensures { ReadsTexts result (all_of (is_short_name ns.now ∷ is_digest digest.now
-        ∷ are_labels labels.now ∷ is_allowed_if is_name lease.now ∷ []))
-        (ns.now, digest.now, labels_of labels.now, lease.now) }
+    ensures { ReadsTexts result (all_of (is_short_name asked.now.content.ns
+        ∷ is_digest asked.now.content.digest ∷ are_labels asked.now.labels
+        ∷ is_allowed_if is_name asked.now.lease ∷ [])) (
+          asked.now.content.ns,
+          asked.now.content.digest,
+          labels_of asked.now.labels,
+          asked.now.lease,
+        ) }
 {
-    let (ns, digest) = read_content(alloc, ns, digest)?;
-    let labels = read_labels(alloc, labels)?;
-    let lease = read_name_if(alloc, lease)?;
+    let (ns, digest) = read_content(alloc, &asked.content)?;
+    let labels = read_labels(alloc, &asked.labels)?;
+    let lease = read_name_if(alloc, &asked.lease)?;
     Ok((ns, digest, labels, lease))
 }
 
 /// Reads an image's name and its new target.
 pub(crate) fn read_target(
     alloc: Global,
-    ns: &RawText,
-    name: &RawText,
-    target: &RawText,
+    asked: &ImageTarget,
 ) -> Result<(ShortName, Name, Digest), Refusal>
-    ensures { ReadsTexts result (all_of (is_short_name ns.now ∷ is_name name.now
-        ∷ is_digest target.now ∷ [])) (ns.now, name.now, target.now) }
+    ensures { ReadsTexts result (all_of (is_short_name asked.now.image.ns
+        ∷ is_name asked.now.image.name ∷ is_digest asked.now.target ∷ []))
+        (asked.now.image.ns, asked.now.image.name, asked.now.target) }
 {
-    let (ns, name) = read_object(alloc, ns, name)?;
-    let target = read_digest(alloc, target)?;
+    let (ns, name) = read_object(alloc, &asked.image)?;
+    let target = read_digest(alloc, &asked.target)?;
     Ok((ns, name, target))
 }
 
 /// Reads a lease's namespace, id and labels.
 pub(crate) fn read_lease(
     alloc: Global,
-    ns: &RawText,
-    id: &RawText,
-    labels: &RawLabels,
+    asked: &LeaseAdd,
 ) -> Result<(ShortName, Name, Labels), Refusal>
-    ensures { ReadsTexts result (all_of (is_short_name ns.now ∷ is_name id.now
-        ∷ are_labels labels.now ∷ [])) (ns.now, id.now, labels_of labels.now) }
+    ensures { ReadsTexts result (all_of (is_short_name asked.now.lease.ns
+        ∷ is_name asked.now.lease.name ∷ are_labels asked.now.labels ∷ []))
+        (asked.now.lease.ns, asked.now.lease.name, labels_of asked.now.labels) }
 {
-    let (ns, id) = read_object(alloc, ns, id)?;
-    let labels = read_labels(alloc, labels)?;
+    let (ns, id) = read_object(alloc, &asked.lease)?;
+    let labels = read_labels(alloc, &asked.labels)?;
     Ok((ns, id, labels))
 }
 
 /// Reads the texts of a commit.
 pub(crate) fn read_commit(
     alloc: Global,
-    ns: &RawText,
-    snapshotter: &RawText,
-    key: &RawText,
-    name: &RawText,
-    labels: &RawLabels,
-    lease: &Option<RawText>,
+    asked: &SnapCommit,
 ) -> Result<(SnapKey, Name, Labels, Option<Name>), Refusal>
-    ensures { ReadsTexts result (all_of (is_short_name ns.now ∷ is_short_name snapshotter.now
-        ∷ is_name key.now ∷ is_name name.now ∷ are_labels labels.now
-        ∷ is_allowed_if is_name lease.now ∷ [])) (
-          record { ns = ns.now; snapshotter = snapshotter.now; name = key.now },
-          name.now,
-          labels_of labels.now,
-          lease.now,
+    ensures { ReadsTexts result (all_of (is_short_name asked.now.snapshot.ns
+        ∷ is_short_name asked.now.snapshot.snapshotter ∷ is_name asked.now.snapshot.name
+        ∷ is_name asked.now.name ∷ are_labels asked.now.labels
+        ∷ is_allowed_if is_name asked.now.lease ∷ [])) (
+          record {
+            ns = asked.now.snapshot.ns;
+            snapshotter = asked.now.snapshot.snapshotter;
+            name = asked.now.snapshot.name;
+          },
+          asked.now.name,
+          labels_of asked.now.labels,
+          asked.now.lease,
         ) }
 {
-    let key = read_snap(alloc, ns, snapshotter, key)?;
-    let name = read_name(alloc, name)?;
-    let labels = read_labels(alloc, labels)?;
-    let lease = read_name_if(alloc, lease)?;
+    let key = read_snap(alloc, &asked.snapshot)?;
+    let name = read_name(alloc, &asked.name)?;
+    let labels = read_labels(alloc, &asked.labels)?;
+    let lease = read_name_if(alloc, &asked.lease)?;
     Ok((key, name, labels, lease))
 }
 
@@ -135,11 +131,7 @@ pub(crate) fn read_end(at: &RawText) -> Option<Instant>
 /// Reads the texts of a beginning ingest, and when it ends by itself.
 pub(crate) fn read_begin(
     alloc: Global,
-    ns: &RawText,
-    name: &RawText,
-    at: &RawText,
-    expected: &Option<RawText>,
-    lease: &Option<RawText>,
+    asked: &IngestBegin,
 ) -> Result<
     (
         ShortName,
@@ -150,17 +142,23 @@ pub(crate) fn read_begin(
     ),
     Refusal,
 >
-    ensures { ReadsTexts result (all_of (is_short_name ns.now ∷ is_name name.now
-        ∷ is_some (instant_of at.now) ∷ is_allowed_if is_digest expected.now
-        ∷ is_allowed_if is_name lease.now ∷ []))
-        (ns.now, name.now, own_end lease.now at.now, expected.now, lease.now) }
+    ensures { ReadsTexts result (all_of (is_short_name asked.now.ingest.ns
+        ∷ is_name asked.now.ingest.name ∷ is_some (instant_of asked.now.at)
+        ∷ is_allowed_if is_digest asked.now.expected ∷ is_allowed_if is_name asked.now.lease
+        ∷ [])) (
+          asked.now.ingest.ns,
+          asked.now.ingest.name,
+          own_end asked.now.lease asked.now.at,
+          asked.now.expected,
+          asked.now.lease,
+        ) }
 {
-    let (ns, name) = read_object(alloc, ns, name)?;
-    let Some(end) = read_end(at) else {
+    let (ns, name) = read_object(alloc, &asked.ingest)?;
+    let Some(end) = read_end(&asked.at) else {
         return Err(Refusal::By(Fault::InvalidArgument));
     };
-    let expected = read_digest_if(alloc, expected)?;
-    let lease = read_name_if(alloc, lease)?;
+    let expected = read_digest_if(alloc, &asked.expected)?;
+    let lease = read_name_if(alloc, &asked.lease)?;
     let expires = if lease.is_some() { None } else { Some(end) };
     Ok((ns, name, expires, expected, lease))
 }
@@ -170,30 +168,30 @@ pub(crate) fn read_prepare(
     alloc: Global,
     kind: SnapKind,
     number: u64,
-    ns: &RawText,
-    snapshotter: &RawText,
-    key: &RawText,
-    parent: &Option<RawText>,
-    labels: &RawLabels,
-    lease: &Option<RawText>,
+    asked: &SnapAdd,
 ) -> Result<(SnapRow, Option<Name>), Refusal>
-    ensures { ReadsTexts result (all_of (is_short_name ns.now ∷ is_short_name snapshotter.now
-        ∷ is_name key.now ∷ is_allowed_if is_name parent.now ∷ are_labels labels.now
-        ∷ is_allowed_if is_name lease.now ∷ [])) (
+    ensures { ReadsTexts result (all_of (is_short_name asked.now.snapshot.ns
+        ∷ is_short_name asked.now.snapshot.snapshotter ∷ is_name asked.now.snapshot.name
+        ∷ is_allowed_if is_name asked.now.parent ∷ are_labels asked.now.labels
+        ∷ is_allowed_if is_name asked.now.lease ∷ [])) (
           record {
-            key = record { ns = ns.now; snapshotter = snapshotter.now; name = key.now };
+            key = record {
+              ns = asked.now.snapshot.ns;
+              snapshotter = asked.now.snapshot.snapshotter;
+              name = asked.now.snapshot.name;
+            };
             kind = kind;
-            parent = parent.now;
+            parent = asked.now.parent;
             number = number;
-            labels = labels_of labels.now;
+            labels = labels_of asked.now.labels;
           },
-          lease.now,
+          asked.now.lease,
         ) }
 {
-    let key = read_snap(alloc, ns, snapshotter, key)?;
-    let parent = read_name_if(alloc, parent)?;
-    let labels = read_labels(alloc, labels)?;
-    let lease = read_name_if(alloc, lease)?;
+    let key = read_snap(alloc, &asked.snapshot)?;
+    let parent = read_name_if(alloc, &asked.parent)?;
+    let labels = read_labels(alloc, &asked.labels)?;
+    let lease = read_name_if(alloc, &asked.lease)?;
     let row = SnapRow {
         key,
         kind,
@@ -205,26 +203,21 @@ pub(crate) fn read_prepare(
 }
 
 /// Reads a container's row.
-pub(crate) fn read_container(
-    alloc: Global,
-    ns: &RawText,
-    name: &RawText,
-    snapshotter: &Option<RawText>,
-    key: &Option<RawText>,
-    labels: &RawLabels,
-) -> Result<ContainerRow, Refusal>
-    ensures { ReadsTexts result (all_of (is_short_name ns.now ∷ is_name name.now
-        ∷ is_allowed_if is_short_name snapshotter.now ∷ is_allowed_if is_name key.now
-        ∷ (if is_some key.now then is_some snapshotter.now else is_none snapshotter.now)
-        ∷ are_labels labels.now ∷ [])) (record {
-          ns = ns.now;
-          name = name.now;
-          snapshot = option_and_then (λ s. option_map (λ k. (s, k)) key.now) snapshotter.now;
-          labels = labels_of labels.now;
+pub(crate) fn read_container(alloc: Global, asked: &ContainerAdd) -> Result<ContainerRow, Refusal>
+    ensures { ReadsTexts result (all_of (is_short_name asked.now.container.ns
+        ∷ is_name asked.now.container.name ∷ is_allowed_if is_short_name asked.now.snapshotter
+        ∷ is_allowed_if is_name asked.now.key
+        ∷ (if is_some asked.now.key then is_some asked.now.snapshotter
+        else is_none asked.now.snapshotter) ∷ are_labels asked.now.labels ∷ [])) (record {
+          ns = asked.now.container.ns;
+          name = asked.now.container.name;
+          snapshot = option_and_then (λ s. option_map (λ k. (s, k)) asked.now.key)
+              asked.now.snapshotter;
+          labels = labels_of asked.now.labels;
         }) }
 {
-    let (ns, name) = read_object(alloc, ns, name)?;
-    let snapshot = match (snapshotter, key) {
+    let (ns, name) = read_object(alloc, &asked.container)?;
+    let snapshot = match (&asked.snapshotter, &asked.key) {
         (Some(snapshotter), Some(key)) => {
             let snapshotter = read_short_name(alloc, snapshotter)?;
             Some((snapshotter, read_name(alloc, key)?))
@@ -232,7 +225,7 @@ pub(crate) fn read_container(
         (None, None) => None,
         _ => return Err(Refusal::By(Fault::InvalidArgument)),
     };
-    let labels = read_labels(alloc, labels)?;
+    let labels = read_labels(alloc, &asked.labels)?;
     Ok(ContainerRow {
         ns,
         name,
@@ -244,19 +237,21 @@ pub(crate) fn read_container(
 /// Reads the texts of an ingest's commit.
 pub(crate) fn read_ingest_commit(
     alloc: Global,
-    ns: &RawText,
-    name: &RawText,
-    digest: &RawText,
-    labels: &RawLabels,
-    lease: &Option<RawText>,
+    asked: &IngestCommit,
 ) -> Result<(ShortName, Name, Digest, Labels, Option<Name>), Refusal>
-    ensures { ReadsTexts result (all_of (is_short_name ns.now ∷ is_name name.now
-        ∷ is_digest digest.now ∷ are_labels labels.now ∷ is_allowed_if is_name lease.now ∷ []))
-        (ns.now, name.now, digest.now, labels_of labels.now, lease.now) }
+    ensures { ReadsTexts result (all_of (is_short_name asked.now.ingest.ns
+        ∷ is_name asked.now.ingest.name ∷ is_digest asked.now.digest
+        ∷ are_labels asked.now.labels ∷ is_allowed_if is_name asked.now.lease ∷ [])) (
+          asked.now.ingest.ns,
+          asked.now.ingest.name,
+          asked.now.digest,
+          labels_of asked.now.labels,
+          asked.now.lease,
+        ) }
 {
-    let (ns, name) = read_object(alloc, ns, name)?;
-    let digest = read_digest(alloc, digest)?;
-    let labels = read_labels(alloc, labels)?;
-    let lease = read_name_if(alloc, lease)?;
+    let (ns, name) = read_object(alloc, &asked.ingest)?;
+    let digest = read_digest(alloc, &asked.digest)?;
+    let labels = read_labels(alloc, &asked.labels)?;
+    let lease = read_name_if(alloc, &asked.lease)?;
     Ok((ns, name, digest, labels, lease))
 }

@@ -4,7 +4,7 @@ ghost use Rattle.meta_types.specs.Keys.{Key, row_at, has_row, add_row, remove_ro
 ghost use Rattle.meta_types.specs.Faults.{Refuses, least_of};
 ghost use Rattle.row_tables.specs.Arrived.{sorted, by_name, Becomes};
 ghost use Rattle.row_tables.specs.Namespaces.{full_key, all_rows, IsHome};
-ghost use Rattle.row_tables.specs.Came.{AreCame};
+ghost use Rattle.row_tables.specs.ArrivedNamespaces.{AreArrived};
 
 use crate::named::Named;
 use crate::namespaces::homes::search;
@@ -19,7 +19,7 @@ fn home_of<K: Named, R: GroupedRow<K>>(
     alloc: Global,
     ns: &ShortName,
 ) -> Result<usize, Fault>
-    requires { AreCame (full_key K.texts_of R.name_of R.group_of) (by_name K.texts_of R.name_of)
+    requires { AreArrived (full_key K.texts_of R.name_of R.group_of) (by_name K.texts_of R.name_of)
         R.group_of groups.old.items }
     ensures fault { Refuses result None }
     ensures home { IfOk result (λ place. IsHome ns.now place groups.new.items) }
@@ -27,7 +27,7 @@ fn home_of<K: Named, R: GroupedRow<K>>(
         (ns.now ∷ name)
         (sorted (full_key K.texts_of R.name_of R.group_of) (all_rows groups.old.items)) ≡ false) }
     ensures same { all_rows groups.new.items ≡ all_rows groups.old.items }
-    ensures groups { AreCame (full_key K.texts_of R.name_of R.group_of)
+    ensures groups { AreArrived (full_key K.texts_of R.name_of R.group_of)
         (by_name K.texts_of R.name_of) R.group_of groups.new.items }
 {
     match search(groups, ns) {
@@ -65,7 +65,7 @@ pub(crate) fn add_new_row<K: Named, R: GroupedRow<K>>(
     alloc: Global,
     row: R,
 ) -> Result<(), Fault>
-    requires { AreCame (full_key K.texts_of R.name_of R.group_of) (by_name K.texts_of R.name_of)
+    requires { AreArrived (full_key K.texts_of R.name_of R.group_of) (by_name K.texts_of R.name_of)
         R.group_of groups.old.items }
     ensures fault { Refuses result (least_of false false
         (has_row (full_key K.texts_of R.name_of R.group_of)
@@ -75,7 +75,7 @@ pub(crate) fn add_new_row<K: Named, R: GroupedRow<K>>(
         (all_rows groups.new.items) ≡ add_row (full_key K.texts_of R.name_of R.group_of) row
         (sorted (full_key K.texts_of R.name_of R.group_of) (all_rows groups.old.items))) }
     ensures err { OnErr result (all_rows groups.new.items ≡ all_rows groups.old.items) }
-    ensures groups { AreCame (full_key K.texts_of R.name_of R.group_of)
+    ensures groups { AreArrived (full_key K.texts_of R.name_of R.group_of)
         (by_name K.texts_of R.name_of) R.group_of groups.new.items }
 {
     let home = home_of(groups, alloc, row.group())?;
@@ -88,7 +88,7 @@ pub(crate) fn take_row<K: Named, R: GroupedRow<K>>(
     ns: &ShortName,
     name: &K,
 ) -> Option<R>
-    requires { AreCame (full_key K.texts_of R.name_of R.group_of) (by_name K.texts_of R.name_of)
+    requires { AreArrived (full_key K.texts_of R.name_of R.group_of) (by_name K.texts_of R.name_of)
         R.group_of groups.old.items }
     ensures row { result ≡ row_at (full_key K.texts_of R.name_of R.group_of)
         (ns.now ∷ K.texts_of name.now)
@@ -96,7 +96,7 @@ pub(crate) fn take_row<K: Named, R: GroupedRow<K>>(
     ensures left { sorted (full_key K.texts_of R.name_of R.group_of) (all_rows groups.new.items)
         ≡ remove_row (full_key K.texts_of R.name_of R.group_of) (ns.now ∷ K.texts_of name.now)
         (sorted (full_key K.texts_of R.name_of R.group_of) (all_rows groups.old.items)) }
-    ensures groups { AreCame (full_key K.texts_of R.name_of R.group_of)
+    ensures groups { AreArrived (full_key K.texts_of R.name_of R.group_of)
         (by_name K.texts_of R.name_of) R.group_of groups.new.items }
 {
     match search(groups, ns) {
@@ -126,7 +126,7 @@ pub(crate) fn change_row<K: Named, R: GroupedRow<K>, A, C: Change<K, R, A>>(
     name: &K,
     change: C,
 ) -> Option<A>
-    requires groups { AreCame (full_key K.texts_of R.name_of R.group_of)
+    requires groups { AreArrived (full_key K.texts_of R.name_of R.group_of)
         (by_name K.texts_of R.name_of) R.group_of groups.old.items }
     requires keeps_ns { (row : R) (answer : A) (after : R) → C.changes change row answer after
         → R.group_of after ≡ R.group_of row }
@@ -139,7 +139,7 @@ pub(crate) fn change_row<K: Named, R: GroupedRow<K>, A, C: Change<K, R, A>>(
         (ns.now ∷ K.texts_of name.now) row after
         (sorted (full_key K.texts_of R.name_of R.group_of) (all_rows groups.old.items))
         (sorted (full_key K.texts_of R.name_of R.group_of) (all_rows groups.new.items))) }
-    ensures groups { AreCame (full_key K.texts_of R.name_of R.group_of)
+    ensures groups { AreArrived (full_key K.texts_of R.name_of R.group_of)
         (by_name K.texts_of R.name_of) R.group_of groups.new.items }
 {
     match search(groups, ns) {

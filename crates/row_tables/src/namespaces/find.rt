@@ -5,7 +5,7 @@ ghost use Rattle.meta_types.specs.Faults.{Refuses};
 ghost use Rattle.meta_types.specs.Keys.{is_key, row_at, has_row};
 ghost use Rattle.row_tables.specs.Arrived.{sorted, by_name};
 ghost use Rattle.row_tables.specs.Namespaces.{full_key, all_rows};
-ghost use Rattle.row_tables.specs.Came.{AreCame};
+ghost use Rattle.row_tables.specs.ArrivedNamespaces.{AreArrived};
 ghost use Rattle.row_tables.specs.Starts.{AreStarts};
 
 use crate::named::Named;
@@ -40,7 +40,7 @@ pub(crate) fn place_of<K: Named, R: GroupedRow<K>>(
     ns: &ShortName,
     name: &K,
 ) -> Option<usize>
-    requires are { AreCame (full_key K.texts_of R.name_of R.group_of) (by_name K.texts_of R.name_of)
+    requires are { AreArrived (full_key K.texts_of R.name_of R.group_of) (by_name K.texts_of R.name_of)
         R.group_of groups.now }
     requires fits { length (all_rows groups.now) < 2 ^ 64 }
     requires starts { AreStarts starts.now groups.now }
@@ -62,7 +62,7 @@ pub(crate) fn row_in<'a, K: Named, R: GroupedRow<K>>(
     ns: &ShortName,
     name: &K,
 ) -> Option<&'a R>
-    requires { AreCame (full_key K.texts_of R.name_of R.group_of) (by_name K.texts_of R.name_of)
+    requires { AreArrived (full_key K.texts_of R.name_of R.group_of) (by_name K.texts_of R.name_of)
         R.group_of groups.now }
     ensures { option_copied result ≡ row_at (full_key K.texts_of R.name_of R.group_of)
         (ns.now ∷ K.texts_of name.now)
@@ -80,7 +80,7 @@ pub(crate) fn has_row<K: Named, R: GroupedRow<K>>(
     ns: &ShortName,
     name: &K,
 ) -> bool
-    requires { AreCame (full_key K.texts_of R.name_of R.group_of) (by_name K.texts_of R.name_of)
+    requires { AreArrived (full_key K.texts_of R.name_of R.group_of) (by_name K.texts_of R.name_of)
         R.group_of groups.now }
     ensures { result ≡ has_row (full_key K.texts_of R.name_of R.group_of)
         (ns.now ∷ K.texts_of name.now)
@@ -92,12 +92,12 @@ pub(crate) fn has_row<K: Named, R: GroupedRow<K>>(
     }
 }
 
-/// The rows of a namespace as they came.
+/// The rows of a namespace as they arrived.
 pub(crate) fn rows_of<'a, K: Named, R: GroupedRow<K>>(
     groups: &'a [(ShortName, RowTable<K, R>)],
     ns: &ShortName,
 ) -> Option<&'a [R]>
-    requires { AreCame (full_key K.texts_of R.name_of R.group_of) (by_name K.texts_of R.name_of)
+    requires { AreArrived (full_key K.texts_of R.name_of R.group_of) (by_name K.texts_of R.name_of)
         R.group_of groups.now }
     ensures rows { IfSome result (λ rows. rows.now
         ≡ filter (λ row. bytes_eq ns.now (R.group_of row)) (all_rows groups.now)) }
@@ -116,7 +116,7 @@ pub(crate) fn first_in<K: Named, R: GroupedRow<K>>(
     starts: &[usize],
     ns: &ShortName,
 ) -> Option<usize>
-    requires are { AreCame (full_key K.texts_of R.name_of R.group_of) (by_name K.texts_of R.name_of)
+    requires are { AreArrived (full_key K.texts_of R.name_of R.group_of) (by_name K.texts_of R.name_of)
         R.group_of groups.now }
     requires starts { AreStarts starts.now groups.now }
     ensures first { IfSome result (λ first.
@@ -137,7 +137,7 @@ pub(crate) fn any_in<K: Named, R: GroupedRow<K>>(
     groups: &[(ShortName, RowTable<K, R>)],
     ns: &ShortName,
 ) -> bool
-    requires { AreCame (full_key K.texts_of R.name_of R.group_of) (by_name K.texts_of R.name_of)
+    requires { AreArrived (full_key K.texts_of R.name_of R.group_of) (by_name K.texts_of R.name_of)
         R.group_of groups.now }
     ensures { result ≡ list_any (λ row. bytes_eq ns.now (R.group_of row)) (sorted
         (full_key K.texts_of R.name_of R.group_of) (all_rows groups.now)) }

@@ -3,7 +3,7 @@ ghost use Rattle.std.specs.Prelude.{◌≡◌, map, None, IfOk, filter, bytes_eq
 ghost use Rattle.meta_types.specs.Faults.{Refuses};
 ghost use Rattle.row_tables.specs.Arrived.{sorted, by_name};
 ghost use Rattle.row_tables.specs.Namespaces.{full_key, all_rows};
-ghost use Rattle.row_tables.specs.Came.{AreCame, listed};
+ghost use Rattle.row_tables.specs.ArrivedNamespaces.{AreArrived, listed};
 
 use crate::listing::{borrow_rows, in_key_order};
 use crate::named::Named;
@@ -19,7 +19,7 @@ pub(crate) fn rows_in<'a, K: Named, R: GroupedRow<K>>(
     alloc: Global,
     ns: &ShortName,
 ) -> Result<Vec<&'a R>, Fault>
-    requires { AreCame (full_key K.texts_of R.name_of R.group_of) (by_name K.texts_of R.name_of)
+    requires { AreArrived (full_key K.texts_of R.name_of R.group_of) (by_name K.texts_of R.name_of)
         R.group_of groups.now }
     ensures fault { Refuses result None }
     ensures ok { IfOk result (λ list. map (λ row. row.now) list.items
@@ -50,7 +50,7 @@ pub(crate) fn rows<'a, K: Named, R: GroupedRow<K>>(
 }
 
 /// All rows, in the order of their places.
-pub(crate) fn rows_came<'a, K: Named, R: GroupedRow<K>>(
+pub(crate) fn rows_arrived<'a, K: Named, R: GroupedRow<K>>(
     groups: &'a [(ShortName, RowTable<K, R>)],
     alloc: Global,
 ) -> Result<Vec<&'a R>, Fault>

@@ -5,7 +5,7 @@ ghost use Rattle.meta_types.specs.Keys.{is_key};
 ghost use Rattle.meta_types.specs.Faults.{Refuses};
 ghost use Rattle.row_tables.specs.Arrived.{by_name, same_key};
 ghost use Rattle.row_tables.specs.Namespaces.{full_key, all_rows};
-ghost use Rattle.row_tables.specs.Came.{HaveCame};
+ghost use Rattle.row_tables.specs.ArrivedNamespaces.{HaveArrived};
 
 use crate::named::Named;
 use crate::namespaces::find;
@@ -28,14 +28,14 @@ impl<'a, K: Named, R: GroupedRow<K>> Model for PlacesByNamespace<'a, K, R> {
     ghost use Rattle.std.specs.Prelude.{List};
     ghost use Rattle.row_tables.specs.Arrived.{by_name};
     ghost use Rattle.row_tables.specs.Namespaces.{full_key, all_rows};
-    ghost use Rattle.row_tables.specs.Came.{HaveCame};
+    ghost use Rattle.row_tables.specs.ArrivedNamespaces.{HaveArrived};
     ghost use Rattle.row_tables.specs.Starts.{AreStarts};
 
     ghost Value = { List R };
 
     ghost view = { λ p. all_rows p.groups.now };
 
-    ghost invariant = { λ p. HaveCame (full_key K.texts_of R.name_of R.group_of)
+    ghost invariant = { λ p. HaveArrived (full_key K.texts_of R.name_of R.group_of)
         (by_name K.texts_of R.name_of) R.group_of p.groups.now p.count
         × AreStarts p.starts.items p.groups.now };
 }
@@ -47,7 +47,7 @@ impl<'a, K: Named, R: GroupedRow<K>> PlacesByNamespace<'a, K, R> {
         count: usize,
         alloc: Global,
     ) -> Result<PlacesByNamespace<'a, K, R>, Fault>
-        requires { HaveCame (full_key K.texts_of R.name_of R.group_of)
+        requires { HaveArrived (full_key K.texts_of R.name_of R.group_of)
             (by_name K.texts_of R.name_of) R.group_of groups.now count }
         ensures fault { Refuses result None }
         ensures ok { IfOk result (λ places. places ≡ all_rows groups.now) }

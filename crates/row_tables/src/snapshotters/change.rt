@@ -4,7 +4,7 @@ ghost use Rattle.meta_types.specs.Keys.{Key, row_at, has_row, add_row, remove_ro
 ghost use Rattle.meta_types.specs.Faults.{Refuses, least_of};
 ghost use Rattle.row_tables.specs.Arrived.{sorted, Becomes};
 ghost use Rattle.row_tables.specs.Namespaces.{full_key, layered_key, all_rows, IsHome};
-ghost use Rattle.row_tables.specs.Came.{AreCame};
+ghost use Rattle.row_tables.specs.ArrivedNamespaces.{AreArrived};
 
 use crate::arrived_by_namespace::ArrivedByNamespace;
 use crate::named::Named;
@@ -19,7 +19,7 @@ fn home_of<K: Named, R: SnapshotterRow<K>>(
     alloc: Global,
     ns: &ShortName,
 ) -> Result<usize, Fault>
-    requires { AreCame (layered_key K.texts_of R.name_of R.group_of R.ns_of)
+    requires { AreArrived (layered_key K.texts_of R.name_of R.group_of R.ns_of)
         (full_key K.texts_of R.name_of R.group_of)
         R.ns_of groups.old.items }
     ensures fault { Refuses result None }
@@ -30,7 +30,7 @@ fn home_of<K: Named, R: SnapshotterRow<K>>(
         (sorted (layered_key K.texts_of R.name_of R.group_of R.ns_of) (all_rows groups.old.items))
         ≡ false) }
     ensures same { all_rows groups.new.items ≡ all_rows groups.old.items }
-    ensures groups { AreCame (layered_key K.texts_of R.name_of R.group_of R.ns_of)
+    ensures groups { AreArrived (layered_key K.texts_of R.name_of R.group_of R.ns_of)
         (full_key K.texts_of R.name_of R.group_of) R.ns_of groups.new.items }
 {
     match search(groups, ns) {
@@ -72,7 +72,7 @@ pub(crate) fn add_new_row<K: Named, R: SnapshotterRow<K>>(
     alloc: Global,
     row: R,
 ) -> Result<(), Fault>
-    requires { AreCame (layered_key K.texts_of R.name_of R.group_of R.ns_of)
+    requires { AreArrived (layered_key K.texts_of R.name_of R.group_of R.ns_of)
         (full_key K.texts_of R.name_of R.group_of)
         R.ns_of groups.old.items }
     ensures fault { Refuses result (least_of false false
@@ -86,7 +86,7 @@ pub(crate) fn add_new_row<K: Named, R: SnapshotterRow<K>>(
         (sorted (layered_key K.texts_of R.name_of R.group_of R.ns_of)
         (all_rows groups.old.items))) }
     ensures err { OnErr result (all_rows groups.new.items ≡ all_rows groups.old.items) }
-    ensures groups { AreCame (layered_key K.texts_of R.name_of R.group_of R.ns_of)
+    ensures groups { AreArrived (layered_key K.texts_of R.name_of R.group_of R.ns_of)
         (full_key K.texts_of R.name_of R.group_of) R.ns_of groups.new.items }
 {
     let home = home_of(groups, alloc, row.ns())?;
@@ -101,7 +101,7 @@ pub(crate) fn take_row<K: Named, R: SnapshotterRow<K>>(
     snapshotter: &ShortName,
     name: &K,
 ) -> Option<R>
-    requires { AreCame (layered_key K.texts_of R.name_of R.group_of R.ns_of)
+    requires { AreArrived (layered_key K.texts_of R.name_of R.group_of R.ns_of)
         (full_key K.texts_of R.name_of R.group_of)
         R.ns_of groups.old.items }
     ensures row { result ≡ row_at (layered_key K.texts_of R.name_of R.group_of R.ns_of)
@@ -112,7 +112,7 @@ pub(crate) fn take_row<K: Named, R: SnapshotterRow<K>>(
         ≡ remove_row (layered_key K.texts_of R.name_of R.group_of R.ns_of)
         (ns.now ∷ snapshotter.now ∷ K.texts_of name.now)
         (sorted (layered_key K.texts_of R.name_of R.group_of R.ns_of) (all_rows groups.old.items)) }
-    ensures groups { AreCame (layered_key K.texts_of R.name_of R.group_of R.ns_of)
+    ensures groups { AreArrived (layered_key K.texts_of R.name_of R.group_of R.ns_of)
         (full_key K.texts_of R.name_of R.group_of) R.ns_of groups.new.items }
 {
     match search(groups, ns) {
@@ -145,7 +145,7 @@ pub(crate) fn change_row<K: Named, R: SnapshotterRow<K>, A, C: Change<K, R, A>>(
     name: &K,
     change: C,
 ) -> Option<A>
-    requires groups { AreCame (layered_key K.texts_of R.name_of R.group_of R.ns_of)
+    requires groups { AreArrived (layered_key K.texts_of R.name_of R.group_of R.ns_of)
         (full_key K.texts_of R.name_of R.group_of) R.ns_of groups.old.items }
     requires keeps_group { (row : R) (answer : A) (after : R) → C.changes change row answer after
         → R.group_of after ≡ R.group_of row }
@@ -163,7 +163,7 @@ pub(crate) fn change_row<K: Named, R: SnapshotterRow<K>, A, C: Change<K, R, A>>(
         (sorted (layered_key K.texts_of R.name_of R.group_of R.ns_of) (all_rows groups.old.items))
         (sorted (layered_key K.texts_of R.name_of R.group_of R.ns_of)
         (all_rows groups.new.items))) }
-    ensures groups { AreCame (layered_key K.texts_of R.name_of R.group_of R.ns_of)
+    ensures groups { AreArrived (layered_key K.texts_of R.name_of R.group_of R.ns_of)
         (full_key K.texts_of R.name_of R.group_of) R.ns_of groups.new.items }
 {
     match search(groups, ns) {

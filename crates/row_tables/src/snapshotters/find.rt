@@ -5,7 +5,7 @@ ghost use Rattle.meta_types.specs.Faults.{Refuses};
 ghost use Rattle.meta_types.specs.Keys.{is_key, row_at, has_row};
 ghost use Rattle.row_tables.specs.Arrived.{sorted};
 ghost use Rattle.row_tables.specs.Namespaces.{full_key, layered_key, all_rows};
-ghost use Rattle.row_tables.specs.Came.{AreCame};
+ghost use Rattle.row_tables.specs.ArrivedNamespaces.{AreArrived};
 ghost use Rattle.row_tables.specs.Starts.{AreStarts};
 
 use crate::arrived_by_namespace::ArrivedByNamespace;
@@ -58,7 +58,7 @@ pub(crate) fn place_of<K: Named, R: SnapshotterRow<K>>(
     snapshotter: &ShortName,
     name: &K,
 ) -> Option<usize>
-    requires are { AreCame (layered_key K.texts_of R.name_of R.group_of R.ns_of)
+    requires are { AreArrived (layered_key K.texts_of R.name_of R.group_of R.ns_of)
         (full_key K.texts_of R.name_of R.group_of)
         R.ns_of groups.now }
     requires fits { length (all_rows groups.now) < 2 ^ 64 }
@@ -83,7 +83,7 @@ pub(crate) fn row_in<'a, K: Named, R: SnapshotterRow<K>>(
     snapshotter: &ShortName,
     name: &K,
 ) -> Option<&'a R>
-    requires { AreCame (layered_key K.texts_of R.name_of R.group_of R.ns_of)
+    requires { AreArrived (layered_key K.texts_of R.name_of R.group_of R.ns_of)
         (full_key K.texts_of R.name_of R.group_of)
         R.ns_of groups.now }
     ensures { option_copied result ≡ row_at (layered_key K.texts_of R.name_of R.group_of R.ns_of)
@@ -103,7 +103,7 @@ pub(crate) fn has_row<K: Named, R: SnapshotterRow<K>>(
     snapshotter: &ShortName,
     name: &K,
 ) -> bool
-    requires { AreCame (layered_key K.texts_of R.name_of R.group_of R.ns_of)
+    requires { AreArrived (layered_key K.texts_of R.name_of R.group_of R.ns_of)
         (full_key K.texts_of R.name_of R.group_of)
         R.ns_of groups.now }
     ensures { result ≡ has_row (layered_key K.texts_of R.name_of R.group_of R.ns_of)
@@ -116,13 +116,13 @@ pub(crate) fn has_row<K: Named, R: SnapshotterRow<K>>(
     }
 }
 
-/// The rows of a snapshotter in a namespace, as they came.
+/// The rows of a snapshotter in a namespace, as they arrived.
 pub(crate) fn rows_of<'a, K: Named, R: SnapshotterRow<K>>(
     groups: &'a [(ShortName, ArrivedByNamespace<K, R>)],
     ns: &ShortName,
     snapshotter: &ShortName,
 ) -> Option<&'a [R]>
-    requires { AreCame (layered_key K.texts_of R.name_of R.group_of R.ns_of)
+    requires { AreArrived (layered_key K.texts_of R.name_of R.group_of R.ns_of)
         (full_key K.texts_of R.name_of R.group_of) R.ns_of groups.now }
     ensures rows { IfSome result (λ rows. rows.now ≡ filter
         (λ row. bytes_eq ns.now (R.ns_of row) && bytes_eq snapshotter.now (R.group_of row))
@@ -142,7 +142,7 @@ pub(crate) fn any_in<K: Named, R: SnapshotterRow<K>>(
     groups: &[(ShortName, ArrivedByNamespace<K, R>)],
     ns: &ShortName,
 ) -> bool
-    requires { AreCame (layered_key K.texts_of R.name_of R.group_of R.ns_of)
+    requires { AreArrived (layered_key K.texts_of R.name_of R.group_of R.ns_of)
         (full_key K.texts_of R.name_of R.group_of)
         R.ns_of groups.now }
     ensures { result ≡ list_any (λ row. bytes_eq ns.now (R.ns_of row)) (sorted

@@ -3,7 +3,7 @@ ghost use Rattle.std.specs.Prelude.{◌≡◌, length};
 ghost use Rattle.row_tables.specs.Arrived.{kept};
 ghost use Rattle.row_tables.specs.Visiting.{gone, all_visited};
 ghost use Rattle.row_tables.specs.Namespaces.{full_key, layered_key, all_rows};
-ghost use Rattle.row_tables.specs.Came.{AreCame};
+ghost use Rattle.row_tables.specs.ArrivedNamespaces.{AreArrived};
 
 use crate::arrived_by_namespace::ArrivedByNamespace;
 use crate::named::Named;
@@ -15,11 +15,11 @@ pub(crate) fn retain_all<K: Named, R: SnapshotterRow<K>>(
     groups: &mut Vec<(ShortName, ArrivedByNamespace<K, R>)>,
     marks: &[bool],
 )
-    requires groups { AreCame (layered_key K.texts_of R.name_of R.group_of R.ns_of)
+    requires groups { AreArrived (layered_key K.texts_of R.name_of R.group_of R.ns_of)
         (full_key K.texts_of R.name_of R.group_of) R.ns_of groups.old.items }
     requires length { length marks.now ≡ length (all_rows groups.old.items) }
     ensures rows { all_rows groups.new.items ≡ kept marks.now (all_rows groups.old.items) }
-    ensures groups { AreCame (layered_key K.texts_of R.name_of R.group_of R.ns_of)
+    ensures groups { AreArrived (layered_key K.texts_of R.name_of R.group_of R.ns_of)
         (full_key K.texts_of R.name_of R.group_of) R.ns_of groups.new.items }
 {
     retain_rows(groups, marks);
@@ -29,11 +29,11 @@ fn retain_rows<K: Named, R: SnapshotterRow<K>>(
     groups: &mut [(ShortName, ArrivedByNamespace<K, R>)],
     marks: &[bool],
 )
-    requires groups { AreCame (layered_key K.texts_of R.name_of R.group_of R.ns_of)
+    requires groups { AreArrived (layered_key K.texts_of R.name_of R.group_of R.ns_of)
         (full_key K.texts_of R.name_of R.group_of) R.ns_of groups.old }
     requires length { length marks.now ≡ length (all_rows groups.old) }
     ensures rows { all_rows groups.new ≡ kept marks.now (all_rows groups.old) }
-    ensures groups { AreCame (layered_key K.texts_of R.name_of R.group_of R.ns_of)
+    ensures groups { AreArrived (layered_key K.texts_of R.name_of R.group_of R.ns_of)
         (full_key K.texts_of R.name_of R.group_of) R.ns_of groups.new }
 {
     let mut rest = marks;

@@ -3,7 +3,7 @@ ghost use Rattle.std.specs.Prelude.{◌≡◌, map, None, IfOk, filter, bytes_eq
 ghost use Rattle.meta_types.specs.Faults.{Refuses};
 ghost use Rattle.row_tables.specs.Arrived.{sorted};
 ghost use Rattle.row_tables.specs.Namespaces.{full_key, layered_key, all_rows};
-ghost use Rattle.row_tables.specs.Came.{AreCame, listed};
+ghost use Rattle.row_tables.specs.ArrivedNamespaces.{AreArrived, listed};
 
 use crate::arrived_by_namespace::ArrivedByNamespace;
 use crate::named::Named;
@@ -18,7 +18,7 @@ pub(crate) fn rows_in<'a, K: Named, R: SnapshotterRow<K>>(
     alloc: Global,
     ns: &ShortName,
 ) -> Result<Vec<&'a R>, Fault>
-    requires { AreCame (layered_key K.texts_of R.name_of R.group_of R.ns_of)
+    requires { AreArrived (layered_key K.texts_of R.name_of R.group_of R.ns_of)
         (full_key K.texts_of R.name_of R.group_of)
         R.ns_of groups.now }
     ensures fault { Refuses result None }
@@ -39,7 +39,7 @@ pub(crate) fn rows_of<'a, K: Named, R: SnapshotterRow<K>>(
     ns: &ShortName,
     snapshotter: &ShortName,
 ) -> Result<Vec<&'a R>, Fault>
-    requires { AreCame (layered_key K.texts_of R.name_of R.group_of R.ns_of)
+    requires { AreArrived (layered_key K.texts_of R.name_of R.group_of R.ns_of)
         (full_key K.texts_of R.name_of R.group_of) R.ns_of groups.now }
     ensures fault { Refuses result None }
     ensures ok { IfOk result (λ list. map (λ row. row.now) list.items ≡ filter
@@ -70,7 +70,7 @@ pub(crate) fn rows<'a, K: Named, R: SnapshotterRow<K>>(
 }
 
 /// All rows, in the order of their places.
-pub(crate) fn rows_came<'a, K: Named, R: SnapshotterRow<K>>(
+pub(crate) fn rows_arrived<'a, K: Named, R: SnapshotterRow<K>>(
     groups: &'a [(ShortName, ArrivedByNamespace<K, R>)],
     alloc: Global,
 ) -> Result<Vec<&'a R>, Fault>
@@ -79,7 +79,7 @@ pub(crate) fn rows_came<'a, K: Named, R: SnapshotterRow<K>>(
 {
     let mut list = Vec::new(alloc);
     for group in groups {
-        let mut rows = group.1.list_came(alloc)?;
+        let mut rows = group.1.list_arrived(alloc)?;
         list.append(&mut rows)?;
     }
     Ok(list)

@@ -5,7 +5,7 @@ ghost use Rattle.meta_types.specs.Keys.{is_key};
 ghost use Rattle.meta_types.specs.Faults.{Refuses};
 ghost use Rattle.row_tables.specs.Arrived.{same_key};
 ghost use Rattle.row_tables.specs.Namespaces.{full_key, layered_key, all_rows};
-ghost use Rattle.row_tables.specs.Came.{HaveCame};
+ghost use Rattle.row_tables.specs.ArrivedNamespaces.{HaveArrived};
 
 use crate::arrived_by_namespace::ArrivedByNamespace;
 use crate::named::Named;
@@ -29,14 +29,14 @@ pub struct PlacesBySnapshotter<'a, K: Named, R: SnapshotterRow<K>> {
 impl<'a, K: Named, R: SnapshotterRow<K>> Model for PlacesBySnapshotter<'a, K, R> {
     ghost use Rattle.std.specs.Prelude.{◌≡◌, List, map};
     ghost use Rattle.row_tables.specs.Namespaces.{full_key, layered_key, all_rows};
-    ghost use Rattle.row_tables.specs.Came.{HaveCame};
+    ghost use Rattle.row_tables.specs.ArrivedNamespaces.{HaveArrived};
     ghost use Rattle.row_tables.specs.Starts.{AreStarts};
 
     ghost Value = { List R };
 
     ghost view = { λ p. all_rows p.groups.now };
 
-    ghost invariant = { λ p. HaveCame (layered_key K.texts_of R.name_of R.group_of R.ns_of)
+    ghost invariant = { λ p. HaveArrived (layered_key K.texts_of R.name_of R.group_of R.ns_of)
         (full_key K.texts_of R.name_of R.group_of) R.ns_of p.groups.now p.count
         × AreStarts p.starts.items p.groups.now
         × (p.each.items ≡ map (λ group. group.1) p.groups.now) };
@@ -49,7 +49,7 @@ impl<'a, K: Named, R: SnapshotterRow<K>> PlacesBySnapshotter<'a, K, R> {
         count: usize,
         alloc: Global,
     ) -> Result<PlacesBySnapshotter<'a, K, R>, Fault>
-        requires { HaveCame (layered_key K.texts_of R.name_of R.group_of R.ns_of)
+        requires { HaveArrived (layered_key K.texts_of R.name_of R.group_of R.ns_of)
             (full_key K.texts_of R.name_of R.group_of) R.ns_of groups.now count }
         ensures fault { Refuses result None }
         ensures ok { IfOk result (λ places. places ≡ all_rows groups.now) }

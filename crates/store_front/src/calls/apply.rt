@@ -6,7 +6,7 @@ ghost use Rattle.meta_types.specs.Requests.{outcome};
 ghost use Rattle.request_core.specs.Follows.{Fails};
 ghost use Rattle.store_front.specs.KeptAnswers.{kept_if, kept_reply, Takes, log_after, list_after, reply_failures};
 
-use crate::event::both::Events;
+use crate::event::pairs::Events;
 use crate::event::room::{keep_reply, make_room};
 use crate::keeps::Keeps;
 use crate::locked::Locked;

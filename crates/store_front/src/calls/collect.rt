@@ -5,7 +5,7 @@ ghost use Rattle.collection.specs.Refused.{CollectFails};
 ghost use Rattle.store_front.specs.KeptAnswers.{kept_if, kept_report, Takes, log_after, list_after, report_failures};
 ghost use Rattle.meta_types.specs.Sound.{IsSound};
 
-use crate::event::both::Events;
+use crate::event::pairs::Events;
 use crate::event::room::{keep_report, make_room, report_alone, report_rooms};
 use crate::keeps::Keeps;
 use crate::locked::Locked;

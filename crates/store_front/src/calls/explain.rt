@@ -2,10 +2,9 @@
 ghost use Rattle.std.specs.Prelude.{◌≡◌, IfOk, IfErr};
 ghost use Rattle.meta_types.specs.Explanations.{is_asked, explain_fault, IsExplanation};
 ghost use Rattle.meta_types.specs.Faults.{Refuses};
-ghost use Rattle.meta_types.specs.Histories.{IsLegal};
 ghost use Rattle.meta_types.specs.Rows.{State as Kept};
 ghost use Rattle.store_front.specs.Parts.{IsPart};
-ghost use Rattle.store_front.specs.Questions.{ExplainFails};
+ghost use Rattle.store_front.specs.Questions.{CopyFails, AnswersOf};
 
 use crate::calls::plan_copy::Copied;
 use crate::history::base::History;
@@ -20,10 +19,10 @@ use std::sync::Wait;
 use std::sync::ledger::Ledger;
 use std::thread::Threads;
 
-/// What keeps a row, and the history of the store that it was asked of.
+/// What keeps a row, or why that isn't answered, and the history of the store that it was asked of.
 #[derive(Drop)]
 pub struct Explained {
-    pub explanation: Explanation,
+    pub answer: Result<Explanation, Fault>,
     pub cut: History,
 }
 
@@ -48,7 +47,8 @@ impl<L: Ledger, S: SnapBackend, B: BlobBackend, I: IngestBackend, K: Keeps> Lock
 
 impl<L: Ledger, S: SnapBackend, B: BlobBackend, I: IngestBackend> Store<L, S, B, I> {
     /// What keeps a row at a moment. Records and history are copied under one hold of the lock; the
-    /// question is answered after its release. It is no entry.
+    /// question is answered after its release. It is no entry. What the store refuses stands in the
+    /// answer, beside the history that leads to it; only the copies are refused here.
     pub fn explain<R: Threads + Wait + Sync>(
         &self,
         rt: &R,
@@ -59,13 +59,14 @@ impl<L: Ledger, S: SnapBackend, B: BlobBackend, I: IngestBackend> Store<L, S, B,
         at: Instant,
     ) -> Result<Explained, Fault>
         ensures own { IfOk result (λ e. IsPart e.cut.log session.now) }
-        ensures explained { IfOk result (λ e. (state : Kept) × IsLegal e.cut.base e.cut.log state
-            × IsExplanation state.records at.0 (is_asked ns.now object.now)
-            e.explanation.kept e.explanation.path.items) }
-        ensures fault { IfErr result (λ f. ExplainFails f ns.now object.now session.now) }
+        ensures explained { IfOk result (λ e. AnswersOf e.cut.base e.cut.log (λ (state : Kept).
+            Refuses e.answer (explain_fault state.records ns.now object.now)
+            × IfOk e.answer (λ told. IsExplanation state.records at.0
+            (is_asked ns.now object.now) told.kept told.path.items))) }
+        ensures fault { IfErr result (λ f. CopyFails f session.now) }
     {
         let Copied { cut, now } = self.inner.lock(rt).copies(alloc, session)?;
-        let explanation = explaining::explain(rt, alloc, &now.records, ns, object, at)?;
-        Ok(Explained { explanation, cut })
+        let answer = explaining::explain(rt, alloc, &now.records, ns, object, at);
+        Ok(Explained { answer, cut })
     }
 }

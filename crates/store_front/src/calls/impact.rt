@@ -1,11 +1,10 @@
 //! What would go without a row: questions, which are no entries.
 ghost use Rattle.std.specs.Prelude.{◌≡◌, IfOk, IfErr};
 ghost use Rattle.meta_types.specs.Faults.{Refuses};
-ghost use Rattle.meta_types.specs.Histories.{IsLegal};
 ghost use Rattle.meta_types.specs.Impacts.{impact_fault, removed, IsImpact};
 ghost use Rattle.meta_types.specs.Rows.{State as Kept};
 ghost use Rattle.store_front.specs.Parts.{IsPart};
-ghost use Rattle.store_front.specs.Questions.{ImpactFails};
+ghost use Rattle.store_front.specs.Questions.{CopyFails, AnswersOf};
 
 use crate::calls::plan_copy::Copied;
 use crate::history::base::History;
@@ -22,10 +21,11 @@ use std::sync::Wait;
 use std::sync::ledger::Ledger;
 use std::thread::Threads;
 
-/// What would go without a row, and the history of the store that it was asked of.
+/// What would go without a row, or why that isn't answered, and the history of the store that it was
+/// asked of.
 #[derive(Drop)]
 pub struct Foreseen {
-    pub impact: Impact,
+    pub answer: Result<Impact, Fault>,
     pub cut: History,
 }
 
@@ -66,7 +66,9 @@ impl<L: Ledger, S: SnapBackend, B: BlobBackend, I: IngestBackend, K: Keeps> Lock
 
 impl<L: Ledger, S: SnapBackend, B: BlobBackend, I: IngestBackend> Store<L, S, B, I> {
     /// What would go at a moment without a row. Records, lists and history are copied under one hold
-    /// of the lock; the question is answered after its release. It is no entry.
+    /// of the lock; the question is answered after its release. It is no entry. What the store
+    /// refuses stands in the answer, beside the history that leads to it; only the copies are refused
+    /// here.
     pub fn impact<R: Threads + Wait + Sync>(
         &self,
         rt: &R,
@@ -77,12 +79,14 @@ impl<L: Ledger, S: SnapBackend, B: BlobBackend, I: IngestBackend> Store<L, S, B,
         at: Instant,
     ) -> Result<Foreseen, Fault>
         ensures own { IfOk result (λ f. IsPart f.cut.log session.now) }
-        ensures foreseen { IfOk result (λ f. (state : Kept) × IsLegal f.cut.base f.cut.log state
-            × IsImpact state (removed state ns object).after at.0 f.impact) }
-        ensures fault { IfErr result (λ f. ImpactFails f ns object session.now) }
+        ensures foreseen { IfOk result (λ f. AnswersOf f.cut.base f.cut.log (λ (state : Kept).
+            Refuses f.answer (impact_fault state ns object)
+            × IfOk f.answer (λ impact. IsImpact state (removed state ns object).after at.0
+            impact))) }
+        ensures fault { IfErr result (λ f. CopyFails f session.now) }
     {
         let Copied { cut, now } = self.inner.lock(rt).copies(alloc, session)?;
-        let impact = collection::impact_of_lists(
+        let answer = collection::impact_of_lists(
             rt,
             alloc,
             &now.records,
@@ -90,7 +94,7 @@ impl<L: Ledger, S: SnapBackend, B: BlobBackend, I: IngestBackend> Store<L, S, B,
             ns,
             object,
             at,
-        )?;
-        Ok(Foreseen { impact, cut })
+        );
+        Ok(Foreseen { answer, cut })
     }
 }

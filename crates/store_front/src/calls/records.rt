@@ -1,4 +1,4 @@
-//! The records of a store.
+//! The records of a store, and how many blobs it holds.
 ghost use Rattle.std.specs.Prelude.{◌≡◌};
 
 use crate::keeps::Keeps;
@@ -16,5 +16,10 @@ impl<L: Ledger, S: SnapBackend, B: BlobBackend, I: IngestBackend, K: Keeps> Lock
         ensures profile { result.now.profile ≡ self.now.store.state.records.profile }
     {
         self.state.records()
+    }
+
+    /// How many blobs the backend holds.
+    pub fn count_blobs(&self) -> usize {
+        self.state.backends.blobs().digests().len()
     }
 }

@@ -1,9 +1,9 @@
 //! A session's part of the log, beside its list.
 ghost use Rattle.std.specs.Prelude.{◌≡◌, ◌↔◌, IsTrue, Some, slice_get, MatchOption};
 ghost use Rattle.store_front.specs.Entries.{event_of, answer_of};
-ghost use Rattle.store_front.specs.Parts.{told_of, part, DifferFirst, IsPart};
+ghost use Rattle.store_front.specs.Parts.{session_entry_of, part, DifferFirst, IsPart};
 
-use crate::event::entry::{Entry, Told};
+use crate::event::entry::{Entry, SessionEntry};
 use crate::event::event::{Answer, Event};
 use crate::session::Session;
 use meta_types::Reply;
@@ -45,18 +45,18 @@ impl Answer {
     }
 }
 
-impl Told {
+impl SessionEntry {
     /// Whether it is the entry's event and answer.
     pub fn is_of(&self, entry: &Entry) -> bool
-        ensures { IsTrue result ↔ (self.now ≡ told_of entry.now) }
+        ensures { IsTrue result ↔ (self.now ≡ session_entry_of entry.now) }
     {
         self.event.is(&entry.event) && self.answer.is(&entry.answer)
     }
 }
 
 // Whether the entry stands at this place of a list.
-pub(crate) fn stands_at(list: &[Told], place: usize, entry: &Entry) -> bool
-    ensures { IsTrue result ↔ (slice_get list.now place ≡ Some (told_of entry.now)) }
+pub(crate) fn stands_at(list: &[SessionEntry], place: usize, entry: &Entry) -> bool
+    ensures { IsTrue result ↔ (slice_get list.now place ≡ Some (session_entry_of entry.now)) }
 {
     if place < list.len() {
         list[place].is_of(entry)
@@ -66,7 +66,7 @@ pub(crate) fn stands_at(list: &[Told], place: usize, entry: &Entry) -> bool
 }
 
 // Where the list and the part of the log differ first.
-fn mismatch(number: u32, list: &[Told], log: &[Entry]) -> Option<usize>
+fn mismatch(number: u32, list: &[SessionEntry], log: &[Entry]) -> Option<usize>
     ensures { MatchOption result (part number log.now ≡ list.now)
         (DifferFirst (part number log.now) list.now) }
 {

@@ -1,7 +1,7 @@
 //! Whether sessions fit the log.
 ghost use Rattle.std.specs.Prelude.{◌≡◌, ◌<◌, ◌==◌, All, OnOk, IfErr, IfOk, MatchOption, None, count_by, length, slice_index_or};
 ghost use Rattle.meta_types.specs.Faults.{Refuses};
-ghost use Rattle.store_front.specs.Told.{Seat};
+ghost use Rattle.store_front.specs.SessionEntries.{Seat};
 ghost use Rattle.store_front.specs.Finish.{AreEach, AreOfThese, OneDiffers, FinishFails};
 ghost use Rattle.store_front.specs.Parts.{IsPart, AreOpened};
 ghost use Rattle.store_front.specs.Cursors.{AreEnded, IsShort};

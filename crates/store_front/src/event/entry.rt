@@ -26,13 +26,13 @@ impl Model for Entry {
 
 /// An event and its answer, as a session keeps them.
 #[derive(Drop)]
-pub struct Told {
+pub struct SessionEntry {
     pub event: Event,
     pub answer: Answer,
 }
 
-impl Model for Told {
-    ghost use Rattle.store_front.specs.Told.{Told as Line};
+impl Model for SessionEntry {
+    ghost use Rattle.store_front.specs.SessionEntries.{SessionEntry as Line};
     ghost use Rattle.store_front.specs.Entries.{event_of, answer_of};
 
     ghost Value = { Line };

@@ -6,10 +6,10 @@ ghost use Rattle.meta_types.specs.declared.fault.Fault.TheVariants.{OutOfMemory}
 ghost use Rattle.meta_types.specs.declared.reply.Reply.TheVariants as P;
 ghost use Rattle.store_front.specs.KeptAnswers.{kept_reply, kept_report, log_after, list_after};
 
-use crate::event::both::{Answers, Events};
-use crate::event::entry::{Entry, Told};
+use crate::event::entry::{Entry, SessionEntry};
 use crate::event::event::Answer;
 use crate::event::kept_report::KeptReport;
+use crate::event::pairs::{Answers, Events};
 use collection::{Copies, Kept, Reports, Unkept};
 use gc_report::Report;
 use meta_types::{Fault, Reply};
@@ -17,7 +17,7 @@ use std::alloc::Global;
 use std::sync::ledger::{Book, Ledger, Share};
 
 // Room for one entry more in the log, and in the session's list.
-pub(crate) fn make_room(log: &mut Vec<Entry>, list: &mut Vec<Told>) -> Result<(), Fault>
+pub(crate) fn make_room(log: &mut Vec<Entry>, list: &mut Vec<SessionEntry>) -> Result<(), Fault>
     ensures fault { Refuses result None }
     ensures log { log.new.items ≡ log.old.items }
     ensures list { list.new.items ≡ list.old.items }
@@ -42,7 +42,7 @@ pub(crate) fn report_rooms(alloc: Global) -> Result<(KeptReport, KeptReport), Fa
 // list, and counts it.
 fn put<L: Ledger>(
     log: &mut Vec<Entry>,
-    list: &mut Vec<Told>,
+    list: &mut Vec<SessionEntry>,
     book: &mut Book<L>,
     share: &mut Share<L>,
     number: u32,
@@ -67,7 +67,7 @@ fn put<L: Ledger>(
         event: events.log,
         answer: answers.log,
     });
-    list.push_reserved(Told {
+    list.push_reserved(SessionEntry {
         event: events.list,
         answer: answers.list,
     });
@@ -79,7 +79,7 @@ fn put<L: Ledger>(
 pub(crate) fn keep_reply<L: Ledger>(
     alloc: Global,
     log: &mut Vec<Entry>,
-    list: &mut Vec<Told>,
+    list: &mut Vec<SessionEntry>,
     book: &mut Book<L>,
     share: &mut Share<L>,
     number: u32,
@@ -110,7 +110,7 @@ pub(crate) fn keep_reply<L: Ledger>(
 // The entry of a report, or of a refusal that is kept, in the room that is there.
 pub(crate) fn keep_report<L: Ledger>(
     log: &mut Vec<Entry>,
-    list: &mut Vec<Told>,
+    list: &mut Vec<SessionEntry>,
     book: &mut Book<L>,
     share: &mut Share<L>,
     number: u32,

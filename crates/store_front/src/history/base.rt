@@ -43,7 +43,7 @@ pub struct History {
 }
 
 impl Model for History {
-    ghost use Rattle.store_front.specs.Told.{Course};
+    ghost use Rattle.store_front.specs.SessionEntries.{Course};
 
     ghost Value = { Course };
 

@@ -4,7 +4,7 @@ use Rattle.table_sweep.specs.BlobMarks.{AreBlobMarks}
 use Rattle.backend_sweep.specs.Fated.{AllFates, removed_of, failed_of}
 use Rattle.backend_sweep.specs.Shards.{is_number}
 use Rattle.backend_sweep.specs.Singles.{AreHeldOnce}
-use Rattle.backend_sweep.specs.Lanes.{lane_for, fate_of}
+use Rattle.backend_sweep.specs.ShardPlans.{shard_plan_for, fate_of}
 use Rattle.backend_sweep.specs.Parts.{StandBySnapshotter}
 use Rattle.backend_sweep.proofs.Allowed.{may_sweep}
 use Rattle.backend_sweep.proofs.Fated.{removed_by, failed_by}
@@ -14,8 +14,8 @@ use Rattle.backend_sweep.proofs.Backs.{held_blobs, held_ingests, ready, news_apa
 use Rattle.backend_sweep.proofs.backends.sweep_shards.Goals as goal
 
 -- the plan's names stand by snapshotter
-pub lanes_and_room-requires-after_bounds : goal.lanes_and_room-requires-after_bounds
-lanes_and_room-requires-after_bounds g c κs within =
+pub shard_plans_and_room-requires-after_bounds : goal.shard_plans_and_room-requires-after_bounds
+shard_plans_and_room-requires-after_bounds g c κs within =
     let named : c.deref-2.result.now ≡ c.args.plan.now.report.backend.snapshots = search rules in
     subst StandBySnapshotter (sym named) (names_stand _ _ (may_sweep _ _ c.requires.planned))
 
@@ -23,7 +23,7 @@ pub sweep_beside-shards-requires-clause-ready : goal.sweep_beside-shards-require
 sweep_beside-shards-requires-clause-ready g c κs within =
     let named : c.deref-2.result.now ≡ c.args.plan.now.report.backend.snapshots = search rules in
     ready g.S.SnapBackend.contents g.S.SnapBackend.fails c.args.backends.now.shards _ _ c.args.plan.now.report.backend (may_sweep _ _ c.requires.planned) c.take_shards-shards.ensures.order c.take_shards-shards.result.items c.in-Ok.made.0.items c.take_shards-shards.ensures.taken
-    (c.in-Ok.ensures.lanes ∙ (λ i. map (λ x. lane_for (named i) x.0) (c.deref.ensures.value i)))
+    (c.in-Ok.ensures.shard_plans ∙ (λ i. map (λ x. shard_plan_for (named i) x.0) (c.deref.ensures.value i)))
 
 pub sweep_beside-shards-requires-clause-blobs : goal.sweep_beside-shards-requires-clause-blobs
 sweep_beside-shards-requires-clause-blobs g c κs within =
@@ -34,7 +34,7 @@ sweep_beside-shards-requires-clause-blobs g c κs within =
 pub sweep_beside-shards-requires-clause-marks : goal.sweep_beside-shards-requires-clause-marks
 sweep_beside-shards-requires-clause-marks g c κs within =
     let back_is : c.take_shards-shards.new.self.blobs ≡ c.args.backends.now.blobs = ap (λ b. b.blobs) c.take_shards-shards.ensures.none in
-    subst (λ b. AreBlobMarks c.args.plan.now.report.backend.blobs (g.B.BlobBackend.came b) c.args.plan.now.blobs.items) (sym back_is) c.requires.marks
+    subst (λ b. AreBlobMarks c.args.plan.now.report.backend.blobs (g.B.BlobBackend.arrived b) c.args.plan.now.blobs.items) (sym back_is) c.requires.marks
 
 pub sweep_beside-shards-requires-clause-ingests : goal.sweep_beside-shards-requires-clause-ingests
 sweep_beside-shards-requires-clause-ingests g c κs within =
@@ -46,7 +46,7 @@ pub put_shards-requires-2-after_bounds : goal.put_shards-requires-2-after_bounds
 put_shards-requires-2-after_bounds g c κs within =
     let named : c.deref-2.result.now ≡ c.args.plan.now.report.backend.snapshots = search rules in
     news_apart g.S.SnapBackend.contents g.S.SnapBackend.fails c.args.backends.now.shards _ _ c.args.plan.now.report.backend (may_sweep _ _ c.requires.planned) c.take_shards-shards.ensures.order c.take_shards-shards.result.items c.in-Ok.made.0.items c.take_shards-shards.ensures.taken
-    (c.in-Ok.ensures.lanes ∙ (λ i. map (λ x. lane_for (named i) x.0) (c.deref.ensures.value i)))
+    (c.in-Ok.ensures.shard_plans ∙ (λ i. map (λ x. shard_plan_for (named i) x.0) (c.deref.ensures.value i)))
     c.sweep_beside-shards.result.0.items c.sweep_beside-shards.result.1.items c.sweep_beside-shards.ensures.length.0 c.sweep_beside-shards.ensures.length.1 c.sweep_beside-shards.ensures.each
 
 pub returns-clause-ok : goal.returns-clause-ok
@@ -60,7 +60,7 @@ returns-clause-ok g c =
     let news_are : back.shards ≡ map (shown g.S.SnapBackend.contents g.S.SnapBackend.fails) c.sweep_beside-shards.result.0.items = ap (λ b. b.shards) c.put_shards-2.ensures in
     let set : fates.snapshots ≡ map (fate_of c.sweep_beside-shards.result.1.items) names.snapshots = ap (λ f. f.snapshots) c.set_snapshots.ensures.set ∙ (λ i. map (fate_of (c.deref-3.ensures.value i)) names.snapshots) in
     swept_by g.S.SnapBackend.contents g.S.SnapBackend.fails c.args.backends.now.shards _ _ c.args.plan.now.report.backend (may_sweep _ _ c.requires.planned) c.take_shards-shards.ensures.order c.take_shards-shards.result.items c.in-Ok.made.0.items c.take_shards-shards.ensures.taken
-    (c.in-Ok.ensures.lanes ∙ (λ i. map (λ x. lane_for (named i) x.0) (c.deref.ensures.value i)))
+    (c.in-Ok.ensures.shard_plans ∙ (λ i. map (λ x. shard_plan_for (named i) x.0) (c.deref.ensures.value i)))
     c.sweep_beside-shards.result.0.items c.sweep_beside-shards.result.1.items c.sweep_beside-shards.ensures.length.0 c.sweep_beside-shards.ensures.length.1 c.sweep_beside-shards.ensures.each
     (g.B.BlobBackend.contents back.blobs) (g.I.IngestBackend.contents back.ingests) (removed_of names fates) (failed_of names fates) _ _ _ _
     (sweeps_to bytes_eq g.B.BlobBackend.contents g.B.BlobBackend.fails _ _ _ _ _ _ _ _ (ap (λ b. b.blobs) c.put_shards-2.ensures) (ap (λ f. (removed_of names f).blobs) c.set_snapshots.ensures.set) (ap (λ f. (failed_of names f).blobs) c.set_snapshots.ensures.set)
@@ -80,7 +80,7 @@ returns-clause-count g c =
     let news_are : back.shards ≡ map (shown g.S.SnapBackend.contents g.S.SnapBackend.fails) c.sweep_beside-shards.result.0.items = ap (λ b. b.shards) c.put_shards-2.ensures in
     let set : fates.snapshots ≡ map (fate_of c.sweep_beside-shards.result.1.items) names.snapshots = ap (λ f. f.snapshots) c.set_snapshots.ensures.set ∙ (λ i. map (fate_of (c.deref-3.ensures.value i)) names.snapshots) in
     count_by g.S.SnapBackend.contents g.S.SnapBackend.fails c.args.backends.now.shards _ _ c.args.plan.now.report.backend (may_sweep _ _ c.requires.planned) c.take_shards-shards.ensures.order c.take_shards-shards.result.items c.in-Ok.made.0.items c.take_shards-shards.ensures.taken
-    (c.in-Ok.ensures.lanes ∙ (λ i. map (λ x. lane_for (named i) x.0) (c.deref.ensures.value i)))
+    (c.in-Ok.ensures.shard_plans ∙ (λ i. map (λ x. shard_plan_for (named i) x.0) (c.deref.ensures.value i)))
     c.sweep_beside-shards.result.0.items c.sweep_beside-shards.result.1.items c.sweep_beside-shards.ensures.length.0 c.sweep_beside-shards.ensures.length.1 c.sweep_beside-shards.ensures.each
     (g.B.BlobBackend.contents back.blobs) (g.I.IngestBackend.contents back.ingests) (removed_of names fates) (failed_of names fates) _ _ _ _
     (sweeps_to bytes_eq g.B.BlobBackend.contents g.B.BlobBackend.fails _ _ _ _ _ _ _ _ (ap (λ b. b.blobs) c.put_shards-2.ensures) (ap (λ f. (removed_of names f).blobs) c.set_snapshots.ensures.set) (ap (λ f. (failed_of names f).blobs) c.set_snapshots.ensures.set)

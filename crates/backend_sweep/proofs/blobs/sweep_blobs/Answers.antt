@@ -9,7 +9,7 @@ use Rattle.backend_sweep.proofs.blobs.sweep_blobs.Goals as goal
 -- there is a mark for each blob
 pub retain-requires : goal.retain-requires
 retain-requires g c =
-    ap length c.requires.marks ∙ length-map (g.B.BlobBackend.came c.args.backend.now) (is_unnamed c.args.names.now)
+    ap length c.requires.marks ∙ length-map (g.B.BlobBackend.arrived c.args.backend.now) (is_unnamed c.args.names.now)
 
 -- in one pass all went that are named
 pub returns-then-retain-clause-swept : goal.returns-then-retain-clause-swept

@@ -7,7 +7,7 @@ invariant-loop-entry g l =
     (goal.iterator-loop-entry g).is_finite l.entry-iterator × record {
       parts : l.yielded ++ l.entry-iterator.rest.items ≡ l.fn.shards.items;
       shards : map (λ job. job.entry) l.jobs.items ≡ l.yielded;
-      lanes : map (λ job. job.lane) l.jobs.items ++ l.rest.rest.items ≡ l.fn.lanes.items;
-      lengths : length l.fn.lanes.items ≡ length l.fn.shards.items;
+      shard_plans : map (λ job. job.shard_plan) l.jobs.items ++ l.rest.rest.items ≡ l.fn.shard_plans.items;
+      lengths : length l.fn.shard_plans.items ≡ length l.fn.shards.items;
       room : length l.fn.shards.items ≤ vec_capacity l.jobs;
     }

@@ -7,7 +7,7 @@ invariant-loop-job g l =
     (goal.iterator-loop-job g).is_finite l.job-iterator × record {
       parts : l.yielded ++ l.job-iterator.rest.items ≡ l.fn.jobs.items;
       shards : l.shards.items ≡ map (λ job. job.entry) l.yielded;
-      lanes : l.lanes.items ≡ map (λ job. job.lane) l.yielded;
+      shard_plans : l.shard_plans.items ≡ map (λ job. job.shard_plan) l.yielded;
       shards_room : length l.fn.jobs.items ≤ vec_capacity l.shards;
-      lanes_room : length l.fn.jobs.items ≤ vec_capacity l.lanes;
+      shard_plans_room : length l.fn.jobs.items ≤ vec_capacity l.shard_plans;
     }

@@ -1,6 +1,6 @@
 use Rattle.std.proofs.Common.{rules, ◌∙◌, ap, length, ◌<◌}
 use Rattle.std.specs.Prelude.{Option}
-use Rattle.backend_sweep.specs.Lanes.{Laned, fate_in, fate_of}
+use Rattle.backend_sweep.specs.ShardPlans.{PlannedShard, fate_in, fate_of}
 use Rattle.backend_sweep.proofs.Fated.{set_more}
 use Rattle.backend_sweep.proofs.shard_plans.set_fates.Goals as goal
 
@@ -11,8 +11,8 @@ loop-i-preserved c =
     let n = c.index-names-i.result in
     let here : c.loop-i.i < length c.args.names.now = search rules in
     record {
-      set = set_more (fate_of c.args.lanes.now) c.args.names.now c.loop-i.fates c.loop-i.i n c.fate_in.result i.set c.index-names-i.is here i.same
-          (c.fate_in.ensures ∙ ap (λ (o : Option Laned). fate_in o n.1) c.lane_from-last.ensures.lane);
+      set = set_more (fate_of c.args.shard_plans.now) c.args.names.now c.loop-i.fates c.loop-i.i n c.fate_in.result i.set c.index-names-i.is here i.same
+          (c.fate_in.ensures ∙ ap (λ (o : Option PlannedShard). fate_in o n.1) c.shard_plan_from-last.ensures.shard_plan);
       same = search rules;
-      last = c.lane_from-last.ensures.found;
+      last = c.shard_plan_from-last.ensures.found;
     }

@@ -5,35 +5,35 @@ use Rattle.table_sweep.specs.Backed.{lists_of}
 use Rattle.table_sweep.specs.InKeyOrder.{records_in_key_order}
 use Rattle.table_sweep.specs.Plans.{IsPlanOfRows}
 use Rattle.collection.specs.Stores.{records_in}
-use Rattle.collection.proofs.Bridges.{plan_of_lent, large_as, large_came}
+use Rattle.collection.proofs.Bridges.{plan_of_lent, large_as, large_arrived}
 use Rattle.collection.proofs.alone.plan_alone.Goals as goal
 
--- rows that are listed as they came are the records' in order
+-- rows that are listed as they arrived are the records' in order
 pub returns-clause-ok : goal.returns-clause-ok
 returns-clause-ok g c =
     let kept = c.args.records.now in
-    let lent : Records = lent_in c.came-came.result c.came-leases.result.now kept.profile in
+    let lent : Records = lent_in c.arrived-arrived.result c.arrived-leases.result.now kept.profile in
     plan_of_lent lent (records_in kept) c.count_ns-namespaces.result
     (length kept.tables.namespaces) _ c.args.at.0 c.in_ok-plan.plan
     (record {
-      images = c.came-came.ensures.images;
-      containers = c.came-came.ensures.containers;
-      content = c.came-came.ensures.content;
-      ingests = c.came-came.ensures.ingests;
-      snapshots = c.came-came.ensures.snapshots;
-      leases = c.came-leases.ensures;
+      images = c.arrived-arrived.ensures.images;
+      containers = c.arrived-arrived.ensures.containers;
+      content = c.arrived-arrived.ensures.content;
+      ingests = c.arrived-arrived.ensures.ingests;
+      snapshots = c.arrived-arrived.ensures.snapshots;
+      leases = c.arrived-leases.ensures;
       profile = refl;
     })
     c.count_ns-namespaces.ensures
     (subst (λ (rows : Records). IsPlanOfRows rows c.count_ns-namespaces.result (lists_of c.args.back.now) c.args.at.0 c.in_ok-plan.plan)
     (c.rows-rows.ensures.records ∙ c.in_ok-listed.ensures.ok) c.in_ok-plan.ensures.ok)
 
--- as many rows came as there are in order
+-- as many rows arrived as there are in order
 pub plan_rows-requires-clause-few : goal.plan_rows-requires-clause-few
 plan_rows-requires-clause-few g c κs within =
     let kept = c.args.records.now in
-    let lent : Records = lent_in c.came-came.result c.came-leases.result.now kept.profile in
-    large_came _ lent (c.rows-rows.ensures.records ∙ c.in_ok-listed.ensures.ok)
+    let lent : Records = lent_in c.arrived-arrived.result c.arrived-leases.result.now kept.profile in
+    large_arrived _ lent (c.rows-rows.ensures.records ∙ c.in_ok-listed.ensures.ok)
     (large_as (records_in_key_order lent) (records_in kept)
-    c.came-came.ensures.content c.came-came.ensures.ingests c.came-came.ensures.snapshots
+    c.arrived-arrived.ensures.content c.arrived-arrived.ensures.ingests c.arrived-arrived.ensures.snapshots
     ∙ c.requires)

@@ -1,8 +1,8 @@
 use Rattle.meta_types.specs.Rows.{Records}
 use Rattle.gc_graph.specs.Stored.{records_of}
 use Rattle.gc_graph.specs.Marked.{reached_by}
-use Rattle.gc_graph.proofs.Tells.{tells}
-use Rattle.table_sweep.proofs.CameRecords.{told_in_order}
+use Rattle.gc_graph.proofs.MarksDecide.{tells}
+use Rattle.table_sweep.proofs.RecordsArrived.{told_in_order}
 use Rattle.collection.proofs.alone.plan_rows.Goals as goal
 
 -- what is marked tells where paths end

@@ -1,12 +1,8 @@
-use Rattle.std.proofs.Common.{map, subst, ap, ◌≡◌}
-use Rattle.meta_types.specs.Rows.{Records, BackLists}
-use Rattle.row_tables.specs.Arrived.{sorted, one_text}
-use Rattle.back_model.specs.Shown.{listed_snap}
+use Rattle.meta_types.specs.Rows.{Records}
 use Rattle.gc_graph.specs.Stored.{records_of}
 use Rattle.gc_graph.specs.Marked.{reached_by}
-use Rattle.gc_graph.proofs.Tells.{tells}
-use Rattle.table_sweep.specs.InKeyOrder.{records_in_key_order}
-use Rattle.table_sweep.proofs.CameRecords.{told_in_order}
+use Rattle.gc_graph.proofs.MarksDecide.{tells}
+use Rattle.table_sweep.proofs.RecordsArrived.{told_in_order}
 use Rattle.collection.proofs.planning.plan_rows.Goals as goal
 
 pub returns-clause-ok : goal.returns-clause-ok
@@ -18,7 +14,7 @@ returns-clause-ok g c =
     let reached = reached_by c.args.rows.now.profile book marks c.args.at.0 in
     record {
       reached = reached;
-      tells = told_in_order records c.args.at.0 reached (tells records c.args.at.0 book graph c.in_ok-book.ensures.ok marks c.in_ok-marks.ensures.marked.marks);
+      tells = told_in_order records c.args.at.0 reached (tells records c.args.at.0 book graph c.in_ok-book.ensures.ok marks c.in_ok-marks.ensures.marks);
       masks = c.in_ok-plan.ensures.masks;
       report_is = c.in_ok-plan.ensures.ok;
     }

@@ -6,7 +6,7 @@ use Rattle.explaining.specs.Asked.{records_in}
 use Rattle.explaining.proofs.SameThings.{same_thing, as_large, explanation_as}
 use Rattle.explaining.proofs.answer.explain.Goals as goal
 
--- rows that are listed as they came are the records' in order
+-- rows that are listed as they arrived are the records' in order
 pub returns-clause-ok : goal.returns-clause-ok
 returns-clause-ok g c =
     let kept : Records = records_in c.args.records.now in

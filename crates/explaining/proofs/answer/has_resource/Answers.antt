@@ -18,7 +18,7 @@ returns-in-Content c =
 
 pub returns-in-Snapshot : goal.returns-in-Snapshot
 returns-in-Snapshot c =
-    c.has.ensures ∙ ap (λ (rows : List SnapRow). has_row snap_key (c.args.ns.now ∷ c.in-Snapshot.snapshotter ∷ c.in-Snapshot.name ∷ []) rows) c.came.ensures.snapshots
+    c.has.ensures ∙ ap (λ (rows : List SnapRow). has_row snap_key (c.args.ns.now ∷ c.in-Snapshot.snapshotter ∷ c.in-Snapshot.name ∷ []) rows) c.arrived.ensures.snapshots
     ∙ sym (snapshot_there (records_in c.args.records.now) c.args.ns.now c.in-Snapshot.snapshotter c.in-Snapshot.name)
     ∙ ap (λ (r : Resource). list_any (is_asked c.args.ns.now (Held r)) (things (records_in c.args.records.now))) (sym c.in-Snapshot.is)
 

@@ -2,7 +2,7 @@ use Rattle.std.proofs.Common.{◌∙◌, ◌<◌, ℕ, List, get_or, None, sym, 
 use Rattle.std.specs.Prelude.{All}
 use Rattle.mark_core.specs.Reach.{node_count}
 use Rattle.gc_graph.specs.Stored.{records_of}
-use Rattle.nearest_walks.specs.Nearest.{IsDepth}
+use Rattle.mark_core.specs.Nearest.{IsDepth}
 use Rattle.explaining.proofs.Counted.{few_numbered, counted, own_below, held_below}
 use Rattle.explaining.proofs.explain_rows.depths_of.Goals as goal
 

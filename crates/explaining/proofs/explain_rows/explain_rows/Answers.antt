@@ -4,7 +4,7 @@ use Rattle.meta_types.specs.declared.explanation.By.TheVariants.{Root, Ended}
 use Rattle.gc_graph.specs.Stored.{records_of}
 use Rattle.explaining.specs.declared.found.Found.{Found}
 use Rattle.explaining.specs.Found.{thing_of}
-use Rattle.explaining.specs.Told.{AreLinked}
+use Rattle.explaining.specs.StepWords.{AreLinked}
 use Rattle.explaining.proofs.TellPaths.{linked, is_kept, was_kept, none_there, some_there}
 use Rattle.explaining.proofs.explain_rows.explain_rows.Goals as goal
 

@@ -2,7 +2,7 @@ use Rattle.std.proofs.Common.{◌∙◌, ◌∷◌, ◌++◌, [], ℕ, List, len
 use Rattle.std.specs.Prelude.{option_map}
 use Rattle.meta_types.specs.Explanations.{is_asked, Explains}
 use Rattle.gc_graph.specs.Stored.{records_of}
-use Rattle.nearest_walks.specs.Nearest.{IsDepth}
+use Rattle.mark_core.specs.Nearest.{IsDepth}
 use Rattle.explaining.specs.declared.found.Found.{Found}
 use Rattle.explaining.specs.Found.{thing_of}
 use Rattle.explaining.proofs.Counted.{few_numbered, counted, split}

@@ -1,6 +1,6 @@
 use Rattle.std.proofs.Common.{◌≡◌, ◌∙◌, ◌+◌, suc, length, ap, arith}
 use Rattle.gc_graph.specs.Stored.{records_of}
-use Rattle.nearest_walks.specs.Firsts.{leads}
+use Rattle.mark_core.specs.Firsts.{leads}
 use Rattle.explaining.specs.Found.{numbered}
 use Rattle.explaining.specs.Firsts.{number_before, chosen, first_leading}
 use Rattle.explaining.proofs.Puts.{all_within}

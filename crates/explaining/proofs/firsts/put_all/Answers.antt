@@ -1,7 +1,7 @@
 use Rattle.std.proofs.Common.{◌∙◌, length, get_or, None, arith}
 use Rattle.std.specs.Prelude.{◌&&◌, ◌==◌}
 use Rattle.gc_graph.specs.Stored.{records_of}
-use Rattle.nearest_walks.specs.Firsts.{is_step}
+use Rattle.mark_core.specs.Firsts.{is_step}
 use Rattle.explaining.specs.Found.{numbered}
 use Rattle.explaining.specs.Firsts.{number_before}
 use Rattle.explaining.proofs.Puts.{all_within, target_more}

@@ -1,7 +1,7 @@
 use Rattle.std.proofs.Common.{◌∙◌, sym, ap, Some}
 use Rattle.std.specs.Prelude.{option_map}
 use Rattle.explaining.specs.Reasons.{by_of}
-use Rattle.explaining.specs.Told.{root_word}
+use Rattle.explaining.specs.StepWords.{root_word}
 use Rattle.explaining.proofs.TellPaths.{root_by, below_next, no_gap, told_by}
 use Rattle.explaining.proofs.telling.by_at.Goals as goal
 

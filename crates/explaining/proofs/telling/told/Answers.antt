@@ -1,5 +1,5 @@
 use Rattle.std.proofs.Common.{◌-◌, length, refl}
-use Rattle.explaining.specs.Told.{root_word}
+use Rattle.explaining.specs.StepWords.{root_word}
 use Rattle.explaining.proofs.TellPaths.{told_round}
 use Rattle.explaining.proofs.telling.told.Goals as goal
 

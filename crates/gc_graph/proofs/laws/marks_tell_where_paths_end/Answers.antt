@@ -1,4 +1,4 @@
-use Rattle.gc_graph.proofs.Tells.{tells}
+use Rattle.gc_graph.proofs.MarksDecide.{tells}
 use Rattle.gc_graph.proofs.laws.marks_tell_where_paths_end.Goals as goal
 
 -- a thing's number is reached exactly where a path ends in the thing

@@ -9,10 +9,10 @@ use Rattle.gc_graph.proofs.refs.push_snapshot.Goals as goal
 
 pub returns-in-Err-InvalidArgument-read-clause-ok : goal.returns-in-Err-InvalidArgument-read-clause-ok
 returns-in-Err-InvalidArgument-read-clause-ok c =
-    nothing_more c.args.book.now (node c.args.ns.now (Snapshot c.args.snapshotter.now c.args.name.now) Full) c.args.numbers.now.items c.tell.ensures
+    nothing_more c.args.book.now (node c.args.ns.now (Snapshot c.args.snapshotter.now c.args.name.now) Full) c.args.numbers.now.items c.learn_allowed.ensures
     (and_right (is_short_name c.args.snapshotter.now) (is_name c.args.name.now) (refused_unless (List ℕ) (is_name c.args.name.now) c.in-Err-InvalidArgument-read.field-0 c.in-Err-InvalidArgument-read.field-0-is c.in-Err-InvalidArgument-read.ensures.fault))
 
 pub returns-in-Err-InvalidArgument-clause-ok : goal.returns-in-Err-InvalidArgument-clause-ok
 returns-in-Err-InvalidArgument-clause-ok c =
-    nothing_more c.args.book.now (node c.args.ns.now (Snapshot c.args.snapshotter.now c.args.name.now) Full) c.args.numbers.now.items c.tell-in-Err-InvalidArgument.ensures
+    nothing_more c.args.book.now (node c.args.ns.now (Snapshot c.args.snapshotter.now c.args.name.now) Full) c.args.numbers.now.items c.learn_allowed-in-Err-InvalidArgument.ensures
     (and_left (is_short_name c.args.snapshotter.now) (is_name c.args.name.now) (refused_unless (List ℕ) (is_short_name c.args.snapshotter.now) c.in-Err-InvalidArgument.field-0 c.in-Err-InvalidArgument.field-0-is c.in-Err-InvalidArgument.ensures.fault))

@@ -1,4 +1,4 @@
-use Rattle.std.proofs.Common.{◌≡◌, ◌+◌, ◌*◌, slice_index, Ok, arith, ap, sym, ◌∙◌}
+use Rattle.std.proofs.Common.{◌+◌, ◌*◌, slice_index, Ok, arith, ap, sym, ◌∙◌}
 use Rattle.hex.proofs.Pairs.{decode_start, decode_step, decode_done}
 use Rattle.meta_types.proofs.HexDigits.{digit_there, pair_read, read_kept}
 use Rattle.meta_types.proofs.digits.read_digits.Goals as goal

@@ -1,4 +1,4 @@
-use Rattle.std.proofs.Common.{◌≡◌, Bool, refl, sym, subst, Option, Some, None, is_some, rules}
+use Rattle.std.proofs.Common.{◌≡◌, Bool, refl, subst, Option, Some, None, is_some, rules}
 use Rattle.std.specs.Prelude.{option_map}
 use Rattle.meta_types.specs.Faults.{Refuses, unless}
 use Rattle.meta_types.specs.Resources.{resource_of}

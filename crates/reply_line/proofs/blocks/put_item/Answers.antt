@@ -24,10 +24,10 @@ returns-clause-ok g c =
           w.in_ok-put_text.ensures.ok
       | else-later w ↦ rw (w.writer-is, w.block-is, w.if-later.false) (puts_nothing h0 b0)
     ] in
-    on_ok_weaker c.put_value.result (λ p. puts_then h0 h1 (g.W.Write.contents
-    c.put_value.new.writer) b0 c.if-later.block.items c.put_value.new.block.items (comma_if
+    on_ok_weaker c.put_named.result (λ p. puts_then h0 h1 (g.W.Write.contents
+    c.put_named.new.writer) b0 c.if-later.block.items c.put_named.new.block.items (comma_if
     c.args.later) (compact_text (g.T.WriteJson.as_data c.args.item.now)) first p)
-    c.put_value.ensures.ok
+    c.put_named.ensures.ok
 
 pub returns-clause-err : goal.returns-clause-err
 returns-clause-err g c =
@@ -40,6 +40,6 @@ returns-clause-err g c =
           w.in_ok-put_text.ensures.ok
       | else-later w ↦ rw (w.writer-is, w.block-is, w.if-later.false) (puts_nothing h0 b0)
     ] in
-    on_err_weaker c.put_value.result (λ p. fails_then h0 h1 (g.W.Write.contents
-    c.put_value.new.writer) b0 c.if-later.block.items (comma_if c.args.later) (compact_text
-    (g.T.WriteJson.as_data c.args.item.now)) first p) c.put_value.ensures.err
+    on_err_weaker c.put_named.result (λ p. fails_then h0 h1 (g.W.Write.contents
+    c.put_named.new.writer) b0 c.if-later.block.items (comma_if c.args.later) (compact_text
+    (g.T.WriteJson.as_data c.args.item.now)) first p) c.put_named.ensures.err

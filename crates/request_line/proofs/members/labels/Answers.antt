@@ -1,17 +1,16 @@
-use Rattle.std.proofs.Common.{◌≡◌, ◌∙◌, sym, codes, Some, None, refl}
+use Rattle.std.proofs.Common.{◌≡◌, ◌∙◌, ap, sym, codes, Some, option_map}
+use Rattle.serde_json.specs.Data.{object}
 use Rattle.serde_json.specs.Find.{get_member}
-use Rattle.serde_json.specs.View.{view, members_view}
-use Rattle.request_line.proofs.Taking.{member_found}
+use Rattle.request_line.specs.LineMembers.{value_of, object_of, texts_object}
+use Rattle.request_line.proofs.LineMembers.{pairs_from-texts}
 use Rattle.request_line.proofs.members.labels.Goals as goal
 
--- the value that was taken out was found by its name
-pub returns-in-Some-clause-ok : goal.returns-in-Some-clause-ok
-returns-in-Some-clause-ok c =
-    let found : get_member (codes "labels") (members_view c.args.members.now.entries) ≡ Some (view c.in-Some.labels) = sym (member_found (codes "labels") c.args.members.now.entries _ (sym c.in-Some.is ∙ c.remove.ensures.value)) in
-    rw found c.pairs_in.ensures.ok
-
--- no member of that name was there
-pub returns-in-None-clause-ok : goal.returns-in-None-clause-ok
-returns-in-None-clause-ok c =
-    let found : get_member (codes "labels") (members_view c.args.members.now.entries) ≡ None = sym (member_found (codes "labels") c.args.members.now.entries _ (sym c.in-None.is ∙ c.remove.ensures.value)) in
-    rw (found, c.new-in-None.ensures, c.new.ensures.items) refl
+-- the labels are these texts
+pub returns-in-Some-Labels-clause-ok : goal.returns-in-Some-Labels-clause-ok
+returns-in-Some-Labels-clause-ok c =
+    let texts = c.in-Some-Labels.texts.items in
+    let found : get_member (codes "labels") (object_of c.args.members.now)
+    ≡ Some (object (texts_object texts)) =
+    sym c.member.ensures ∙ ap (option_map (λ v. value_of v.now)) c.in-Some-Labels.is
+    ∙ ap (λ v. Some (value_of v)) c.in-Some-Labels.field-0-is in
+    rw (found, pairs_from-texts texts) (rw c.deref.ensures.value at c.copied.ensures.ok)

@@ -3,14 +3,14 @@ use Rattle.scripts.proofs.Runs.{Progress-empty, Runs-none, Runs-whole, Runs-begi
 use Rattle.scripts.proofs.Writers.{holds_on_err, Keeps-same}
 use Rattle.scripts.proofs.script.run_named.Goals as goal
 
--- the store couldn't be opened, and nothing was read
-pub returns-in_err-store-clause-err : goal.returns-in_err-store-clause-err
-returns-in_err-store-clause-err g c = holds_on_err c.from_residual.result (Exchanges-none _ _)
-
 -- there was no room for a line, and nothing was read
 pub returns-in_err-buffer-clause-err : goal.returns-in_err-buffer-clause-err
-returns-in_err-buffer-clause-err g c =
-    holds_on_err c.from_residual-in_err-buffer.result (Exchanges-none _ _)
+returns-in_err-buffer-clause-err g c = holds_on_err c.from_residual.result (Exchanges-none _ _)
+
+-- the store couldn't be opened, and nothing was read
+pub returns-in_err-store-clause-err : goal.returns-in_err-store-clause-err
+returns-in_err-store-clause-err g c =
+    holds_on_err c.from_residual-in_err-store.result (Exchanges-none _ _)
 
 pub reads-init : goal.reads-init
 reads-init g c = Runs-none _ _ _ _ (rw c.in_ok-store.ensures.ok (Progress-empty _ c.in_ok-buffer.ensures.ok))

@@ -1,7 +1,8 @@
 use Rattle.std.proofs.Common.{[], Some, refl}
 use Rattle.std.proofs.lemmas.Result.{on_err_weaker}
-use Rattle.scripts.specs.LineSteps.{out_of_memory, line_step, with_line_feed}
-use Rattle.scripts.specs.Telling.{said_bytes}
+use Rattle.scripts.specs.LineSteps.{out_of_memory, line_step}
+use Rattle.scripts.specs.Lines.{with_line_feed}
+use Rattle.scripts.specs.SaidLines.{said_bytes}
 use Rattle.scripts.proofs.LineAnswers.{true_at_memory}
 use Rattle.scripts.proofs.Writers.{Appends-none, WritesFront-none, holds_on_err}
 use Rattle.scripts.proofs.script.write_reply.Goals as goal

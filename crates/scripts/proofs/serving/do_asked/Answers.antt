@@ -1,6 +1,6 @@
 use Rattle.std.proofs.Common.{sym, subst}
 use Rattle.meta_types.specs.Steps.{reported}
-use Rattle.meta_types.specs.Questions.{explained, foreseen, of_event, of_question}
+use Rattle.meta_types.specs.Questions.{explains, foresees, of_event, of_question}
 use Rattle.request_line.specs.declared.asked.Asked.{Asked}
 use Rattle.reply_line.specs.Explained.{told_of}
 use Rattle.scripts.specs.Served.{IsServed, IsRefused}
@@ -37,7 +37,7 @@ pub returns-in_ok-told-in-Explain-clause-ok : goal.returns-in_ok-told-in-Explain
 returns-in_ok-told-in-Explain-clause-ok g c =
     let state = c.args.locked.now.store.state in
     subst (λ (asked : Asked). IsServed state asked
-    (of_question (explained (told_of c.in_ok-told-in-Explain.told))) state)
+    (of_question (explains (told_of c.in_ok-told-in-Explain.told))) state)
     (sym c.in-Explain.is) c.in_ok-told-in-Explain.ensures.ok
 
 -- the question is refused
@@ -54,5 +54,5 @@ pub returns-in_ok-found-in-Impact-clause-ok : goal.returns-in_ok-found-in-Impact
 returns-in_ok-found-in-Impact-clause-ok g c =
     let state = c.args.locked.now.store.state in
     subst (λ (asked : Asked). IsServed state asked
-    (of_question (foreseen c.in_ok-found-in-Impact.found)) state)
+    (of_question (foresees c.in_ok-found-in-Impact.found)) state)
     (sym c.in-Impact.is) c.in_ok-found-in-Impact.ensures.ok

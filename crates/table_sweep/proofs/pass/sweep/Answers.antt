@@ -3,7 +3,7 @@ use Rattle.meta_types.specs.Rows.{lease_key}
 use Rattle.row_tables.specs.Arrived.{sorted}
 use Rattle.object_tables.specs.InKeyOrder.{in_key_order}
 use Rattle.table_sweep.proofs.Swept.{tables_swept, leases_swept, may_sweep}
-use Rattle.table_sweep.proofs.CameRecords.{tables_left, leases_left}
+use Rattle.table_sweep.proofs.RecordsArrived.{tables_left, leases_left}
 use Rattle.table_sweep.proofs.pass.sweep.Goals as goal
 
 pub retain_snapshots-requires-clause-numbered : goal.retain_snapshots-requires-clause-numbered

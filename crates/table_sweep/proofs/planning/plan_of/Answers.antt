@@ -1,4 +1,4 @@
-use Rattle.std.proofs.Common.{◌≡◌, ◌∙◌, true, ap, arith}
+use Rattle.std.proofs.Common.{◌∙◌, true, ap, arith}
 use Rattle.std.proofs.lemmas.List.{length-map}
 use Rattle.meta_types.specs.Rows.{Records}
 use Rattle.meta_types.specs.Backends.{no_objects, removed_objects}
@@ -10,7 +10,7 @@ use Rattle.table_sweep.specs.InKeyOrder.{names_in_key_order, name_key}
 use Rattle.table_sweep.specs.Backed.{lists_of}
 use Rattle.table_sweep.proofs.Counted.{scanned_is, thing_count}
 use Rattle.table_sweep.proofs.Planned.{fit, removed_is, kept_counts_are, left_is}
-use Rattle.table_sweep.proofs.CameRecords.{objects_same, tables_left, removed_in_order, kept_in_order, ignored_in_order, ignored_images_in_order, scanned_in_order}
+use Rattle.table_sweep.proofs.RecordsArrived.{objects_same, tables_left, removed_in_order, kept_in_order, ignored_in_order, ignored_images_in_order, scanned_in_order}
 use Rattle.table_sweep.proofs.planning.plan_of.Goals as goal
 
 pub removed_of-requires : goal.removed_of-requires
@@ -21,7 +21,7 @@ pub objects_of-requires : goal.objects_of-requires
 objects_of-requires c =
     fit (records_of c.args.rows.now) c.args.at.0 (reached_by c.args.rows.now.profile c.args.book.now c.args.marks.now c.args.at.0) c.in_ok-masks.masks c.in_ok-masks.ensures.ok
 
--- the masks tell of the rows as they came
+-- the masks tell of the rows as they arrived
 pub returns-clause-masks : goal.returns-clause-masks
 returns-clause-masks c = c.in_ok-masks.ensures.ok
 

@@ -10,7 +10,7 @@ use Rattle.table_sweep.proofs.sorting.snapshots_in_order.Goals as goal
 -- what the sort leaves is the list in the order of keys
 pub returns-clause-ok : goal.returns-clause-ok
 returns-clause-ok c =
-    let by : IsSorted snapshot_name_cmp c.sort_by.new.self.items =
-    c.in_ok-sort_by.ensures.sorted (λ (x y : Text × Text × Text). is_lt (snapshot_name_cmp x y)) (names_weak snapshot_name_key snapshot_name_cmp snapshot_name_same one_snapshot_name)
+    let by : IsSorted snapshot_name_cmp c.sort_unstable_by.new.self.items =
+    c.sort_unstable_by.ensures.sorted (λ (x y : Text × Text × Text). is_lt (snapshot_name_cmp x y)) (names_weak snapshot_name_key snapshot_name_cmp snapshot_name_same one_snapshot_name)
     (always_returns_same _ (λ a r. is_lt r ≡ is_lt (snapshot_name_cmp a.0.now a.1.0.now)) _ (λ a r q k. search rules)) in
-    names_sorted snapshot_name_key snapshot_name_cmp snapshot_name_same one_snapshot_name c.args.names.items c.sort_by.new.self.items c.in_ok-sort_by.ensures.permutation by
+    names_sorted snapshot_name_key snapshot_name_cmp snapshot_name_same one_snapshot_name c.args.names.items c.sort_unstable_by.new.self.items c.sort_unstable_by.ensures.permutation by

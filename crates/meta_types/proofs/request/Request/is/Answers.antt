@@ -1,6 +1,6 @@
 use Rattle.meta_types.specs.contracts.request.Request.{enum}
-use Rattle.meta_types.proofs.Decided.{told_by, text, ◌⊗◌, one, none, maybe, number, ◌⊕◌, Tests, by_decides}
-use Rattle.meta_types.proofs.RowTests.{labels}
+use Rattle.meta_types.proofs.Decided.{told_by, text, ◌⊗◌, one, none, number, ◌⊕◌, Tests, by_decides}
+use Rattle.meta_types.proofs.RequestTests.{label, name, content, snap, image_add, image_target, container_add, content_add, ingest_begin, ingest_commit, snap_add, snap_commit, lease_add, lease_resource}
 use Rattle.meta_types.proofs.request.Request.is.Goals as goal
 
 -- of each variant, in the order in which they are written
@@ -9,42 +9,42 @@ tests =
     one text
     ⊕ one text
     ⊕ none
-    ⊕ text ⊗ text ⊗ text ⊗ one labels
-    ⊕ text ⊗ text ⊗ one text
-    ⊕ text ⊗ one text
-    ⊕ text ⊗ one text
+    ⊕ one image_add
+    ⊕ one image_target
+    ⊕ one name
+    ⊕ one name
     ⊕ one text
-    ⊕ text ⊗ text ⊗ text ⊗ one text
-    ⊕ text ⊗ text ⊗ maybe text ⊗ maybe text ⊗ one labels
-    ⊕ text ⊗ one text
-    ⊕ text ⊗ one text
+    ⊕ name ⊗ one label
+    ⊕ one container_add
+    ⊕ one name
+    ⊕ one name
     ⊕ one text
-    ⊕ text ⊗ text ⊗ text ⊗ one text
-    ⊕ text ⊗ text ⊗ labels ⊗ one (maybe text)
-    ⊕ text ⊗ one text
-    ⊕ text ⊗ one text
-    ⊕ text ⊗ text ⊗ text ⊗ one text
+    ⊕ name ⊗ one label
+    ⊕ one content_add
+    ⊕ one content
+    ⊕ one content
+    ⊕ content ⊗ one label
     ⊕ one text
-    ⊕ text ⊗ text ⊗ text ⊗ maybe text ⊗ one (maybe text)
-    ⊕ text ⊗ text ⊗ text ⊗ labels ⊗ one (maybe text)
-    ⊕ text ⊗ one text
-    ⊕ text ⊗ one text
+    ⊕ one ingest_begin
+    ⊕ one ingest_commit
+    ⊕ one name
+    ⊕ one name
     ⊕ one text
-    ⊕ text ⊗ text ⊗ text ⊗ maybe text ⊗ labels ⊗ one (maybe text)
-    ⊕ text ⊗ text ⊗ text ⊗ maybe text ⊗ labels ⊗ one (maybe text)
-    ⊕ text ⊗ text ⊗ text ⊗ text ⊗ labels ⊗ one (maybe text)
-    ⊕ text ⊗ text ⊗ one text
-    ⊕ text ⊗ text ⊗ one text
-    ⊕ text ⊗ text ⊗ text ⊗ text ⊗ one text
+    ⊕ one snap_add
+    ⊕ one snap_add
+    ⊕ one snap_commit
+    ⊕ one snap
+    ⊕ one snap
+    ⊕ snap ⊗ one label
     ⊕ text ⊗ one text
-    ⊕ text ⊗ text ⊗ one labels
-    ⊕ text ⊗ one text
-    ⊕ text ⊗ one text
-    ⊕ text ⊗ text ⊗ text ⊗ one text
+    ⊕ one lease_add
+    ⊕ one name
+    ⊕ one name
+    ⊕ name ⊗ one label
     ⊕ one text
-    ⊕ text ⊗ text ⊗ text ⊗ one text
-    ⊕ text ⊗ text ⊗ text ⊗ one text
-    ⊕ text ⊗ one text
+    ⊕ one lease_resource
+    ⊕ one lease_resource
+    ⊕ one name
     ⊕ one number
     ⊕ tt
 

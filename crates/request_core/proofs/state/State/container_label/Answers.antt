@@ -9,4 +9,4 @@ use Rattle.request_core.proofs.state.State.container_label.Goals as goal
 pub returns-in_err-relabel_container : goal.returns-in_err-relabel_container
 unfolding AnswersExactly
 returns-in_err-relabel_container g c =
-    refused_as c.args.self.now (outcome c.args.self.now.state (R.ContainerLabel c.args.ns.now c.args.name.now c.args.key.now c.args.value.now)) _ _ c.in_err-relabel_container.field-0.0 (search rules) (search rules) (search rules)
+    refused_as c.args.self.now (outcome c.args.self.now.state (R.ContainerLabel c.args.container.now c.args.label.now)) _ _ c.in_err-relabel_container.field-0.0 (search rules) (search rules) (search rules)

@@ -9,4 +9,4 @@ use Rattle.request_core.proofs.state.State.content_label.Goals as goal
 pub returns-in_err-relabel_content : goal.returns-in_err-relabel_content
 unfolding AnswersExactly
 returns-in_err-relabel_content g c =
-    refused_as c.args.self.now (outcome c.args.self.now.state (R.ContentLabel c.args.ns.now c.args.digest.now c.args.key.now c.args.value.now)) _ _ c.in_err-relabel_content.field-0.0 (search rules) (search rules) (search rules)
+    refused_as c.args.self.now (outcome c.args.self.now.state (R.ContentLabel c.args.content.now c.args.label.now)) _ _ c.in_err-relabel_content.field-0.0 (search rules) (search rules) (search rules)

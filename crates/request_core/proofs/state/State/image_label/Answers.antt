@@ -9,4 +9,4 @@ use Rattle.request_core.proofs.state.State.image_label.Goals as goal
 pub returns-in_err-relabel_image : goal.returns-in_err-relabel_image
 unfolding AnswersExactly
 returns-in_err-relabel_image g c =
-    refused_as c.args.self.now (outcome c.args.self.now.state (R.ImageLabel c.args.ns.now c.args.name.now c.args.key.now c.args.value.now)) _ _ c.in_err-relabel_image.field-0.0 (search rules) (search rules) (search rules)
+    refused_as c.args.self.now (outcome c.args.self.now.state (R.ImageLabel c.args.image.now c.args.label.now)) _ _ c.in_err-relabel_image.field-0.0 (search rules) (search rules) (search rules)

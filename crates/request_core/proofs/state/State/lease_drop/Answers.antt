@@ -9,4 +9,4 @@ use Rattle.request_core.proofs.state.State.lease_drop.Goals as goal
 pub returns-in_err-drop_resource : goal.returns-in_err-drop_resource
 unfolding AnswersExactly
 returns-in_err-drop_resource g c =
-    only_refused_as c.args.self.now (outcome c.args.self.now.state (R.LeaseDrop c.args.ns.now c.args.id.now c.args.kind.now c.args.resource.now)) _ _ c.in_err-drop_resource.field-0.0 (search rules) (search rules) (search rules)
+    only_refused_as c.args.self.now (outcome c.args.self.now.state (R.LeaseDrop c.args.asked.now)) _ _ c.in_err-drop_resource.field-0.0 (search rules) (search rules) (search rules)

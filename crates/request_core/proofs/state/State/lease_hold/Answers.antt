@@ -9,4 +9,4 @@ use Rattle.request_core.proofs.state.State.lease_hold.Goals as goal
 pub returns-in_err-add_resource : goal.returns-in_err-add_resource
 unfolding AnswersExactly
 returns-in_err-add_resource g c =
-    refused_as c.args.self.now (outcome c.args.self.now.state (R.LeaseHold c.args.ns.now c.args.id.now c.args.kind.now c.args.resource.now)) _ _ c.in_err-add_resource.field-0.0 (search rules) (search rules) (search rules)
+    refused_as c.args.self.now (outcome c.args.self.now.state (R.LeaseHold c.args.asked.now)) _ _ c.in_err-add_resource.field-0.0 (search rules) (search rules) (search rules)

@@ -9,4 +9,4 @@ use Rattle.request_core.proofs.state.State.snap_label.Goals as goal
 pub returns-in_err-relabel_snap : goal.returns-in_err-relabel_snap
 unfolding AnswersExactly
 returns-in_err-relabel_snap g c =
-    refused_as c.args.self.now (outcome c.args.self.now.state (R.SnapLabel c.args.ns.now c.args.snapshotter.now c.args.name.now c.args.key.now c.args.value.now)) _ _ c.in_err-relabel_snap.field-0.0 (search rules) (search rules) (search rules)
+    refused_as c.args.self.now (outcome c.args.self.now.state (R.SnapLabel c.args.snapshot.now c.args.label.now)) _ _ c.in_err-relabel_snap.field-0.0 (search rules) (search rules) (search rules)

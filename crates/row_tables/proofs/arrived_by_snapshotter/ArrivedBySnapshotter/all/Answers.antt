@@ -2,7 +2,7 @@ use Rattle.std.proofs.Common.{List, ap, ◌∙◌}
 use Rattle.std.specs.List.{list_all}
 use Rattle.meta_types.specs.Text.{Text}
 use Rattle.row_tables.specs.Arrived.{sorted}
-use Rattle.row_tables.proofs.NamespacesCame.{key, name}
+use Rattle.row_tables.proofs.NamespacesArrived.{key, name}
 use Rattle.row_tables.proofs.NamespaceListings.{listed_all}
 use Rattle.row_tables.specs.Namespaces.{own_texts, full_key}
 use Rattle.row_tables.proofs.arrived_by_snapshotter.ArrivedBySnapshotter.all.Goals as goal

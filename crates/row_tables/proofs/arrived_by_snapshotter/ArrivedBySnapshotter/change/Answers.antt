@@ -1,7 +1,7 @@
 use Rattle.std.proofs.Common.{◌∷◌, sym, ◌∙◌}
 use Rattle.row_tables.specs.Namespaces.{own_texts, full_key, all_rows}
 use Rattle.row_tables.proofs.RowCounts.{length_changed_rows}
-use Rattle.row_tables.proofs.NamespacesCame.{key}
+use Rattle.row_tables.proofs.NamespacesArrived.{key}
 use Rattle.row_tables.proofs.arrived_by_snapshotter.ArrivedBySnapshotter.change.Goals as goal
 
 -- a change leaves as many rows

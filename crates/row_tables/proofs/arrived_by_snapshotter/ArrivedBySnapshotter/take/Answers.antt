@@ -5,7 +5,7 @@ use Rattle.row_tables.specs.Arrived.{sorted}
 use Rattle.row_tables.specs.Namespaces.{own_texts, full_key, all_rows}
 use Rattle.row_tables.proofs.Arrivals.{length_sorted}
 use Rattle.row_tables.proofs.RowCounts.{length_less}
-use Rattle.row_tables.proofs.NamespacesCame.{key}
+use Rattle.row_tables.proofs.NamespacesArrived.{key}
 use Rattle.row_tables.proofs.arrived_by_snapshotter.ArrivedBySnapshotter.take.Goals as goal
 
 -- where none goes, as many are left

@@ -3,7 +3,7 @@ use Rattle.meta_types.specs.Keys.{is_before}
 use Rattle.meta_types.specs.Text.{Text}
 use Rattle.row_tables.specs.Namespaces.{group_key}
 use Rattle.row_tables.proofs.NamespaceLists.{place_within}
-use Rattle.row_tables.proofs.NamespacesCame.{Opens, came_opened, none_on_err}
+use Rattle.row_tables.proofs.NamespacesArrived.{Opens, arrived_opened, none_on_err}
 use Rattle.row_tables.proofs.namespaces.change.home_of.Goals as goal
 
 pub insert-requires : goal.insert-requires
@@ -14,7 +14,7 @@ insert-requires g c =
 -- the namespace stands in its place, and has no row
 opened : (g : _) (c : goal.In_ok-insert-in-Err g) → Opens g.K.Named.texts_of g.R.NamedRow.name_of g.R.GroupedRow.group_of c.args.ns.now c.in-Err.place c.args.groups.now.items c.insert.new.self.items
 opened g c =
-    came_opened g.K.Named.texts_of g.R.NamedRow.name_of g.R.GroupedRow.group_of c.requires c.deref.ensures.value c.in-Err.ensures.none c.in-Err.ensures.absent
+    arrived_opened g.K.Named.texts_of g.R.NamedRow.name_of g.R.GroupedRow.group_of c.requires c.deref.ensures.value c.in-Err.ensures.none c.in-Err.ensures.absent
     (λ i. (c.in_ok-ns-in-Err.ensures.ok i, c.new.ensures i)) c.in_ok-insert-in-Err.ensures.items
 
 pub returns-in_ok-insert-in-Err-clause-home : goal.returns-in_ok-insert-in-Err-clause-home

@@ -1,7 +1,7 @@
 use Rattle.std.proofs.Common.{List, length, not, sym, ap, ◌∙◌}
 use Rattle.std.specs.Prelude.{◌==◌}
 use Rattle.meta_types.specs.Text.{Text}
-use Rattle.row_tables.proofs.NamespacesCame.{item_is}
+use Rattle.row_tables.proofs.NamespacesArrived.{item_is}
 use Rattle.row_tables.proofs.NamespaceListings.{any_there, any_nowhere}
 use Rattle.row_tables.proofs.namespaces.find.any_in.Goals as goal
 

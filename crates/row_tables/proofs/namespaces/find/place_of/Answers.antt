@@ -5,7 +5,7 @@ use Rattle.std.proofs.lemmas.Option.{slice_get_within}
 use Rattle.meta_types.specs.Keys.{is_key}
 use Rattle.meta_types.specs.Text.{Text}
 use Rattle.row_tables.specs.Namespaces.{all_rows}
-use Rattle.row_tables.proofs.NamespacesCame.{name, item_is, came_place, came_nowhere}
+use Rattle.row_tables.proofs.NamespacesArrived.{name, item_is, arrived_place, arrived_nowhere}
 use Rattle.row_tables.proofs.NamespaceSpans.{first_fits}
 use Rattle.row_tables.proofs.namespaces.find.place_of.Goals as goal
 
@@ -28,7 +28,7 @@ returns-in-Some g c =
     ap (λ n. Some (n + c.in-Some.place)) (c.requires.starts.each c.in-Ok.home there)
     ∙ ap (option_map (λ n. before + n)) (c.in-Some.ensures.place
     ∙ ap (λ (x : Text × List g.row.R.Denot). position (λ row. is_key t (key_of row)) x.1) (sym c.index-groups-home.is ∙ item_is g.K.Named.texts_of g.R.NamedRow.name_of g.R.GroupedRow.group_of c.args.ns.now c.in-Ok.home home.0 c.args.groups.now home.1 c.requires.are c.index-groups-home.result c.index-groups-home.is))
-    ∙ sym (came_place g.K.Named.texts_of g.R.NamedRow.name_of g.R.GroupedRow.group_of c.args.ns.now c.in-Ok.home home.0 c.args.groups.now home.1 c.requires.are t)
+    ∙ sym (arrived_place g.K.Named.texts_of g.R.NamedRow.name_of g.R.GroupedRow.group_of c.args.ns.now c.in-Ok.home home.0 c.args.groups.now home.1 c.requires.are t)
 
 pub returns-in-None : goal.returns-in-None
 returns-in-None g c =
@@ -38,7 +38,7 @@ returns-in-None g c =
     let key_of = name g.K.Named.texts_of g.R.NamedRow.name_of g.R.GroupedRow.group_of in
     ap (option_map (λ n. before + n)) (c.in-None.ensures.place
     ∙ ap (λ (x : Text × List g.row.R.Denot). position (λ row. is_key t (key_of row)) x.1) (sym c.index-groups-home.is ∙ item_is g.K.Named.texts_of g.R.NamedRow.name_of g.R.GroupedRow.group_of c.args.ns.now c.in-Ok.home home.0 c.args.groups.now home.1 c.requires.are c.index-groups-home.result c.index-groups-home.is))
-    ∙ sym (came_place g.K.Named.texts_of g.R.NamedRow.name_of g.R.GroupedRow.group_of c.args.ns.now c.in-Ok.home home.0 c.args.groups.now home.1 c.requires.are t)
+    ∙ sym (arrived_place g.K.Named.texts_of g.R.NamedRow.name_of g.R.GroupedRow.group_of c.args.ns.now c.in-Ok.home home.0 c.args.groups.now home.1 c.requires.are t)
 
 pub returns-in-Err : goal.returns-in-Err
-returns-in-Err g c = sym (came_nowhere g.K.Named.texts_of g.R.NamedRow.name_of g.R.GroupedRow.group_of c.args.ns.now (g.K.Named.texts_of c.args.name.now) c.args.groups.now c.in-Err.ensures.none c.requires.are)
+returns-in-Err g c = sym (arrived_nowhere g.K.Named.texts_of g.R.NamedRow.name_of g.R.GroupedRow.group_of c.args.ns.now (g.K.Named.texts_of c.args.name.now) c.args.groups.now c.in-Err.ensures.none c.requires.are)

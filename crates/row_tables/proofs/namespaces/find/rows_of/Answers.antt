@@ -1,8 +1,8 @@
 use Rattle.std.proofs.Common.{◌≡◌, List, sym, ap, ◌∙◌}
 use Rattle.meta_types.specs.Text.{Text}
 use Rattle.row_tables.proofs.NamespaceRows.{none_of_it, rows_of_it}
-use Rattle.row_tables.proofs.NamespacesCame.{item_is}
-use Rattle.row_tables.proofs.KeysOnce.{came_own}
+use Rattle.row_tables.proofs.NamespacesArrived.{item_is}
+use Rattle.row_tables.proofs.KeysOnce.{arrived_own}
 use Rattle.row_tables.proofs.namespaces.find.rows_of.Goals as goal
 
 -- the rows that are lent are those of the namespace
@@ -13,7 +13,7 @@ lent g c =
 
 pub returns-in-Ok-clause-rows : goal.returns-in-Ok-clause-rows
 returns-in-Ok-clause-rows g c =
-    lent g c ∙ sym (rows_of_it g.K.Named.texts_of g.R.NamedRow.name_of g.R.GroupedRow.group_of c.args.ns.now c.args.groups.now c.in-Ok.home c.in-Ok.ensures.found.0 c.requires.order (came_own g.K.Named.texts_of g.R.NamedRow.name_of g.R.GroupedRow.group_of c.args.groups.now c.requires) c.in-Ok.ensures.found.1)
+    lent g c ∙ sym (rows_of_it g.K.Named.texts_of g.R.NamedRow.name_of g.R.GroupedRow.group_of c.args.ns.now c.args.groups.now c.in-Ok.home c.in-Ok.ensures.found.0 c.requires.order (arrived_own g.K.Named.texts_of g.R.NamedRow.name_of g.R.GroupedRow.group_of c.args.groups.now c.requires) c.in-Ok.ensures.found.1)
 
 pub returns-in-Err-clause-none : goal.returns-in-Err-clause-none
-returns-in-Err-clause-none g c = none_of_it g.K.Named.texts_of g.R.NamedRow.name_of g.R.GroupedRow.group_of c.args.ns.now c.args.groups.now c.in-Err.ensures.none (came_own g.K.Named.texts_of g.R.NamedRow.name_of g.R.GroupedRow.group_of c.args.groups.now c.requires)
+returns-in-Err-clause-none g c = none_of_it g.K.Named.texts_of g.R.NamedRow.name_of g.R.GroupedRow.group_of c.args.ns.now c.args.groups.now c.in-Err.ensures.none (arrived_own g.K.Named.texts_of g.R.NamedRow.name_of g.R.GroupedRow.group_of c.args.groups.now c.requires)

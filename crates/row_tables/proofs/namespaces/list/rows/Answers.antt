@@ -1,8 +1,8 @@
 use Rattle.std.proofs.Common.{◌++◌, map, take, sym, ap, ◌∙◌}
 use Rattle.std.proofs.lemmas.List.{map-append}
 use Rattle.row_tables.specs.Namespaces.{all_rows}
-use Rattle.row_tables.specs.Came.{listed}
-use Rattle.row_tables.proofs.NamespacesCame.{name}
+use Rattle.row_tables.specs.ArrivedNamespaces.{listed}
+use Rattle.row_tables.proofs.NamespacesArrived.{name}
 use Rattle.row_tables.proofs.NamespaceListings.{listed_more}
 use Rattle.row_tables.proofs.namespaces.list.rows.Goals as goal
 

@@ -1,7 +1,7 @@
 use Rattle.std.proofs.Common.{◌≡◌, take, map}
 use Rattle.row_tables.specs.Namespaces.{all_rows}
-use Rattle.row_tables.specs.Came.{listed}
-use Rattle.row_tables.proofs.NamespacesCame.{name}
+use Rattle.row_tables.specs.ArrivedNamespaces.{listed}
+use Rattle.row_tables.proofs.NamespacesArrived.{name}
 use Rattle.row_tables.proofs.namespaces.list.rows.Given as goal
 
 -- the rows of the namespaces so far are borrowed

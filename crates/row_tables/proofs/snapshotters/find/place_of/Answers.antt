@@ -4,7 +4,7 @@ use Rattle.std.specs.Option.{option_map}
 use Rattle.std.proofs.lemmas.Option.{slice_get_within, get_or_from_slice_get}
 use Rattle.meta_types.specs.Keys.{is_key}
 use Rattle.row_tables.specs.Namespaces.{own_texts, full_key, all_rows}
-use Rattle.row_tables.proofs.NamespacesCame.{name, came_place, came_nowhere}
+use Rattle.row_tables.proofs.NamespacesArrived.{name, arrived_place, arrived_nowhere}
 use Rattle.row_tables.proofs.NamespaceLists.{list_at}
 use Rattle.row_tables.proofs.FirstPosition.{position_within}
 use Rattle.row_tables.proofs.NamespaceSpans.{first_fits}
@@ -49,7 +49,7 @@ returns-in-Some g c =
     ap (λ n. Some (n + c.in-Some.place)) start
     ∙ ap (option_map (λ n. before + n)) (c.in-Some.ensures
     ∙ ap (λ (rows : List g.row.R.Denot). position (λ row. is_key t (key_of row)) rows) own)
-    ∙ sym (came_place own_texts own_key g.R.SnapshotterRow.ns_of ns at home.0 gs home.1
+    ∙ sym (arrived_place own_texts own_key g.R.SnapshotterRow.ns_of ns at home.0 gs home.1
     c.requires.are t)
 
 pub returns-in-None : goal.returns-in-None
@@ -68,12 +68,12 @@ returns-in-None g c =
     ∙ list_at gs at (ns, home.0) lent home.1 in
     ap (option_map (λ n. before + n)) (c.in-None.ensures
     ∙ ap (λ (rows : List g.row.R.Denot). position (λ row. is_key t (key_of row)) rows) own)
-    ∙ sym (came_place own_texts own_key g.R.SnapshotterRow.ns_of ns at home.0 gs home.1
+    ∙ sym (arrived_place own_texts own_key g.R.SnapshotterRow.ns_of ns at home.0 gs home.1
     c.requires.are t)
 
 pub returns-in-Err : goal.returns-in-Err
 returns-in-Err g c =
     let own_key = full_key g.K.Named.texts_of g.R.NamedRow.name_of g.R.GroupedRow.group_of in
-    sym (came_nowhere own_texts own_key g.R.SnapshotterRow.ns_of c.args.ns.now
+    sym (arrived_nowhere own_texts own_key g.R.SnapshotterRow.ns_of c.args.ns.now
     (c.args.snapshotter.now ∷ g.K.Named.texts_of c.args.name.now) c.args.groups.now
     c.in-Err.ensures.none c.requires.are)

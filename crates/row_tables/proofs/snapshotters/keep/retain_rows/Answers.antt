@@ -1,6 +1,6 @@
 use Rattle.std.proofs.Common.{arith}
 use Rattle.row_tables.specs.Namespaces.{own_texts, full_key}
-use Rattle.row_tables.proofs.SweptNamespaces.{retains_none, retains_within, retains_more, retains_all, retains_came}
+use Rattle.row_tables.proofs.SweptNamespaces.{retains_none, retains_within, retains_more, retains_all, retains_arrived}
 use Rattle.row_tables.proofs.snapshotters.keep.retain_rows.Goals as goal
 
 pub loop-group-init : goal.loop-group-init
@@ -19,4 +19,4 @@ pub returns-clause-rows : goal.returns-clause-rows
 returns-clause-rows g c = retains_all g.R.SnapshotterRow.ns_of c.loop-group.invariant (omega (arith, c.loop-group.auto.groups, c.loop-group-test.false))
 
 pub returns-clause-groups : goal.returns-clause-groups
-returns-clause-groups g c = retains_came own_texts (full_key g.K.Named.texts_of g.R.NamedRow.name_of g.R.GroupedRow.group_of) g.R.SnapshotterRow.ns_of c.loop-group.invariant (omega (arith, c.loop-group.auto.groups, c.loop-group-test.false)) c.requires.groups
+returns-clause-groups g c = retains_arrived own_texts (full_key g.K.Named.texts_of g.R.NamedRow.name_of g.R.GroupedRow.group_of) g.R.SnapshotterRow.ns_of c.loop-group.invariant (omega (arith, c.loop-group.auto.groups, c.loop-group-test.false)) c.requires.groups

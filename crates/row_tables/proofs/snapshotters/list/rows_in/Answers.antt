@@ -2,7 +2,7 @@ use Rattle.std.proofs.Common.{◌≡◌, List, map, sym, ap, ◌∙◌, subst}
 use Rattle.std.specs.Prelude.{IfOk}
 use Rattle.meta_types.specs.Text.{Text}
 use Rattle.row_tables.specs.Arrived.{sorted}
-use Rattle.row_tables.proofs.NamespacesCame.{name, item_is}
+use Rattle.row_tables.proofs.NamespacesArrived.{name, item_is}
 use Rattle.row_tables.proofs.NamespaceListings.{listed_rows_in, listed_none_in}
 use Rattle.row_tables.specs.Namespaces.{own_texts, full_key}
 use Rattle.row_tables.proofs.snapshotters.list.rows_in.Goals as goal

@@ -3,7 +3,7 @@ use Rattle.std.specs.Prelude.{IfOk, filter, bytes_eq}
 use Rattle.meta_types.specs.Text.{Text}
 use Rattle.row_tables.specs.Arrived.{sorted}
 use Rattle.row_tables.specs.Namespaces.{own_texts, full_key, all_rows}
-use Rattle.row_tables.proofs.NamespacesCame.{key, name, item_is}
+use Rattle.row_tables.proofs.NamespacesArrived.{key, name, item_is}
 use Rattle.row_tables.proofs.NamespaceListings.{listed_rows_in, listed_none_in}
 use Rattle.row_tables.proofs.SnapshotterRows.{filter_both}
 use Rattle.row_tables.proofs.snapshotters.list.rows_of.Goals as goal

@@ -2,7 +2,7 @@ use Rattle.std.proofs.Common.{◌≡◌, ◌<◌, ◌≤◌, ℕ, ◌+◌, List,
 use Rattle.std.specs.Prelude.{All}
 use Rattle.std.proofs.lemmas.List.{take_all}
 use Rattle.std.proofs.lemmas.List.Elements.{All-more}
-use Rattle.store_front.specs.Told.{Seat}
+use Rattle.store_front.specs.SessionEntries.{Seat}
 use Rattle.store_front.proofs.check.numbers.all_below.Goals as goal
 
 all : (opened n : ℕ) (seats : List Seat) → All (λ (s : Seat). s.number < opened) (take n seats)

@@ -1,6 +1,6 @@
 use Rattle.std.proofs.Common.{◌<◌, take}
 use Rattle.std.specs.Prelude.{All}
-use Rattle.store_front.specs.Told.{Seat}
+use Rattle.store_front.specs.SessionEntries.{Seat}
 use Rattle.store_front.proofs.check.numbers.all_below.Given as goal
 
 abbrev pub invariant-loop-session : goal.invariant-loop-session

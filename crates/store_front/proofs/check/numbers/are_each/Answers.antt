@@ -1,6 +1,6 @@
 use Rattle.std.proofs.Common.{◌≡◌, ◌≢◌, ◌<◌, ◌≤◌, ℕ, arith, Bool, true, false, ◌∙◌, sym, below_more}
 use Rattle.std.specs.Prelude.{MatchBool, count_by, ◌==◌, All}
-use Rattle.store_front.specs.Told.{Seat}
+use Rattle.store_front.specs.SessionEntries.{Seat}
 use Rattle.store_front.specs.Finish.{AreEach}
 use Rattle.store_front.proofs.SessionCounts.{are_each, not_each, one_above}
 use Rattle.store_front.proofs.check.numbers.are_each.Goals as goal

@@ -1,6 +1,6 @@
 use Rattle.std.proofs.Common.{ℕ, ◌≡◌, ◌<◌}
 use Rattle.std.specs.Prelude.{count_by, ◌==◌}
-use Rattle.store_front.specs.Told.{Seat}
+use Rattle.store_front.specs.SessionEntries.{Seat}
 use Rattle.store_front.proofs.check.numbers.are_each.Given as goal
 
 abbrev pub invariant-loop-number : goal.invariant-loop-number

@@ -2,8 +2,8 @@ use Rattle.std.proofs.Common.{rules, ◌≡◌, ◌≢◌, ◌∙◌, ◌<◌, �
 use Rattle.std.specs.Prelude.{count_by, ◌==◌, slice_get, Some}
 use Rattle.std.proofs.lemmas.Option.{slice_get_within}
 use Rattle.meta_types.specs.Histories.{Entry}
-use Rattle.store_front.specs.Told.{Seat}
-use Rattle.store_front.specs.Parts.{told_of}
+use Rattle.store_front.specs.SessionEntries.{Seat}
+use Rattle.store_front.specs.Parts.{session_entry_of}
 use Rattle.store_front.proofs.Comparing.{entry_counted, reads_on, reads_another, at_end}
 use Rattle.store_front.proofs.check.sessions.first_mismatch.Goals as goal
 
@@ -24,7 +24,7 @@ returns-then-not-stands_at-clause-ok g c =
     let place = c.place_of-place.result in
     let number : (d : Seat) → (slice_index_or c.args.sessions.now place d).number ≡ e.session = λ d. c.place_of-place.ensures.number d ∙ ap (λ (x : Entry). x.session) c.entry.view_is in
     let at_is : at ≡ slice_index_or c.loop-entry.next.items place at = search rules in
-    let another : slice_get s.list at ≢ Some (told_of e) = search rules in
+    let another : slice_get s.list at ≢ Some (session_entry_of e) = search rules in
     reads_another c.requires.0 c.args.log.now c.args.sessions.now c.loop-entry.next.items c.loop-entry.entry-index e place c.requires.1 c.loop-entry-test.true (sym c.entry-item.is)
     c.place_of-place.ensures.inside c.loop-entry.invariant.long number c.loop-entry.invariant.each s at c.index-sessions-place.is at_is another
 
@@ -33,8 +33,8 @@ overflow_add-at g c =
     let e : Entry = c.entry-item.result in
     let s : Seat = c.index-sessions-place.result in
     let at : ℕ = c.index-at.result.now in
-    let stands : slice_get s.list at ≡ Some (told_of e) = search rules in
-    let within : at < length s.list = slice_get_within s.list at (told_of e) stands in
+    let stands : slice_get s.list at ≡ Some (session_entry_of e) = search rules in
+    let within : at < length s.list = slice_get_within s.list at (session_entry_of e) stands in
     search rules
 
 -- the entry stands in its session's list
@@ -46,7 +46,7 @@ loop-entry-preserved g c =
     let place = c.place_of-place.result in
     let number : (d : Seat) → (slice_index_or c.args.sessions.now place d).number ≡ e.session = λ d. c.place_of-place.ensures.number d ∙ ap (λ (x : Entry). x.session) c.entry.view_is in
     let at_is : at ≡ slice_index_or c.loop-entry.next.items place at = search rules in
-    let stands : slice_get s.list at ≡ Some (told_of e) = search rules in
+    let stands : slice_get s.list at ≡ Some (session_entry_of e) = search rules in
     record {
       long = search rules;
       each = reads_on c.requires.0 c.args.log.now c.args.sessions.now c.loop-entry.next.items c.loop-entry.entry-index e place c.requires.1 c.loop-entry-test.true (sym c.entry-item.is)

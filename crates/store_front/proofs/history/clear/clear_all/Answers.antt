@@ -1,5 +1,5 @@
 use Rattle.std.proofs.Common.{rules, ◌≡◌, ◌∙◌, ◌<◌, ◌≤◌, List, length, slice_index_or, slice_set, arith, ap}
-use Rattle.store_front.specs.Told.{Seat}
+use Rattle.store_front.specs.SessionEntries.{Seat}
 use Rattle.store_front.specs.Finish.{fresh}
 use Rattle.store_front.proofs.Emptied.{next_is, one_more, one_counted, all_cleared, all_told}
 use Rattle.store_front.proofs.history.clear.clear_all.Goals as goal

@@ -2,12 +2,12 @@ use Rattle.std.proofs.Common.{subst}
 use Rattle.std.specs.List.{IsDistinct}
 use Rattle.row_tables.specs.Arrived.{same_key}
 use Rattle.row_tables.specs.Namespaces.{own_texts, full_key}
-use Rattle.row_tables.proofs.NamespacesCame.{key}
-use Rattle.row_tables.proofs.KeysOnce.{came_apart}
+use Rattle.row_tables.proofs.NamespacesArrived.{key}
+use Rattle.row_tables.proofs.KeysOnce.{arrived_apart}
 use Rattle.row_tables.proofs.snapshotters.places.PlacesBySnapshotter.len.Goals as goal
 
 -- no key stands twice
 pub returns-clause-distinct : goal.returns-clause-distinct
 returns-clause-distinct g c =
     subst (IsDistinct (same_key (key own_texts (full_key g.K.Named.texts_of g.R.NamedRow.name_of g.R.GroupedRow.group_of) g.R.SnapshotterRow.ns_of))) c.self.view_is
-    (came_apart own_texts (full_key g.K.Named.texts_of g.R.NamedRow.name_of g.R.GroupedRow.group_of) g.R.SnapshotterRow.ns_of c.self.inside.groups.now c.self.invariant.0.are)
+    (arrived_apart own_texts (full_key g.K.Named.texts_of g.R.NamedRow.name_of g.R.GroupedRow.group_of) g.R.SnapshotterRow.ns_of c.self.inside.groups.now c.self.invariant.0.are)

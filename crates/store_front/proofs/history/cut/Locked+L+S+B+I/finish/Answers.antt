@@ -1,7 +1,7 @@
 use Rattle.std.proofs.Common.{◌∙◌, sym, ap, subst}
 use Rattle.meta_types.specs.Histories.{IsLegal}
 use Rattle.store_front.specs.Front.{Front}
-use Rattle.store_front.specs.Told.{Course}
+use Rattle.store_front.specs.SessionEntries.{Course}
 use Rattle.store_front.specs.Parts.{AreOpened}
 use Rattle.store_front.proofs.Finishing.{each_refused, each_given, own_as, each_as}
 use Rattle.store_front.proofs.history.cut.Locked+L+S+B+I.finish.Goals as goal

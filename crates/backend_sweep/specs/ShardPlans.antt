@@ -1,0 +1,59 @@
+-- Shards beside what is to be swept of each, and what was. Ours, unless a source stands beside.
+use Rattle.std.specs.Prelude.{ℕ, ◌≡◌, Bool, false, not, ◌||◌, List, [], length, find, Option, None, Some, bytes_eq, if◌then◌else◌}
+use Rattle.std.specs.Option.{option_map_or}
+use Rattle.meta_types.specs.Text.{Text}
+use Rattle.back_model.specs.Shown.{Shard}
+use Rattle.backend_sweep.specs.Shards.{has, numbers_of}
+use Rattle.backend_sweep.specs.Sweep.{Swept, Childfirst, IsRoomFor, Sweeps}
+use Rattle.backend_sweep.specs.declared.fates.Fate.{Fate}
+use Rattle.backend_sweep.specs.declared.fates.Fate.TheVariants as F
+
+-- what is to be swept of one snapshotter's shard, and what was
+pub record PlannedShard : Type 0 where
+  pub snapshotter : Text
+  pub list : List ℕ
+  pub swept : Swept
+
+-- the numbers of the snapshotter, and empty lists with room for them
+abbrev pub shard_plan_for : List (Text × ℕ) → Text → PlannedShard
+shard_plan_for names snapshotter = record {
+  snapshotter = snapshotter;
+  list = numbers_of snapshotter names;
+  swept = record { removed = []; failed = []; kept = []; parents = []; room = length (numbers_of snapshotter names) };
+}
+
+-- the plan's list may be swept of the shard, into the plan
+abbrev pub IsReady : Shard → PlannedShard → Type 0
+IsReady s shard_plan = Childfirst shard_plan.list s.snaps × IsRoomFor shard_plan.list shard_plan.swept
+
+-- the shard is swept by the plan
+pub record SweepsShardPlan (old : Shard) (shard_plan swept : PlannedShard) (new : Shard) : Type 0 where
+  pub name : new.snapshotter ≡ old.snapshotter
+  pub shard_plan_is : swept ≡ record shard_plan { swept = swept.swept }
+  pub sweeps : Sweeps shard_plan.list old.snaps new.snaps old.failures new.failures swept.swept
+
+-- its snapshotter's plan is this one
+abbrev pub IsFound : List PlannedShard → PlannedShard → Type 0
+IsFound shard_plans shard_plan =
+    find (λ (other : PlannedShard). bytes_eq other.snapshotter shard_plan.snapshotter) shard_plans ≡ Some shard_plan
+
+-- what became of the number, as its plan has it; one without a plan is kept
+abbrev pub fate_in : Option PlannedShard → ℕ → Fate
+fate_in None n = F.Kept
+fate_in (Some shard_plan) n = if has shard_plan.swept.failed n then F.Failed else if has shard_plan.swept.kept n then F.Kept else F.Removed
+
+-- what became of the name, by its plan
+abbrev pub fate_of : List PlannedShard → Text × ℕ → Fate
+fate_of shard_plans name = fate_in (find (λ (shard_plan : PlannedShard). bytes_eq shard_plan.snapshotter name.0) shard_plans) name.1
+
+-- the test of the number by the name's plan; false where it has no plan
+abbrev pub in_shard_plan : (PlannedShard → ℕ → Bool) → List PlannedShard → Text × ℕ → Bool
+in_shard_plan tells shard_plans name = option_map_or (λ (shard_plan : PlannedShard). tells shard_plan name.1) (find (λ (shard_plan : PlannedShard). bytes_eq shard_plan.snapshotter name.0) shard_plans) false
+
+-- its removal failed
+abbrev pub is_failed : List PlannedShard → Text × ℕ → Bool
+is_failed = in_shard_plan (λ shard_plan n. has shard_plan.swept.failed n)
+
+-- it was neither failed nor kept
+abbrev pub is_removed : List PlannedShard → Text × ℕ → Bool
+is_removed = in_shard_plan (λ shard_plan n. not (has shard_plan.swept.failed n || has shard_plan.swept.kept n))

@@ -1,0 +1,10 @@
+use Rattle.scripts.proofs.WorkedScripts.{requests_are_answered, a_collection_is_answered}
+use Rattle.scripts.proofs.laws.worked_scripts_are_answered.Goals as goal
+
+-- line by line
+pub returns-clause-requests : goal.returns-clause-requests
+returns-clause-requests c = requests_are_answered
+
+-- the report is that of the worked store
+pub returns-clause-collection : goal.returns-clause-collection
+returns-clause-collection c = a_collection_is_answered

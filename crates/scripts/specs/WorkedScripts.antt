@@ -1,0 +1,65 @@
+-- Small scripts and what answers them, byte for byte: so the definitions of lines, replies and
+-- reports are run. Ours, unless a source stands beside.
+use Rattle.std.specs.Prelude.{ℕ, List, [], ◌∷◌, ◌++◌, codes}
+use Rattle.meta_types.specs.Text.{Text}
+use Rattle.meta_types.specs.Worked.{a, b, c}
+use Rattle.scripts.specs.WholeScripts.{AnswersScript}
+
+-- lines, each with its line feed
+abbrev pub text_of : List Text → List ℕ
+text_of [] = []
+text_of (line ∷ lines) = line ++ (10 ∷ text_of lines)
+
+abbrev pub done : Text
+done = codes "{\"ok\":true}"
+
+-- ---- requests, an empty line, and a line that is no request
+
+abbrev pub requests : List Text
+requests = codes "{\"op\":\"ns.add\",\"ns\":\"x\"}"
+    ∷ codes ""
+    ∷ codes " { \"ns\" : \"x\", \"op\" : \"ns.\\u0061dd\" } "
+    ∷ codes "{\"op\":\"ns.list\"}"
+    ∷ codes "{\"op\":\"ns.mend\"}"
+    ∷ []
+
+abbrev pub replies : List Text
+replies = done
+    ∷ codes "{\"fault\":3,\"name\":\"AlreadyExists\"}"
+    ∷ codes "{\"names\":[\"x\"],\"ok\":true}"
+    ∷ codes "{\"fault\":5,\"name\":\"BadLine\"}"
+    ∷ []
+
+abbrev pub RequestsAreAnswered : Type 0
+RequestsAreAnswered = AnswersScript (text_of requests) (text_of replies)
+
+-- ---- a collection: content that an image leads to stays, other content goes
+
+abbrev pub adding : Text → Text → Text
+adding digest more = codes "{\"op\":\"content.add\",\"ns\":\"x\",\"digest\":\"" ++ (digest ++ more)
+
+abbrev pub collecting : List Text
+collecting = codes "{\"op\":\"ns.add\",\"ns\":\"x\"}"
+    ∷ adding b (codes "\"}")
+    ∷ adding a
+    (codes "\",\"labels\":{\"containerd.io/gc.ref.content.0\":\"" ++ (b ++ codes "\"}}"))
+    ∷ adding c (codes "\"}")
+    ∷ (codes "{\"op\":\"image.add\",\"ns\":\"x\",\"name\":\"i\",\"target\":\"" ++ (a ++ codes "\"}"))
+    ∷ codes "{\"op\":\"gc.run\",\"at\":\"2024-03-01T00:00:00Z\"}"
+    ∷ []
+
+abbrev pub report_text : Text
+report_text = codes "{\"ok\":true,\"report\":{\"backend\":{\"blobs\":[\""
+    ++ (c
+    ++ (codes "\"],\"ingests\":[],\"snapshots\":[]},\"dry\":false,"
+    ++ (codes "\"failed\":{\"blobs\":[],\"ingests\":[],\"snapshots\":[]},\"ignored\":[],"
+    ++ (codes "\"kept\":{\"containers\":0,\"content\":2,\"images\":1,\"ingests\":0,"
+    ++ (codes "\"leases\":0,\"namespaces\":1,\"snapshots\":0},"
+    ++ (codes "\"removed\":{\"content\":[[\"x\",\""
+    ++ (c ++ codes "\"]],\"ingests\":[],\"leases\":[],\"snapshots\":[]},\"scanned\":2}}")))))))
+
+abbrev pub collected : List Text
+collected = done ∷ done ∷ done ∷ done ∷ done ∷ report_text ∷ []
+
+abbrev pub ACollectionIsAnswered : Type 0
+ACollectionIsAnswered = AnswersScript (text_of collecting) (text_of collected)

@@ -1,0 +1,31 @@
+//! Memory that is kept from line to line.
+ghost use Rattle.std.specs.Prelude.{None};
+ghost use Rattle.meta_types.specs.Faults.{Refuses};
+
+use json::Scratch;
+use meta_types::Fault;
+use reserve::Reserve;
+use std::alloc::Global;
+
+// The bytes of the longest line that is read.
+const LONGEST: usize = 65536;
+
+/// What is kept for a collection, and room to read any line in.
+#[derive(Drop)]
+pub struct LineMemory {
+    pub(crate) reserve: Reserve,
+    pub(crate) scratch: Scratch,
+}
+
+impl LineMemory {
+    /// Memory for an empty store and the longest line, so that reading one wants no more of it but
+    /// for its texts.
+    pub fn open(alloc: Global) -> Result<LineMemory, Fault>
+        ensures fault { Refuses result None }
+    {
+        let reserve = Reserve::open(alloc)?;
+        let mut scratch = Scratch::new(alloc);
+        scratch.reserve(LONGEST)?;
+        Ok(LineMemory { reserve, scratch })
+    }
+}

@@ -1,0 +1,68 @@
+//! When what is kept for collections and questions is given up, and what lines do to it.
+ghost use Rattle.std.specs.Prelude.{◌≡◌, true};
+ghost use Rattle.meta_types.specs.Limits.{is_worker_count};
+
+use crate::line_answer::LineAnswer;
+use reply_line::Answer;
+use request_line::Asked;
+use reserve::{Reserve, Stored, lists};
+use std::alloc::Global;
+use std::sync::ledger::Ledger;
+use store_front::{Keeps, MemLocked};
+
+/// What is stored.
+pub(crate) fn stored_in<L: Ledger, K: Keeps>(locked: &MemLocked<L, K>) -> Stored<'_> {
+    let records = locked.records();
+    Stored {
+        tables: &records.tables,
+        leases: &records.leases,
+        next: records.next,
+        blobs: locked.count_blobs(),
+    }
+}
+
+/// Gives up what is kept where the line collects, asks or lists. Answers how many workers collect.
+pub(crate) fn make_way(
+    reserve: &mut Reserve,
+    alloc: Global,
+    stored: &Stored<'_>,
+    asked: &Asked,
+    workers: usize,
+) -> usize
+    requires { is_worker_count workers ≡ true }
+    ensures { is_worker_count result ≡ true }
+{
+    match asked {
+        Asked::Request(request) => {
+            if lists(request) {
+                reserve.give_up();
+            }
+            workers
+        }
+        _ => {
+            let workers = reserve.workers(alloc, stored, workers);
+            reserve.give_up();
+            workers
+        }
+    }
+}
+
+/// Takes in what a line did: an addition, or a collection, after which no object is without a row.
+pub(crate) fn take_in(
+    reserve: &mut Reserve,
+    alloc: Global,
+    stored: &Stored<'_>,
+    answer: &LineAnswer,
+) {
+    match answer {
+        LineAnswer::Event(Answer::Replied(_)) => reserve.settle(true),
+        LineAnswer::Event(Answer::Reported(report)) => {
+            reserve.settle(false);
+            if !report.dry {
+                let objects = report.kept.snapshots.saturating_add(report.kept.ingests);
+                reserve.collected(alloc, stored, objects);
+            }
+        }
+        _ => reserve.settle(false),
+    }
+}
