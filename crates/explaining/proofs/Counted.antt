@@ -1,11 +1,10 @@
--- How many numbers there are, and the graph at a moment.
-use Rattle.std.proofs.Common.{◌≡◌, ℕ, ◌<◌, ◌≤◌, false, List, ◌++◌, map, length, filter, get_or, refl, ap, ◌∙◌, inl, inr, arith, ℤ, nat_lt, Bor}
+-- How many numbers there are, and what a search finds.
+use Rattle.std.proofs.Common.{◌≡◌, ℕ, ◌<◌, ◌≤◌, false, List, ◌++◌, map, length, filter, get_or, refl, ap, ◌∙◌, inl, inr, arith, ℤ, nat_lt, Bor, Option, None}
 use Rattle.std.specs.Prelude.{All}
 use Rattle.std.specs.List.{flat_map}
 use Rattle.std.proofs.lemmas.Bool.Decides.{nat_tests}
 use Rattle.std.proofs.lemmas.List.{length-append, length-map}
 use Rattle.std.proofs.lemmas.List.Elements.{Contains-get_or}
-use Rattle.meta_types.specs.Rows.{Records}
 use Rattle.meta_types.specs.Paths.{ingest, content, snapshot, is_root}
 use Rattle.meta_types.specs.declared.resource.Mode.TheVariants.{Full, Flat}
 use Rattle.meta_types.specs.declared.rows.ContentRow.{ContentRow}
@@ -13,6 +12,7 @@ use Rattle.meta_types.specs.declared.rows.IngestRow.{IngestRow}
 use Rattle.meta_types.specs.declared.rows.SnapRow.{SnapRow}
 use Rattle.mark_core.specs.declared.graph.Graph.{Graph}
 use Rattle.mark_core.specs.Reach.{node_count}
+use Rattle.mark_core.specs.Nearest.{IsStart, IsDepth}
 use Rattle.gc_graph.specs.declared.node.Node.{Node}
 use Rattle.gc_graph.specs.declared.rows.StoreRows.{StoreRows}
 use Rattle.gc_graph.specs.Stored.{records_of, IsSmall}
@@ -22,6 +22,7 @@ use Rattle.gc_graph.proofs.References.{name_of}
 use Rattle.gc_graph.proofs.Things.{nodes_are}
 use Rattle.explaining.specs.Explained.{IsSplitGraphOf}
 use Rattle.explaining.specs.Found.{numbered}
+use Rattle.explaining.specs.Searched.{HasGraph, IsSearched}
 use Rattle.explaining.proofs.WalkPaths.{start_ends}
 
 -- ---- few
@@ -48,34 +49,45 @@ few_numbered stored small =
     let lt : length flat_snaps ≡ length stored.snapshots.now = length-map records.tables.snapshots (snapshot Flat) ∙ length-map stored.snapshots.now (λ (r : Bor SnapRow). r.now) in
     omega (arith, small, a, b, d, f, li, lf, ll, ls, lt)
 
--- ---- the graph
+-- ---- a search
 
-pub counted : (records : Records) (at : ℤ) (book : List Node) (graph : Graph) → IsBuilt records at book graph → node_count graph ≡ length (numbered records)
-counted records at book graph b = b.count ∙ ap length (b.numbered ∙ nodes_are records) ∙ length-map (node_things records) name_of
+-- the starts are those of a moment, and the graph serves for each
+module _ (stored : StoreRows) (at : ℤ) (book : List Node) (graph : Graph) (own held : List ℕ) (small : IsSmall stored) (has : HasGraph (records_of stored) book graph)
+    (owns : own ≡ root_places stored.profile at 0 (node_things (records_of stored))) (holds : held ≡ flat_map (targets_in book) (filter (is_root stored.profile at) (root_things (records_of stored)))) where
+  abbrev built : IsBuilt (records_of stored) has.0 book graph
+  built = has.1
 
--- a graph that was made for one moment serves for another, with the starts of that one
-pub split : (records : Records) (made at : ℤ) (book : List Node) (graph : Graph) (own held : List ℕ) → IsBuilt records made book graph
-    → own ≡ root_places records.profile at 0 (node_things records) → held ≡ flat_map (targets_in book) (filter (is_root records.profile at) (root_things records)) → IsSplitGraphOf records at book graph own held
-split records made at book graph own held b o h = record {
-  built = made;
-  numbered = b.numbered;
-  once = b.once;
-  graph_of = b.graph_of;
-  owns = o;
-  holds = h;
-}
+  split : IsSplitGraphOf (records_of stored) at book graph own held
+  split = record { built = has.0; numbered = built.numbered; once = built.once; graph_of = built.graph_of; owns = owns; holds = holds }
 
-module _ (records : Records) (made at : ℤ) (book : List Node) (graph : Graph) (own held : List ℕ) (b : IsBuilt records made book graph) (s : IsSplitGraphOf records at book graph own held) where
-  pub own_below : All (λ r. r < node_count graph) own
-  own_below i d lt =
-      let end = start_ends records at book graph own held s (get_or own i d) 0 (inl (Contains-get_or own i d lt, refl)) in
+  counted : node_count graph ≡ length (numbered (records_of stored))
+  counted = built.count ∙ ap length (built.numbered ∙ nodes_are (records_of stored)) ∙ length-map (node_things (records_of stored)) name_of
+
+  pub few : node_count graph < 4294967295
+  few = (let count = counted in let most = few_numbered stored small in omega (arith, count, most))
+
+  start_below : (r cost : ℕ) → IsStart own held r cost → r < node_count graph
+  start_below r cost is =
+      let end = start_ends (records_of stored) at book graph own held split r cost is in
       let below = end.0 in
-      let c = counted records made book graph b in
-      omega (arith, below, c)
+      let count = counted in
+      omega (arith, below, count)
+
+  pub own_below : All (λ r. r < node_count graph) own
+  own_below i d lt = start_below (get_or own i d) 0 (inl (Contains-get_or own i d lt, refl))
 
   pub held_below : All (λ r. r < node_count graph) held
-  held_below i d lt =
-      let end = start_ends records at book graph own held s (get_or held i d) 1 (inr (Contains-get_or held i d lt, refl)) in
-      let below = end.0 in
-      let c = counted records made book graph b in
-      omega (arith, below, c)
+  held_below i d lt = start_below (get_or held i d) 1 (inr (Contains-get_or held i d lt, refl))
+
+  pub searched : (depths : List (Option ℕ)) → length depths ≡ node_count graph → ((n : ℕ) → n < node_count graph → IsDepth graph own held n (get_or depths n None)) → IsSearched (records_of stored) at graph depths
+  searched depths nodes deep = record {
+    book = book;
+    own = own;
+    held = held;
+    split = split;
+    deep = λ n lt. deep n (let count = counted in omega (arith, lt, count));
+    numbers = nodes ∙ counted;
+    nodes = nodes;
+    range = built.range;
+    few = (let most = few in omega (arith, nodes, most));
+  }

@@ -7,17 +7,15 @@ use Rattle.meta_types.specs.Rows.{Records}
 use Rattle.meta_types.specs.Paths.{Thing, is_root, IsPath}
 use Rattle.meta_types.specs.Explanations.{goes_before, Explains}
 use Rattle.mark_core.specs.declared.graph.Graph.{Graph}
-use Rattle.gc_graph.specs.declared.node.Node.{Node}
 use Rattle.gc_graph.specs.Targets.{root_things}
 use Rattle.gc_graph.proofs.Things.{HasNone, with_nodes, without_nodes, is_root_thing, split_thing}
-use Rattle.mark_core.specs.Nearest.{IsDepth}
-use Rattle.explaining.specs.Explained.{IsSplitGraphOf}
 use Rattle.explaining.specs.Found.{numbered, no_thing, thing_at}
+use Rattle.explaining.specs.Searched.{IsSearched}
 use Rattle.explaining.specs.Firsts.{number_before}
 use Rattle.explaining.specs.Ends.{depth_before, nearer, is_end, nearest_below, is_asked_root, first_root}
 use Rattle.explaining.specs.ShortestPaths.{IsFirstTo}
 use Rattle.explaining.proofs.Choices.{IsBest, one_more, same_best, best_of, below_or_this}
-use Rattle.explaining.proofs.FirstPaths.{not_itself, onward, behind_roots, depth_of}
+use Rattle.explaining.proofs.FirstPaths.{not_itself, onward, behind_roots, default_free, nearest_of, depth_of}
 use Rattle.explaining.proofs.WalkPaths.{in_store, ends_alone}
 
 -- ---- depths
@@ -114,7 +112,7 @@ module _ (records : Records) (at : ℤ) (asked : Thing → Bool) where
       let best = subst (λ (o : Option Thing). IsBest goes_before not_itself onward (is_asked_root records.profile at asked) (λ x. Contains (root_things records) x) o) (sym e) root_best in
       both_ways (is_asked_root records.profile at asked other) (best other c) (and_from (asked other) (is_root records.profile at other) a (ends_alone records at other path p c))
 
-  module _ (book : List Node) (graph : Graph) (own held : List ℕ) (s : IsSplitGraphOf records at book graph own held) (depths : List (Option ℕ)) where
+  module _ (graph : Graph) (depths : List (Option ℕ)) (searched : IsSearched records at graph depths) where
     abbrev here : ℕ → Thing
     here n = thing_at records n
 
@@ -139,13 +137,17 @@ module _ (records : Records) (at : ℤ) (asked : Thing → Bool) where
         one_more (nearer records depths) near_itself near_onward (is_end records asked depths) (λ a. a < n) (λ a. a < suc n) n
         (λ x lt. omega arith) (omega arith) (λ x lt. below_or_this x n lt) (nearest_below records asked depths n) (nearest_best n) (is_end records asked depths n) refl
 
-    -- the nearest number is asked for, and has a depth
-    pub end_of_nearest : (n : ℕ) → Some n ≡ nearest_below records asked depths count → (n < count) × (is_end records asked depths n ≡ true)
-    end_of_nearest n e =
-        let b = subst (λ (o : Option ℕ). IsBest (nearer records depths) near_itself near_onward (is_end records asked depths) (λ x. x < count) o) (sym e) (nearest_best count) in
-        (b.0, b.1)
+    -- the nearest number has a depth
+    pub nearest_known : (n : ℕ) → Some n ≡ nearest_below records asked depths (length depths) → depth n ≡ None → ⊥
+    nearest_known n e none =
+        let b = subst (λ (o : Option ℕ). IsBest (nearer records depths) near_itself near_onward (is_end records asked depths) (λ x. x < length depths) o) (sym e) (nearest_best (length depths)) in
+        both_ways (is_some (depth n)) (ap is_some none) (and_parts (asked (here n)) (is_some (depth n)) b.1).1
 
-    module _ (deep : (n : ℕ) → n < count → IsDepth graph own held n (depth n)) (none_root : None ≡ first_root records at asked) where
+    -- what is below a bound that is the count
+    at_count : (o : Option ℕ) → o ≡ nearest_below records asked depths (length depths) → o ≡ nearest_below records asked depths count
+    at_count o e = e ∙ ap (nearest_below records asked depths) searched.numbers
+
+    module _ (none_root : None ≡ first_root records at asked) where
       -- an asked thing at the end of a path has a number, and a depth
       abbrev IsNumbered : Thing → ℕ → Type 0
       IsNumbered other long = (j : ℕ) × (j < count) × (here j ≡ other) × (is_end records asked depths j ≡ true) × (d : ℕ) × (depth j ≡ Some d) × (d ≤ long)
@@ -159,24 +161,19 @@ module _ (records : Records) (at : ℤ) (asked : Thing → Bool) where
             (j, below, is, and_from (asked (here j)) (is_some (depth j)) (ap asked is ∙ a) (ap is_some known.1), known.0, known.1, known.2))
       ]
         where
-          default_free : (xs : List Thing) (i : ℕ) → i < length xs → (b c : Thing) → get_or xs i b ≡ get_or xs i c
-          default_free [] i lt b c = absurd (omega arith)
-          default_free (x ∷ xs) zero lt b c = refl
-          default_free (x ∷ xs) (suc i) lt b c = default_free xs i (omega arith) b c
-
           depth_at : (j : ℕ) → j < count → (path : List Thing) → IsPath records at (here j) path → (d : ℕ) × (depth j ≡ Some d) × (d ≤ length path)
-          depth_at j below path p = depth_of records at book graph own held s depths deep j below path p
+          depth_at j below path p = depth_of records at graph depths searched j below path p
 
       -- no path leads to the asked row, where no number does
-      pub none_explains : None ≡ nearest_below records asked depths count → Explains records at asked []
+      pub none_explains : None ≡ nearest_below records asked depths (length depths) → Explains records at asked []
       none_explains e = λ thing path a p.
           let k = has_number thing a path p in
-          let none = subst (λ (o : Option ℕ). IsBest (nearer records depths) near_itself near_onward (is_end records asked depths) (λ x. x < count) o) (sym e) (nearest_best count) in
+          let none = subst (λ (o : Option ℕ). IsBest (nearer records depths) near_itself near_onward (is_end records asked depths) (λ x. x < count) o) (sym (at_count None e)) (nearest_best count) in
           both_ways (is_end records asked depths k.0) (none k.0 k.1) k.3
 
-      module _ (n d : ℕ) (is_nearest : Some n ≡ nearest_below records asked depths count) (is_depth : depth n ≡ Some d) where
+      module _ (n d : ℕ) (is_nearest : Some n ≡ nearest_below records asked depths (length depths)) (is_depth : depth n ≡ Some d) where
         best : (n < count) × (is_end records asked depths n ≡ true) × ((x : ℕ) → x < count → is_end records asked depths x ≡ true → near x n ≡ false)
-        best = subst (λ (o : Option ℕ). IsBest (nearer records depths) near_itself near_onward (is_end records asked depths) (λ x. x < count) o) (sym is_nearest) (nearest_best count)
+        best = subst (λ (o : Option ℕ). IsBest (nearer records depths) near_itself near_onward (is_end records asked depths) (λ x. x < count) o) (sym (at_count (Some n) is_nearest)) (nearest_best count)
 
         -- what else is asked for is as far at least
         as_far : (other : Thing) (long : ℕ) → IsNumbered other long → (d ≤ long) × (long ≤ d → goes_before other (here n) ≡ false)
@@ -189,9 +186,10 @@ module _ (records : Records) (at : ℤ) (asked : Thing → Bool) where
             )
 
         -- the first path to the nearest number explains the asked row
-        pub number_explains : ((path : List Thing) × IsPath records at (here n) path × (length path ≡ d)) → (xs : List Thing) → IsFirstTo records at (here n) xs → Explains records at asked xs
-        number_explains short [] h = absurd h
-        number_explains short (last ∷ path) (is, leads, least, back) =
+        pub number_explains : (xs : List Thing) → IsFirstTo records at (here n) xs → Explains records at asked xs
+        number_explains [] h = absurd h
+        number_explains (last ∷ path) (is, leads, least, back) =
+            let short = (nearest_of records at graph depths searched n d best.0 is_depth).0 in
             let below : length path ≤ d = (let l = least short.0 short.1 in let k = short.2 in omega (arith, l, k)) in
             record {
               this = ap asked is ∙ (and_parts (asked (here n)) (is_some (depth n)) best.1).0;
@@ -203,7 +201,3 @@ module _ (records : Records) (at : ℤ) (asked : Thing → Bool) where
                   both_ways (goes_before other last) (ap (λ x. goes_before other x) is ∙ far.1 (omega (arith, l, below))) t;
               first_back = back;
             }
-
--- an end has a depth
-pub not_unknown : (records : Records) (asked : Thing → Bool) (depths : List (Option ℕ)) (n : ℕ) → is_end records asked depths n ≡ true → get_or depths n None ≡ None → ⊥
-not_unknown records asked depths n h e = both_ways (is_some (get_or depths n None)) (ap is_some e) (and_parts (asked (thing_at records n)) (is_some (get_or depths n None)) h).1

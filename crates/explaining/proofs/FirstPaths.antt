@@ -23,8 +23,9 @@ use Rattle.mark_core.specs.Nearest.{IsDepth}
 use Rattle.mark_core.specs.Firsts.{leads, is_step}
 use Rattle.explaining.specs.Explained.{IsSplitGraphOf}
 use Rattle.explaining.specs.Found.{numbered, no_thing, thing_at}
+use Rattle.explaining.specs.Searched.{IsSearched}
 use Rattle.explaining.specs.ShortestPaths.{IsFirstTo}
-use Rattle.explaining.specs.Firsts.{is_holder, holder_of, number_before, first_leading, chain, or_else, root_before}
+use Rattle.explaining.specs.Firsts.{is_holder, holder_of, number_before, first_leading, chain, or_else, listed, root_before}
 use Rattle.explaining.proofs.Choices.{IsBest, one_more, same_best, best_of, below_or_this}
 use Rattle.explaining.proofs.ReasonEdges.{reason_edge}
 use Rattle.explaining.proofs.WalkPaths.{in_store, walk_ends, path_walked}
@@ -73,11 +74,19 @@ same_number a b h = grind (arith, nat_tests)
 number_itself : (a : ℕ) → (a == a) ≡ true
 number_itself a = grind (arith, nat_tests)
 
--- the roots as a list
-abbrev pub listed : Option Thing → List Thing
-listed root = option_map_or (λ r. r ∷ []) root []
+-- at a place of a list its default is free
+pub default_free : (xs : List Thing) (i : ℕ) → i < length xs → (a b : Thing) → get_or xs i a ≡ get_or xs i b
+default_free [] i lt a b = absurd (omega arith)
+default_free (x ∷ xs) zero lt a b = refl
+default_free (x ∷ xs) (suc i) lt a b = default_free xs i (omega arith) a b
 
-module _ (records : Records) (at : ℤ) (book : List Node) (graph : Graph) (own held : List ℕ) (s : IsSplitGraphOf records at book graph own held) (depths : List (Option ℕ)) where
+module _ (records : Records) (at : ℤ) (graph : Graph) (depths : List (Option ℕ)) (searched : IsSearched records at graph depths) where
+  abbrev book : List Node
+  book = searched.book
+
+  abbrev s : IsSplitGraphOf records at book graph searched.own searched.held
+  s = searched.split
+
   abbrev here : ℕ → Thing
   here n = thing_at records n
 
@@ -94,14 +103,6 @@ module _ (records : Records) (at : ℤ) (book : List Node) (graph : Graph) (own 
       one_more (number_before records) (λ a. not_itself (here a)) (λ a b c. onward (here a) (here b) (here c)) (λ a. leads graph depths a t) (λ a. a < n) (λ a. a < suc n) n
       (λ x lt. omega arith) (omega arith) (λ x lt. below_or_this x n lt) (first_leading records graph depths t n) (leading_best t n) (leads graph depths n t) refl
 
-  -- it is below the bound
-  pub leading_below : (t bound : ℕ) → IfSome (first_leading records graph depths t bound) (λ b. b < bound)
-  leading_below t bound = go (first_leading records graph depths t bound) (leading_best t bound)
-    where
-      go : (o : Option ℕ) → IsBest (number_before records) (λ a. not_itself (here a)) (λ a b c. onward (here a) (here b) (here c)) (λ a. leads graph depths a t) (λ a. a < bound) o → IfSome o (λ b. b < bound)
-      go None h = tt
-      go (Some b) h = h.0
-
   -- of the images, containers and leases that hold a thing, the first
   holder_best : (t : Thing) → IsBest goes_before not_itself onward (is_holder records.profile at t) (λ x. Contains (root_things records) x) (holder_of records at t)
   holder_best t =
@@ -117,198 +118,192 @@ module _ (records : Records) (at : ℤ) (book : List Node) (graph : Graph) (own 
   root_path root [] c p = (refl, p.1)
   root_path root (x ∷ path) (k, lt, is) p = absurd (false≢true (sym (no_edge x root (subst HasNone is (without_nodes records k root lt))) ∙ p.1))
 
-  module _ (deep : (n : ℕ) → n < count → IsDepth graph own held n (depth n)) where
-    -- a depth is the length of a shortest path
-    pub nearest_of : (n d : ℕ) → n < count → depth n ≡ Some d → EndsPath records at d (here n) × ((path : List Thing) → IsPath records at (here n) path → d ≤ length path)
-    nearest_of n d lt e =
-        let h : IsDepth graph own held n (Some d) = subst (IsDepth graph own held n) e (deep n lt) in
-        let end = walk_ends records at book graph own held s n d h.0.0 h.0.1 in (
-          end.1 no_thing,
-          λ path p. let w = path_walked records at book graph own held s (here n) path p n no_thing lt refl in
-              let c : d ≤ w.0 = h.1 w.1 w.0 w.2 in
-              let k = w.3 in
-              omega arith,
-        )
+  -- a depth is the length of a shortest path
+  pub nearest_of : (n d : ℕ) → n < count → depth n ≡ Some d → EndsPath records at d (here n) × ((path : List Thing) → IsPath records at (here n) path → d ≤ length path)
+  nearest_of n d lt e =
+      let h : IsDepth graph searched.own searched.held n (Some d) = subst (IsDepth graph searched.own searched.held n) e (searched.deep n lt) in
+      let end = walk_ends records at book graph searched.own searched.held s n d h.0.0 h.0.1 in (
+        end.1 no_thing,
+        λ path p. let w = path_walked records at book graph searched.own searched.held s (here n) path p n no_thing lt refl in
+            let c : d ≤ w.0 = h.1 w.1 w.0 w.2 in
+            let k = w.3 in
+            omega arith,
+      )
 
-    -- what a path ends in has a depth
-    pub depth_of : (n : ℕ) → n < count → (path : List Thing) → IsPath records at (here n) path → (d : ℕ) × (depth n ≡ Some d) × (d ≤ length path)
-    depth_of n lt path p = go (depth n) refl
+  -- what a path ends in has a depth
+  pub depth_of : (n : ℕ) → n < count → (path : List Thing) → IsPath records at (here n) path → (d : ℕ) × (depth n ≡ Some d) × (d ≤ length path)
+  depth_of n lt path p = go (depth n) refl
+    where
+      go : (o : Option ℕ) → depth n ≡ o → (d : ℕ) × (o ≡ Some d) × (d ≤ length path)
+      go (Some d) e = (d, refl, (nearest_of n d lt e).1 path p)
+      go None e =
+          let w = path_walked records at book graph searched.own searched.held s (here n) path p n no_thing lt refl in
+          absurd (subst (IsDepth graph searched.own searched.held n) e (searched.deep n lt) w.1 w.0 w.2)
+
+  module _ (before : List (Option ℕ)) (firsts : (n : ℕ) → n < count → get_or before n None ≡ first_leading records graph depths n count) where
+    -- ---- what stands before a thing on a shortest path
+
+    abbrev pub Leads : ℕ → ℕ → Thing → Type 0
+    Leads n d other = IsTrue (has_edge other (here n)) × EndsPath records at d other
+
+    abbrev IsRoot : ℕ → Thing → Type 0
+    IsRoot d other = Contains (root_things records) other × (is_root records.profile at other ≡ true) × (d ≡ 0)
+
+    abbrev IsNumber : ℕ → Thing → Type 0
+    IsNumber n other = (j : ℕ) × (j < count) × (here j ≡ other) × (leads graph depths j n ≡ true)
+
+    candidate : (n d : ℕ) → n < count → depth n ≡ Some (suc d) → (other : Thing) → Leads n d other → IsRoot d other ⊎ IsNumber n other
+    candidate n d lt e other (edge, (path, p, long)) = elim (split_thing records other (in_store records at other path p)) [
+      | inl by_thing ↦ inl (let r = root_path other path by_thing p in (by_thing, r.1, sym long ∙ r.0))
+      | inr (j, below, same) ↦ inr (
+          let is : here j ≡ other = same_default j below other same in
+          let pj : IsPath records at (here j) path = subst (λ (t : Thing). IsPath records at t path) (sym is) p in
+          let known = depth_of j below path pj in
+          let near = (nearest_of j known.0 below known.1).0 in
+          let edge_j : has_edge (here j) (here n) ≡ true = ap (λ (t : Thing). has_edge t (here n)) is ∙ edge in
+          let least : suc d ≤ length (here j ∷ near.0) = (nearest_of n (suc d) lt e).1 (here j ∷ near.0) (at_place records s.built book graph s.numbered s.once s.graph_of n no_thing lt, edge_j, near.1) in
+          let deep_j : known.0 ≡ d = (let a = known.2 in let b = near.2 in omega (arith, a, b, least, long)) in
+          let to : Contains (targets graph j) n = subst (λ (l : List ℕ). Contains l n) (sym (targets_at records s.built book graph s.numbered s.once s.graph_of j no_thing below)) (edge_number records s.built book graph s.numbered s.once s.graph_of (here j) n no_thing lt edge_j) in (
+            j,
+            below,
+            is,
+            and_from (list_any (λ b. b == n) (targets graph j)) (is_step (depth j) (depth n)) (any_from (λ b. b == n) (targets graph j) n to (number_itself n))
+                (ap (λ (o : Option ℕ). is_step o (depth n)) (known.1 ∙ ap Some deep_j) ∙ ap (is_step (Some d)) e ∙ one_step d),
+          ))
+    ]
       where
-        go : (o : Option ℕ) → depth n ≡ o → (d : ℕ) × (o ≡ Some d) × (d ≤ length path)
-        go (Some d) e = (d, refl, (nearest_of n d lt e).1 path p)
-        go None e =
-            let w = path_walked records at book graph own held s (here n) path p n no_thing lt refl in
-            absurd (subst (IsDepth graph own held n) e (deep n lt) w.1 w.0 w.2)
+        same_default : (j : ℕ) → j < count → (d : Thing) → get_or (numbered records) j d ≡ d → here j ≡ d
+        same_default j below d same = default_free (numbered records) j below no_thing d ∙ same
 
-    module _ (before : List (Option ℕ)) (firsts : (n : ℕ) → n < count → get_or before n None ≡ first_leading records graph depths n count) where
-      -- ---- what stands before a thing on a shortest path
+    -- a number that leads to this one is a thing before it
+    leader : (n d j : ℕ) → n < count → j < count → depth n ≡ Some (suc d) → leads graph depths j n ≡ true → IsTrue (has_edge (here j) (here n)) × (depth j ≡ Some d)
+    leader n d j lt below e h =
+        let both = and_parts (list_any (λ b. b == n) (targets graph j)) (is_step (depth j) (depth n)) h in
+        let found = found_by_any (λ b. b == n) (targets graph j) both.0 in
+        let to : Contains (targets graph j) n = subst (Contains (targets graph j)) (same_number found.0 n found.2) found.1 in (
+          (number_edge records s.built book graph s.numbered s.once s.graph_of (here j) n (subst (λ (l : List ℕ). Contains l n) (targets_at records s.built book graph s.numbered s.once s.graph_of j no_thing below) to)).1 no_thing,
+          stepped (depth j) (ap (is_step (depth j)) (sym e) ∙ both.1),
+        )
+      where
+        stepped : (o : Option ℕ) → is_step o (Some (suc d)) ≡ true → o ≡ Some d
+        stepped None k = absurd (false≢true k)
+        stepped (Some a) k = ap Some (step_is a d k)
 
-      abbrev pub Leads : ℕ → ℕ → Thing → Type 0
-      Leads n d other = IsTrue (has_edge other (here n)) × EndsPath records at d other
+    -- the thing before one on some path
+    before_on : (n d : ℕ) → n < count → depth n ≡ Some (suc d) → (other : Thing) × Leads n d other
+    before_on n d lt e = go (nearest_of n (suc d) lt e).0
+      where
+        go : EndsPath records at (suc d) (here n) → (other : Thing) × Leads n d other
+        go ([], p, l) = absurd (omega (arith, l))
+        go (x ∷ path, p, l) = (x, (p.1, (path, p.2, omega (arith, l))))
 
-      abbrev IsRoot : ℕ → Thing → Type 0
-      IsRoot d other = Contains (root_things records) other × (is_root records.profile at other ≡ true) × (d ≡ 0)
-
-      abbrev IsNumber : ℕ → Thing → Type 0
-      IsNumber n other = (j : ℕ) × (j < count) × (here j ≡ other) × (leads graph depths j n ≡ true)
-
-      candidate : (n d : ℕ) → n < count → depth n ≡ Some (suc d) → (other : Thing) → Leads n d other → IsRoot d other ⊎ IsNumber n other
-      candidate n d lt e other (edge, (path, p, long)) = elim (split_thing records other (in_store records at other path p)) [
-        | inl by_thing ↦ inl (let r = root_path other path by_thing p in (by_thing, r.1, sym long ∙ r.0))
-        | inr (j, below, same) ↦ inr (
-            let is : here j ≡ other = same_default j below other same in
-            let pj : IsPath records at (here j) path = subst (λ (t : Thing). IsPath records at t path) (sym is) p in
-            let known = depth_of j below path pj in
-            let near = (nearest_of j known.0 below known.1).0 in
-            let edge_j : has_edge (here j) (here n) ≡ true = ap (λ (t : Thing). has_edge t (here n)) is ∙ edge in
-            let least : suc d ≤ length (here j ∷ near.0) = (nearest_of n (suc d) lt e).1 (here j ∷ near.0) (at_place records s.built book graph s.numbered s.once s.graph_of n no_thing lt, edge_j, near.1) in
-            let deep_j : known.0 ≡ d = (let a = known.2 in let b = near.2 in omega (arith, a, b, least, long)) in
-            let to : Contains (targets graph j) n = subst (λ (l : List ℕ). Contains l n) (sym (targets_at records s.built book graph s.numbered s.once s.graph_of j no_thing below)) (edge_number records s.built book graph s.numbered s.once s.graph_of (here j) n no_thing lt edge_j) in (
-              j,
-              below,
+    -- further than one step from its root, the first number that leads there is the first thing
+    first_number : (n d : ℕ) → n < count → depth n ≡ Some (suc (suc d))
+        → (b : ℕ) × (get_or before n None ≡ Some b) × (b < count) × (depth b ≡ Some (suc d)) × IsTrue (has_edge (here b) (here n)) × IsFirst (Leads n (suc d)) (here b)
+    first_number n d lt e = go (first_leading records graph depths n count) (firsts n lt) (leading_best n count)
+      where
+        go : (o : Option ℕ) → get_or before n None ≡ o → IsBest (number_before records) (λ a. not_itself (here a)) (λ a b c. onward (here a) (here b) (here c)) (λ a. leads graph depths a n) (λ a. a < count) o
+            → (b : ℕ) × (get_or before n None ≡ Some b) × (b < count) × (depth b ≡ Some (suc d)) × IsTrue (has_edge (here b) (here n)) × IsFirst (Leads n (suc d)) (here b)
+        go None is best = absurd (elim (candidate n (suc d) lt e (before_on n (suc d) lt e).0 (before_on n (suc d) lt e).1) [
+          | inl root ↦ (let z = root.2 in omega arith)
+          | inr number ↦ both_ways (leads graph depths number.0 n) (best number.0 number.1) number.3
+        ])
+        go (Some b) is best =
+            let l = leader n (suc d) b lt best.0 e best.1 in (
+              b,
               is,
-              and_from (list_any (λ b. b == n) (targets graph j)) (is_step (depth j) (depth n)) (any_from (λ b. b == n) (targets graph j) n to (number_itself n))
-                  (ap (λ (o : Option ℕ). is_step o (depth n)) (known.1 ∙ ap Some deep_j) ∙ ap (is_step (Some d)) e ∙ one_step d),
-            ))
-      ]
-        where
-          same_default : (j : ℕ) → j < count → (d : Thing) → get_or (numbered records) j d ≡ d → here j ≡ d
-          same_default j below d same = default_free (numbered records) j below no_thing d ∙ same
-            where
-              default_free : (xs : List Thing) (i : ℕ) → i < length xs → (a b : Thing) → get_or xs i a ≡ get_or xs i b
-              default_free [] i lt a b = absurd (omega arith)
-              default_free (x ∷ xs) zero lt a b = refl
-              default_free (x ∷ xs) (suc i) lt a b = default_free xs i (omega arith) a b
+              best.0,
+              l.1,
+              l.0,
+              λ other k t. elim (candidate n (suc d) lt e other k) [
+                | inl root ↦ (let z = root.2 in omega arith)
+                | inr number ↦ both_ways (goes_before other (here b)) (ap (λ x. goes_before x (here b)) (sym number.2) ∙ best.2 number.0 number.1 number.3) t
+              ],
+            )
 
-      -- a number that leads to this one is a thing before it
-      leader : (n d j : ℕ) → n < count → j < count → depth n ≡ Some (suc d) → leads graph depths j n ≡ true → IsTrue (has_edge (here j) (here n)) × (depth j ≡ Some d)
-      leader n d j lt below e h =
-          let both = and_parts (list_any (λ b. b == n) (targets graph j)) (is_step (depth j) (depth n)) h in
-          let found = found_by_any (λ b. b == n) (targets graph j) both.0 in
-          let to : Contains (targets graph j) n = subst (Contains (targets graph j)) (same_number found.0 n found.2) found.1 in (
-            (number_edge records s.built book graph s.numbered s.once s.graph_of (here j) n (subst (λ (l : List ℕ). Contains l n) (targets_at records s.built book graph s.numbered s.once s.graph_of j no_thing below) to)).1 no_thing,
-            stepped (depth j) (ap (is_step (depth j)) (sym e) ∙ both.1),
-          )
-        where
-          stepped : (o : Option ℕ) → is_step o (Some (suc d)) ≡ true → o ≡ Some d
-          stepped None k = absurd (false≢true k)
-          stepped (Some a) k = ap Some (step_is a d k)
+    -- a thing one step from its root has the first root before it
+    first_root : (n : ℕ) → n < count → depth n ≡ Some 1
+        → (root : Thing) × (root_before records at before n ≡ Some root) × IsPath records at root [] × IsTrue (has_edge root (here n)) × IsFirst (Leads n 0) root
+    first_root n lt e = go (holder_of records at (here n)) refl (holder_best (here n))
+      where
+        is_behind : (root : Thing) → Contains (root_things records) root → (j : ℕ) → j < count → goes_before (here j) root ≡ false
+        is_behind root (k, below, is) j lt = behind_roots (here j) root (with_nodes records j no_thing lt) (subst HasNone is (without_nodes records k root below))
 
-      -- the thing before one on some path
-      before_on : (n d : ℕ) → n < count → depth n ≡ Some (suc d) → (other : Thing) × Leads n d other
-      before_on n d lt e = go (nearest_of n (suc d) lt e).0
-        where
-          go : EndsPath records at (suc d) (here n) → (other : Thing) × Leads n d other
-          go ([], p, l) = absurd (omega (arith, l))
-          go (x ∷ path, p, l) = (x, (p.1, (path, p.2, omega (arith, l))))
+        go : (o : Option Thing) → holder_of records at (here n) ≡ o → IsBest goes_before not_itself onward (is_holder records.profile at (here n)) (λ x. Contains (root_things records) x) o
+            → (root : Thing) × (or_else o (option_map (thing_at records) (get_or before n None)) ≡ Some root) × IsPath records at root [] × IsTrue (has_edge root (here n)) × IsFirst (Leads n 0) root
+        go (Some root) is best =
+            let both = and_parts (is_root records.profile at root) (is_some _) best.1 in (
+              root,
+              refl,
+              (is_root_thing records root best.0, both.0),
+              sym (reason_edge root (here n)) ∙ both.1,
+              λ other k t. elim (candidate n 0 lt e other k) [
+                | inl r ↦ both_ways (goes_before other root) (best.2 other r.0 (and_from (is_root records.profile at other) (is_some _) r.1 (reason_edge other (here n) ∙ k.0))) t
+                | inr number ↦ both_ways (goes_before other root) (ap (λ x. goes_before x root) (sym number.2) ∙ is_behind root best.0 number.0 number.1) t
+              ],
+            )
+        go None is none = by_number (first_leading records graph depths n count) (firsts n lt) (leading_best n count)
+          where
+            no_root : (other : Thing) → Leads n 0 other → IsRoot 0 other → ⊥
+            no_root other k r = both_ways (is_holder records.profile at (here n) other) (none other r.0) (and_from (is_root records.profile at other) (is_some _) r.1 (reason_edge other (here n) ∙ k.0))
 
-      -- further than one step from its root, the first number that leads there is the first thing
-      first_number : (n d : ℕ) → n < count → depth n ≡ Some (suc (suc d))
-          → (b : ℕ) × (get_or before n None ≡ Some b) × (b < count) × (depth b ≡ Some (suc d)) × IsTrue (has_edge (here b) (here n)) × IsFirst (Leads n (suc d)) (here b)
-      first_number n d lt e = go (first_leading records graph depths n count) (firsts n lt) (leading_best n count)
-        where
-          go : (o : Option ℕ) → get_or before n None ≡ o → IsBest (number_before records) (λ a. not_itself (here a)) (λ a b c. onward (here a) (here b) (here c)) (λ a. leads graph depths a n) (λ a. a < count) o
-              → (b : ℕ) × (get_or before n None ≡ Some b) × (b < count) × (depth b ≡ Some (suc d)) × IsTrue (has_edge (here b) (here n)) × IsFirst (Leads n (suc d)) (here b)
-          go None is best = absurd (elim (candidate n (suc d) lt e (before_on n (suc d) lt e).0 (before_on n (suc d) lt e).1) [
-            | inl root ↦ (let z = root.2 in omega arith)
-            | inr number ↦ both_ways (leads graph depths number.0 n) (best number.0 number.1) number.3
-          ])
-          go (Some b) is best =
-              let l = leader n (suc d) b lt best.0 e best.1 in (
-                b,
-                is,
-                best.0,
-                l.1,
-                l.0,
-                λ other k t. elim (candidate n (suc d) lt e other k) [
-                  | inl root ↦ (let z = root.2 in omega arith)
-                  | inr number ↦ both_ways (goes_before other (here b)) (ap (λ x. goes_before x (here b)) (sym number.2) ∙ best.2 number.0 number.1 number.3) t
-                ],
-              )
+            by_number : (o : Option ℕ) → get_or before n None ≡ o → IsBest (number_before records) (λ a. not_itself (here a)) (λ a b c. onward (here a) (here b) (here c)) (λ a. leads graph depths a n) (λ a. a < count) o
+                → (root : Thing) × (option_map (thing_at records) (get_or before n None) ≡ Some root) × IsPath records at root [] × IsTrue (has_edge root (here n)) × IsFirst (Leads n 0) root
+            by_number None is best = absurd (elim (candidate n 0 lt e (before_on n 0 lt e).0 (before_on n 0 lt e).1) [
+              | inl root ↦ no_root (before_on n 0 lt e).0 (before_on n 0 lt e).1 root
+              | inr number ↦ both_ways (leads graph depths number.0 n) (best number.0 number.1) number.3
+            ])
+            by_number (Some b) is best =
+                let l = leader n 0 b lt best.0 e best.1 in (
+                  here b,
+                  ap (option_map (thing_at records)) is,
+                  alone (nearest_of b 0 best.0 l.1).0,
+                  l.0,
+                  λ other k t. elim (candidate n 0 lt e other k) [
+                    | inl root ↦ no_root other k root
+                    | inr number ↦ both_ways (goes_before other (here b)) (ap (λ x. goes_before x (here b)) (sym number.2) ∙ best.2 number.0 number.1 number.3) t
+                  ],
+                )
+              where
+                alone : EndsPath records at 0 (here b) → IsPath records at (here b) []
+                alone ([], p, l) = p
+                alone (x ∷ path, p, l) = absurd (omega (arith, l))
 
-      -- a thing one step from its root has the first root before it
-      first_root : (n : ℕ) → n < count → depth n ≡ Some 1
-          → (root : Thing) × (root_before records at before n ≡ Some root) × IsPath records at root [] × IsTrue (has_edge root (here n)) × IsFirst (Leads n 0) root
-      first_root n lt e = go (holder_of records at (here n)) refl (holder_best (here n))
-        where
-          is_behind : (root : Thing) → Contains (root_things records) root → (j : ℕ) → j < count → goes_before (here j) root ≡ false
-          is_behind root (k, below, is) j lt = behind_roots (here j) root (with_nodes records j no_thing lt) (subst HasNone is (without_nodes records k root below))
+    -- ---- the path back
 
-          go : (o : Option Thing) → holder_of records at (here n) ≡ o → IsBest goes_before not_itself onward (is_holder records.profile at (here n)) (λ x. Contains (root_things records) x) o
-              → (root : Thing) × (or_else o (option_map (thing_at records) (get_or before n None)) ≡ Some root) × IsPath records at root [] × IsTrue (has_edge root (here n)) × IsFirst (Leads n 0) root
-          go (Some root) is best =
-              let both = and_parts (is_root records.profile at root) (is_some _) best.1 in (
-                root,
-                refl,
-                (is_root_thing records root best.0, both.0),
-                sym (reason_edge root (here n)) ∙ both.1,
-                λ other k t. elim (candidate n 0 lt e other k) [
-                  | inl r ↦ both_ways (goes_before other root) (best.2 other r.0 (and_from (is_root records.profile at other) (is_some _) r.1 (reason_edge other (here n) ∙ k.0))) t
-                  | inr number ↦ both_ways (goes_before other root) (ap (λ x. goes_before x root) (sym number.2) ∙ is_behind root best.0 number.0 number.1) t
-                ],
-              )
-          go None is none = by_number (first_leading records graph depths n count) (firsts n lt) (leading_best n count)
-            where
-              no_root : (other : Thing) → Leads n 0 other → IsRoot 0 other → ⊥
-              no_root other k r = both_ways (is_holder records.profile at (here n) other) (none other r.0) (and_from (is_root records.profile at other) (is_some _) r.1 (reason_edge other (here n) ∙ k.0))
+    -- the things before a number: the numbers back, and the root before the last of them
+    abbrev pub things_back : ℕ → ℕ → List Thing
+    things_back d n = map here (chain before d n) ++ listed (root_before records at before (end_of n (chain before d n)))
 
-              by_number : (o : Option ℕ) → get_or before n None ≡ o → IsBest (number_before records) (λ a. not_itself (here a)) (λ a b c. onward (here a) (here b) (here c)) (λ a. leads graph depths a n) (λ a. a < count) o
-                  → (root : Thing) × (option_map (thing_at records) (get_or before n None) ≡ Some root) × IsPath records at root [] × IsTrue (has_edge root (here n)) × IsFirst (Leads n 0) root
-              by_number None is best = absurd (elim (candidate n 0 lt e (before_on n 0 lt e).0 (before_on n 0 lt e).1) [
-                | inl root ↦ no_root (before_on n 0 lt e).0 (before_on n 0 lt e).1 root
-                | inr number ↦ both_ways (leads graph depths number.0 n) (best number.0 number.1) number.3
-              ])
-              by_number (Some b) is best =
-                  let l = leader n 0 b lt best.0 e best.1 in (
-                    here b,
-                    ap (option_map (thing_at records)) is,
-                    alone (nearest_of b 0 best.0 l.1).0,
-                    l.0,
-                    λ other k t. elim (candidate n 0 lt e other k) [
-                      | inl root ↦ no_root other k root
-                      | inr number ↦ both_ways (goes_before other (here b)) (ap (λ x. goes_before x (here b)) (sym number.2) ∙ best.2 number.0 number.1 number.3) t
-                    ],
-                  )
-                where
-                  alone : EndsPath records at 0 (here b) → IsPath records at (here b) []
-                  alone ([], p, l) = p
-                  alone (x ∷ path, p, l) = absurd (omega (arith, l))
+    pub first_path : (d n : ℕ) → n < count → depth n ≡ Some (suc d) → IsPath records at (here n) (things_back d n) × (length (things_back d n) ≡ suc d) × IsFirstBack records at (here n) (things_back d n)
+    first_path zero n lt e =
+        let r = first_root n lt e in
+        let in_here = at_place records s.built book graph s.numbered s.once s.graph_of n no_thing lt in
+        subst (λ (o : Option Thing). IsPath records at (here n) (listed o) × (length (listed o) ≡ 1) × IsFirstBack records at (here n) (listed o)) (sym r.1)
+        ((in_here, r.3, r.2), refl, (r.4, tt))
+    first_path (suc d) n lt e =
+        let f = first_number n d lt e in
+        let b : ℕ = f.0 in
+        let rest = first_path d b f.2 f.3 in
+        let in_here = at_place records s.built book graph s.numbered s.once s.graph_of n no_thing lt in
+        let is : chain before (suc d) n ≡ b ∷ chain before d b = ap (λ (o : Option ℕ). option_map_or (λ k. k ∷ chain before d k) o []) f.1 in
+        subst (λ (l : List ℕ). let p = map here l ++ listed (root_before records at before (end_of n l)) in IsPath records at (here n) p × (length p ≡ suc (suc d)) × IsFirstBack records at (here n) p) (sym is)
+        ((in_here, f.4, rest.0), ap suc rest.1, (subst (λ k. IsFirst (Leads n k) (here b)) (sym rest.1) f.5, rest.2))
 
-      -- ---- the path back
+    -- a root of its own is a path alone
+    pub first_alone : (n : ℕ) → n < count → depth n ≡ Some 0 → IsFirstTo records at (here n) (here n ∷ [])
+    first_alone n lt e = (refl, alone (nearest_of n 0 lt e).0, (λ other p. omega arith), tt)
+      where
+        alone : EndsPath records at 0 (here n) → IsPath records at (here n) []
+        alone ([], p, l) = p
+        alone (x ∷ path, p, l) = absurd (omega (arith, l))
 
-      -- the things before a number: the numbers back, and the root before the last of them
-      abbrev pub things_back : ℕ → ℕ → List Thing
-      things_back d n = map here (chain before d n) ++ listed (root_before records at before (end_of n (chain before d n)))
-
-      pub first_path : (d n : ℕ) → n < count → depth n ≡ Some (suc d) → IsPath records at (here n) (things_back d n) × (length (things_back d n) ≡ suc d) × IsFirstBack records at (here n) (things_back d n)
-      first_path zero n lt e =
-          let r = first_root n lt e in
-          let in_here = at_place records s.built book graph s.numbered s.once s.graph_of n no_thing lt in
-          subst (λ (o : Option Thing). IsPath records at (here n) (listed o) × (length (listed o) ≡ 1) × IsFirstBack records at (here n) (listed o)) (sym r.1)
-          ((in_here, r.3, r.2), refl, (r.4, tt))
-      first_path (suc d) n lt e =
-          let f = first_number n d lt e in
-          let b : ℕ = f.0 in
-          let rest = first_path d b f.2 f.3 in
-          let in_here = at_place records s.built book graph s.numbered s.once s.graph_of n no_thing lt in
-          let is : chain before (suc d) n ≡ b ∷ chain before d b = ap (λ (o : Option ℕ). option_map_or (λ k. k ∷ chain before d k) o []) f.1 in
-          subst (λ (l : List ℕ). let p = map here l ++ listed (root_before records at before (end_of n l)) in IsPath records at (here n) p × (length p ≡ suc (suc d)) × IsFirstBack records at (here n) p) (sym is)
-          ((in_here, f.4, rest.0), ap suc rest.1, (subst (λ k. IsFirst (Leads n k) (here b)) (sym rest.1) f.5, rest.2))
-
-      -- a root of its own is a path alone
-      pub first_alone : (n : ℕ) → n < count → depth n ≡ Some 0 → IsFirstTo records at (here n) (here n ∷ [])
-      first_alone n lt e = (refl, alone (nearest_of n 0 lt e).0, (λ other p. omega arith), tt)
-        where
-          alone : EndsPath records at 0 (here n) → IsPath records at (here n) []
-          alone ([], p, l) = p
-          alone (x ∷ path, p, l) = absurd (omega (arith, l))
-
-      -- so are the things back from any other number
-      pub first_to : (n d : ℕ) → n < count → depth n ≡ Some (suc d) → IsFirstTo records at (here n) (here n ∷ things_back d n)
-      first_to n d lt e =
-          let f = first_path d n lt e in (
-            refl,
-            f.0,
-            (λ other p. let least : suc d ≤ length other = (nearest_of n (suc d) lt e).1 other p in let long : length (things_back d n) ≡ suc d = f.1 in omega (arith, least, long)),
-            f.2,
-          )
+    -- so are the things back from any other number
+    pub first_to : (n d : ℕ) → n < count → depth n ≡ Some (suc d) → IsFirstTo records at (here n) (here n ∷ things_back d n)
+    first_to n d lt e =
+        let f = first_path d n lt e in (
+          refl,
+          f.0,
+          (λ other p. let least : suc d ≤ length other = (nearest_of n (suc d) lt e).1 other p in let long : length (things_back d n) ≡ suc d = f.1 in omega (arith, least, long)),
+          f.2,
+        )

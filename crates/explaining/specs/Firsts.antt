@@ -54,3 +54,8 @@ AreWithin count list = (n : ℕ) → n < length list → IfSome (get_or list n N
 -- first number that leads there
 abbrev pub root_before : Records → ℤ → List (Option ℕ) → ℕ → Option Thing
 root_before records at before n = or_else (holder_of records at (thing_at records n)) (option_map (thing_at records) (get_or before n None))
+
+-- what there is, as a list
+abbrev pub listed : {X : Type 0} → Option X → List X
+listed None = []
+listed (Some x) = x ∷ []

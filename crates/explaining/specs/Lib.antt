@@ -6,3 +6,5 @@ pub mod ShortestPaths
 pub mod Ends
 pub mod Asked
 pub mod StepWords
+pub mod Questions
+pub mod Searched

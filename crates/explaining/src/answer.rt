@@ -8,6 +8,7 @@ ghost use Rattle.meta_types.specs.Explanations.{is_asked, explain_fault, IsExpla
 ghost use Rattle.meta_types.specs.declared.object.Object.TheVariants.{Held};
 ghost use Rattle.explaining.specs.Asked.{records_in, AreInOrder};
 
+use crate::asked::Question;
 use crate::explain_rows::explain_rows;
 use gc_graph::ListedRows;
 use meta_types::{Explanation, Fault, Instant, MAX_NODES, Object, Resource, ShortName};
@@ -90,6 +91,7 @@ pub fn explain<R: Threads + Sync>(
     }
     let listed = list_rows(alloc, records)?;
     let rows = listed.rows();
-    let explanation = explain_rows(rt, alloc, &rows, ns, object, at)?;
+    let question = Question { ns, object };
+    let explanation = explain_rows(rt, alloc, &rows, question, at)?;
     Ok(explanation)
 }

@@ -1,14 +1,21 @@
-//! Whether a thing is of the row that a question asks for.
+//! What a question asks for.
 ghost use Rattle.std.specs.Prelude.{◌≡◌, ◌&&◌, length, Some, is_some, bytes_eq, get_or, None};
 ghost use Rattle.std.specs.List.{list_any};
 ghost use Rattle.meta_types.specs.Paths.{things};
-ghost use Rattle.meta_types.specs.Explanations.{is_of, is_asked};
+ghost use Rattle.meta_types.specs.Explanations.{is_of};
 ghost use Rattle.meta_types.specs.declared.object.Object.TheVariants.{Image, Container, Lease, Held};
 ghost use Rattle.explaining.specs.Found.{thing_of};
+ghost use Rattle.explaining.specs.Questions.{asked_by};
 
-use crate::found::Found;
-use crate::reasons::{is_resource, namespace_of};
+use crate::found::{Found, is_resource, namespace_of};
 use meta_types::{Mode, Name, Object, ShortName};
+
+/// The object of a namespace whose path is asked for.
+#[derive(Clone, Copy)]
+pub(crate) struct Question<'a> {
+    pub(crate) ns: &'a ShortName,
+    pub(crate) object: &'a Object,
+}
 
 fn is_image(name: &Name, thing: Found<'_>) -> bool
     ensures { result ≡ is_of (Image name.now) (thing_of thing.entry) }
@@ -50,9 +57,9 @@ fn is_of(object: &Object, thing: Found<'_>) -> bool
     }
 }
 
-/// Whether a thing is of the object, in the namespace.
-pub(crate) fn is_asked(ns: &ShortName, object: &Object, thing: Found<'_>) -> bool
-    ensures { result ≡ is_asked ns.now object.now (thing_of thing.entry) }
+/// Whether a question asks for a thing: one of its object, in its namespace.
+pub(crate) fn asks_for(question: Question<'_>, thing: Found<'_>) -> bool
+    ensures { result ≡ asked_by question.entry (thing_of thing.entry) }
 {
-    namespace_of(thing) == ns.text() && is_of(object, thing)
+    namespace_of(thing) == question.ns.text() && is_of(question.object, thing)
 }

@@ -127,6 +127,7 @@ pub(crate) fn first_before(
     requires few { node_count graph.now < 4294967295 }
     ensures fault { Refuses result None }
     ensures count { IfOk result (λ before. length before.items ≡ length depths.now) }
+    ensures within { IfOk result (λ before. AreWithin (length before.items) before.items) }
     ensures first { IfOk result (λ before. (t : ℕ) → t < length depths.now
         → get_or before.items t None
         ≡ first_leading (records_of rows.now) graph.now depths.now t (length depths.now)) }

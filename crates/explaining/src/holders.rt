@@ -12,8 +12,7 @@ use crate::found::Found;
 use crate::order::goes_before;
 use crate::reasons::reason;
 use gc_graph::{StoreRows, image_stays, lease_stays};
-use lease_book::Lease;
-use meta_types::{ContainerRow, Fault, ImageRow, Instant};
+use meta_types::{Fault, Instant};
 use std::alloc::Global;
 
 fn references(alloc: Global, from: Found<'_>, to: Found<'_>) -> Result<bool, Fault>
@@ -54,21 +53,21 @@ fn holds(alloc: Global, is_root: bool, thing: Found<'_>, held: Found<'_>) -> Res
 
 fn first_image<'a>(
     alloc: Global,
-    rows: &[&'a ImageRow],
-    profile: u8,
+    rows: &StoreRows<'a>,
     at: Instant,
     held: Found<'_>,
     best: Option<Found<'a>>,
 ) -> Result<Option<Found<'a>>, Fault>
     ensures fault { Refuses result None }
-    ensures ok { IfOk result (λ found. option_map thing_of found ≡ holder_among profile at.0
-        (thing_of held.entry) (option_map thing_of best.entry) (map (λ row. image row.now) rows.now)) }
+    ensures ok { IfOk result (λ found. option_map thing_of found
+        ≡ holder_among rows.now.profile at.0 (thing_of held.entry) (option_map thing_of best.entry)
+        (map (λ row. image row.now) rows.now.images.now)) }
 {
     let mut first = best;
-    for row in rows {
+    for row in rows.images {
         let fits = holds(
             alloc,
-            image_stays(row, profile, at),
+            image_stays(row, rows.profile, at),
             Found::Image(*row),
             held,
         )?;
@@ -79,22 +78,20 @@ fn first_image<'a>(
 
 fn first_container<'a>(
     alloc: Global,
-    rows: &[&'a ContainerRow],
-    profile: u8,
+    rows: &StoreRows<'a>,
     at: Instant,
     held: Found<'_>,
     best: Option<Found<'a>>,
 ) -> Result<Option<Found<'a>>, Fault>
     ensures fault { Refuses result None }
-    ensures ok { IfOk result (λ found. option_map thing_of found ≡ holder_among profile at.0
-        (thing_of held.entry) (option_map thing_of best.entry)
-        (map (λ row. container row.now) rows.now)) }
+    ensures ok { IfOk result (λ found. option_map thing_of found
+        ≡ holder_among rows.now.profile at.0 (thing_of held.entry) (option_map thing_of best.entry)
+        (map (λ row. container row.now) rows.now.containers.now)) }
 {
-    // The profile and the moment are named by the clauses alone.
-    let _profile = profile;
+    // The moment is named by the clauses alone.
     let _at = at;
     let mut first = best;
-    for row in rows {
+    for row in rows.containers {
         let fits = holds(alloc, true, Found::Container(*row), held)?;
         first = chosen(fits, Found::Container(*row), first);
     }
@@ -103,20 +100,18 @@ fn first_container<'a>(
 
 fn first_lease<'a>(
     alloc: Global,
-    rows: &[&'a Lease],
-    profile: u8,
+    rows: &StoreRows<'a>,
     at: Instant,
     held: Found<'_>,
     best: Option<Found<'a>>,
 ) -> Result<Option<Found<'a>>, Fault>
     ensures fault { Refuses result None }
-    ensures ok { IfOk result (λ found. option_map thing_of found ≡ holder_among profile at.0
-        (thing_of held.entry) (option_map thing_of best.entry) (map (λ row. lease row.now) rows.now)) }
+    ensures ok { IfOk result (λ found. option_map thing_of found
+        ≡ holder_among rows.now.profile at.0 (thing_of held.entry) (option_map thing_of best.entry)
+        (map (λ row. lease row.now) rows.now.leases.now)) }
 {
-    // The profile is named by the clauses alone.
-    let _profile = profile;
     let mut first = best;
-    for row in rows {
+    for row in rows.leases {
         let fits = holds(alloc, lease_stays(row, at), Found::Lease(*row), held)?;
         first = chosen(fits, Found::Lease(*row), first);
     }
@@ -134,8 +129,8 @@ pub(crate) fn holder_of<'a>(
     ensures ok { IfOk result (λ found. option_map thing_of found
         ≡ holder_of (records_of rows.now) at.0 (thing_of held.entry)) }
 {
-    let images = first_image(alloc, rows.images, rows.profile, at, held, None)?;
-    let both = first_container(alloc, rows.containers, rows.profile, at, held, images)?;
-    let all = first_lease(alloc, rows.leases, rows.profile, at, held, both)?;
+    let images = first_image(alloc, rows, at, held, None)?;
+    let both = first_container(alloc, rows, at, held, images)?;
+    let all = first_lease(alloc, rows, at, held, both)?;
     Ok(all)
 }

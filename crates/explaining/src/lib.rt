@@ -4,13 +4,13 @@
 mod answer;
 mod asked;
 mod explain_rows;
-mod first_paths;
 mod firsts;
 mod found;
 mod holders;
 pub mod laws;
 mod nearest;
 mod order;
+mod path_search;
 mod reasons;
 mod roots;
 mod telling;

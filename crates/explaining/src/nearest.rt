@@ -1,16 +1,15 @@
 //! Of all numbers that are asked for, the one that a shortest path leads to.
 ghost use Rattle.std.specs.Prelude.{◌≡◌, ◌<◌, ◌&&◌, ℕ, length, get_or, Some, None, IfSome, is_some};
-ghost use Rattle.meta_types.specs.Explanations.{is_asked};
 ghost use Rattle.gc_graph.specs.Stored.{records_of};
 ghost use Rattle.explaining.specs.Found.{thing_of, numbered, thing_at};
 ghost use Rattle.explaining.specs.Firsts.{chosen, number_before};
 ghost use Rattle.explaining.specs.Ends.{depth_before, nearer, is_end, nearest_below};
+ghost use Rattle.explaining.specs.Questions.{asked_by};
 
-use crate::asked::is_asked;
+use crate::asked::{Question, asks_for};
 use crate::order::goes_before;
 use crate::things::thing_at;
 use gc_graph::StoreRows;
-use meta_types::{Object, ShortName};
 
 // The smaller depth goes first, what no walk reaches goes last; `rest` decides ties.
 fn depth_before(a: Option<u32>, b: Option<u32>, rest: bool) -> bool
@@ -35,18 +34,12 @@ fn nearer(rows: &StoreRows<'_>, depths: &[Option<u32>], a: u32, b: u32) -> bool
 }
 
 // Whether the number's thing is asked for, and some path ends in it.
-fn is_end(
-    rows: &StoreRows<'_>,
-    ns: &ShortName,
-    object: &Object,
-    depths: &[Option<u32>],
-    number: u32,
-) -> bool
+fn is_end(rows: &StoreRows<'_>, question: Question<'_>, depths: &[Option<u32>], number: u32) -> bool
     requires number { number < length depths.now }
     requires numbers { length depths.now ≡ length (numbered (records_of rows.now)) }
-    ensures { result ≡ is_end (records_of rows.now) (is_asked ns.now object.now) depths.now number }
+    ensures { result ≡ is_end (records_of rows.now) (asked_by question.entry) depths.now number }
 {
-    is_asked(ns, object, thing_at(rows, number)) && depths[number as usize].is_some()
+    asks_for(question, thing_at(rows, number)) && depths[number as usize].is_some()
 }
 
 // Of a new number that fits and the one so far, the nearer.
@@ -78,19 +71,18 @@ fn chosen(
 // The nearest number whose thing is asked for; of equals the one whose thing goes first.
 pub(crate) fn nearest(
     rows: &StoreRows<'_>,
-    ns: &ShortName,
-    object: &Object,
+    question: Question<'_>,
     depths: &[Option<u32>],
 ) -> Option<u32>
     requires numbers { length depths.now ≡ length (numbered (records_of rows.now)) }
     requires few { length depths.now < 4294967295 }
-    ensures nearest { result ≡ nearest_below (records_of rows.now) (is_asked ns.now object.now)
+    ensures nearest { result ≡ nearest_below (records_of rows.now) (asked_by question.entry)
         depths.now (length depths.now) }
     ensures range { IfSome result (λ b. b < length depths.now) }
 {
     let mut best = None;
     for number in 0..depths.len() {
-        let fits = is_end(rows, ns, object, depths, number as u32);
+        let fits = is_end(rows, question, depths, number as u32);
         best = chosen(rows, depths, fits, number as u32, best);
     }
     best

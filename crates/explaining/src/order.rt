@@ -4,8 +4,7 @@ ghost use Rattle.meta_types.specs.Keys.{Key, is_before};
 ghost use Rattle.meta_types.specs.Explanations.{kind_place, group_of, name_of, mode_place, goes_before};
 ghost use Rattle.explaining.specs.Found.{thing_of};
 
-use crate::found::Found;
-use crate::reasons::namespace_of;
+use crate::found::{Found, namespace_of};
 use meta_types::{Digest, Mode};
 use std::cmp::Ordering;
 

@@ -3,13 +3,13 @@ ghost use Rattle.std.specs.Prelude.{◌≡◌, option_map, map, false, None, IfO
 ghost use Rattle.std.specs.List.{list_any};
 ghost use Rattle.std.specs.Option.{option_map_or};
 ghost use Rattle.meta_types.specs.Faults.{Refuses};
-ghost use Rattle.meta_types.specs.Paths.{namespace_of, is_same_mode, is_content, is_snapshot, is_ingest, is_resource, is_parent, lease_mode};
+ghost use Rattle.meta_types.specs.Paths.{is_content, is_snapshot, is_resource, is_parent, lease_mode};
 ghost use Rattle.meta_types.specs.declared.resource.Mode.TheVariants.{Full};
 ghost use Rattle.explaining.specs.Found.{thing_of};
 ghost use Rattle.meta_types.specs.Reasons.{is_ref, label_reason, reason_in, reason_of};
 ghost use Rattle.explaining.specs.Reasons.{by_of};
 
-use crate::found::Found;
+use crate::found::{Found, is_content, is_resource, is_snapshot, namespace_of};
 use gc_labels::{content_ref, is_flat, snapshot_ref};
 use lease_book::Lease;
 use meta_types::{ContainerRow, Digest, Fault, IngestRow, Labels, Mode, Resource, SnapRow};
@@ -24,52 +24,6 @@ pub(crate) enum Why<'a> {
     Expected,
     Parent,
     Label(&'a str),
-}
-
-pub(crate) fn namespace_of<'a>(thing: Found<'a>) -> &'a str
-    ensures { result.now ≡ namespace_of (thing_of thing.entry) }
-{
-    match thing {
-        Found::Image(row) => row.ns.text(),
-        Found::Container(row) => row.ns.text(),
-        Found::Lease(row) => row.ns().text(),
-        Found::Ingest(row) => row.ns.text(),
-        Found::Content(_, row) => row.ns.text(),
-        Found::Snapshot(_, row) => row.key.ns.text(),
-    }
-}
-
-fn is_same_mode(a: Mode, b: Mode) -> bool
-    ensures { result ≡ is_same_mode a b }
-{
-    match (a, b) {
-        (Mode::Full, Mode::Full) => true,
-        (Mode::Flat, Mode::Flat) => true,
-        (Mode::Full, Mode::Flat) => false,
-        (Mode::Flat, Mode::Full) => false,
-    }
-}
-
-fn is_content(digest: &Digest, mode: Mode, thing: Found<'_>) -> bool
-    ensures { result ≡ is_content digest.now mode (thing_of thing.entry) }
-{
-    match thing {
-        Found::Content(m, row) => is_same_mode(mode, m) && row.digest == *digest,
-        _ => false,
-    }
-}
-
-fn is_snapshot(snapshotter: &str, name: &str, mode: Mode, thing: Found<'_>) -> bool
-    ensures { result ≡ is_snapshot snapshotter.now name.now mode (thing_of thing.entry) }
-{
-    match thing {
-        Found::Snapshot(m, row) => {
-            is_same_mode(mode, m)
-                && row.key.snapshotter.text() == snapshotter
-                && row.key.name.text() == name
-        }
-        _ => false,
-    }
 }
 
 fn is_text(text: &str, digest: &Digest) -> bool
@@ -104,27 +58,6 @@ fn label_reason<'a>(labels: &'a Labels, thing: Found<'_>) -> Option<Why<'a>>
         }
     }
     None
-}
-
-fn is_ingest(name: &str, thing: Found<'_>) -> bool
-    ensures { result ≡ is_ingest name.now (thing_of thing.entry) }
-{
-    match thing {
-        Found::Ingest(row) => row.name.text() == name,
-        _ => false,
-    }
-}
-
-pub(crate) fn is_resource(resource: &Resource, mode: Mode, thing: Found<'_>) -> bool
-    ensures { result ≡ is_resource resource.now mode (thing_of thing.entry) }
-{
-    match resource {
-        Resource::Content(digest) => is_content(digest, mode, thing),
-        Resource::Snapshot(snapshotter, name) => {
-            is_snapshot(snapshotter.text(), name.text(), mode, thing)
-        }
-        Resource::Ingest(name) => is_ingest(name.text(), thing),
-    }
 }
 
 fn is_held(resources: &[&Resource], mode: Mode, thing: Found<'_>) -> bool

@@ -134,7 +134,7 @@ fn by_at(alloc: Global, ended: bool, path: &[Found<'_>], place: usize) -> Result
 }
 
 /// The steps of a path, whose things stand from the last one back, from the root on.
-pub(crate) fn told(
+pub(crate) fn steps_of(
     alloc: Global,
     profile: u8,
     ended: bool,

@@ -1,33 +1,34 @@
 use Rattle.std.proofs.Common.{◌∙◌, List, map, sym, subst}
-use Rattle.meta_types.specs.Explanations.{is_asked, before_all_ends, AreTold}
+use Rattle.meta_types.specs.Explanations.{before_all_ends, AreTold}
 use Rattle.meta_types.specs.declared.explanation.By.TheVariants.{Root, Ended}
 use Rattle.gc_graph.specs.Stored.{records_of}
 use Rattle.explaining.specs.declared.found.Found.{Found}
 use Rattle.explaining.specs.Found.{thing_of}
+use Rattle.explaining.specs.Questions.{asked_by}
 use Rattle.explaining.specs.StepWords.{AreLinked}
 use Rattle.explaining.proofs.TellPaths.{linked, is_kept, was_kept, none_there, some_there}
 use Rattle.explaining.proofs.explain_rows.explain_rows.Goals as goal
 
 -- each thing of the path before all ends has a reason
-pub told-requires : goal.told-requires
-told-requires g c =
+pub steps_of-requires : goal.steps_of-requires
+steps_of-requires g c =
     subst (λ (l : List Found). AreLinked (map thing_of l)) (sym c.deref.ensures.value)
-    (linked (records_of c.args.rows.now) before_all_ends (is_asked c.args.ns.now c.args.object.now) (map thing_of c.in_ok-before.before.items) c.in_ok-before.ensures.ok)
+    (linked (records_of c.args.rows.now) before_all_ends (asked_by c.args.question) (map thing_of c.in_ok-before.before.items) c.in_ok-before.ensures.ok)
 
 -- so has each of the path now
-pub told-requires-2 : goal.told-requires-2
-told-requires-2 g c =
+pub steps_of-requires-2 : goal.steps_of-requires-2
+steps_of-requires-2 g c =
     subst (λ (l : List Found). AreLinked (map thing_of l)) (sym c.deref-2.ensures.value)
-    (linked (records_of c.args.rows.now) c.args.at.0 (is_asked c.args.ns.now c.args.object.now) (map thing_of c.in_ok-path.path.items) c.in_ok-path.ensures.ok)
+    (linked (records_of c.args.rows.now) c.args.at.0 (asked_by c.args.question) (map thing_of c.in_ok-path.path.items) c.in_ok-path.ensures.ok)
 
 pub returns-then-has_none-clause-ok : goal.returns-then-has_none-clause-ok
 returns-then-has_none-clause-ok g c =
-    was_kept (records_of c.args.rows.now) c.args.at.0 (is_asked c.args.ns.now c.args.object.now) (map thing_of c.in_ok-path.path.items) (map thing_of c.in_ok-before.before.items) c.in_ok-past.past.items
+    was_kept (records_of c.args.rows.now) c.args.at.0 (asked_by c.args.question) (map thing_of c.in_ok-path.path.items) (map thing_of c.in_ok-before.before.items) c.in_ok-past.past.items
     (none_there c.in_ok-path.path.items (sym c.has_none.ensures ∙ c.if-has_none.true)) c.in_ok-path.ensures.ok c.in_ok-before.ensures.ok
     (subst (λ (l : List Found). AreTold c.args.rows.now.profile Ended (map thing_of l) c.in_ok-past.past.items) c.deref.ensures.value c.in_ok-past.ensures.ok)
 
 pub returns-clause-ok : goal.returns-clause-ok
 returns-clause-ok g c =
-    is_kept (records_of c.args.rows.now) c.args.at.0 (is_asked c.args.ns.now c.args.object.now) (map thing_of c.in_ok-path.path.items) c.in_ok-steps.steps.items
+    is_kept (records_of c.args.rows.now) c.args.at.0 (asked_by c.args.question) (map thing_of c.in_ok-path.path.items) c.in_ok-steps.steps.items
     (some_there c.in_ok-path.path.items (sym c.has_none.ensures ∙ c.if-has_none.false)) c.in_ok-path.ensures.ok
     (subst (λ (l : List Found). AreTold c.args.rows.now.profile Root (map thing_of l) c.in_ok-steps.steps.items) c.deref-2.ensures.value c.in_ok-steps.ensures.ok)

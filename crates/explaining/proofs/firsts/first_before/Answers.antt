@@ -1,8 +1,8 @@
-use Rattle.std.proofs.Common.{◌≡◌, ◌∙◌, ◌+◌, suc, length, ap, arith}
+use Rattle.std.proofs.Common.{◌≡◌, ◌∙◌, ◌+◌, ℕ, suc, length, sym, ap, subst, arith}
 use Rattle.gc_graph.specs.Stored.{records_of}
 use Rattle.mark_core.specs.Firsts.{leads}
 use Rattle.explaining.specs.Found.{numbered}
-use Rattle.explaining.specs.Firsts.{number_before, chosen, first_leading}
+use Rattle.explaining.specs.Firsts.{number_before, chosen, first_leading, AreWithin}
 use Rattle.explaining.proofs.Puts.{all_within}
 use Rattle.explaining.proofs.firsts.first_before.Goals as goal
 
@@ -19,3 +19,6 @@ loop-from-preserved c =
           (λ t. leads graph depths from t) (length depths) c.loop-from.invariant.count (c.put_from.ensures.count ∙ c.loop-from.invariant.count) c.loop-from.invariant.within c.put_from.ensures.each;
       each = λ t lt. c.put_from.ensures.each t lt ∙ ap (chosen (number_before records) (leads graph depths from t) from) (c.loop-from.invariant.each t lt) ∙ ap (λ k. first_leading records graph depths t k) (let up : suc from ≡ from + 1 = omega arith in up);
     }
+
+pub returns-clause-within : goal.returns-clause-within
+returns-clause-within c = subst (λ (k : ℕ). AreWithin k c.loop-from.before.items) (sym (c.loop-from.invariant.count ∙ c.requires.numbers)) c.loop-from.invariant.within

@@ -7,4 +7,4 @@ use Rattle.explaining.proofs.holders.first_lease.Given as goal
 
 -- of the rows so far the first that holds the thing
 abbrev pub invariant-loop-row : goal.invariant-loop-row
-invariant-loop-row l = option_map thing_of l.first ≡ holder_among l.profile l.at.0 (thing_of l.held) (option_map thing_of l.best) (map (λ row. lease row.now) (take l.row-index l.rows))
+invariant-loop-row l = option_map thing_of l.first ≡ holder_among l.fn.rows.profile l.at.0 (thing_of l.held) (option_map thing_of l.best) (map (λ row. lease row.now) (take l.row-index l.fn.rows.leases.now))

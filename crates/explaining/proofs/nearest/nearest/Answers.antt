@@ -1,8 +1,8 @@
 use Rattle.std.proofs.Common.{◌≡◌, ◌∙◌, ◌+◌, suc, ap, arith}
-use Rattle.meta_types.specs.Explanations.{is_asked}
 use Rattle.gc_graph.specs.Stored.{records_of}
 use Rattle.explaining.specs.Firsts.{chosen}
 use Rattle.explaining.specs.Ends.{nearer, nearest_below}
+use Rattle.explaining.specs.Questions.{asked_by}
 use Rattle.explaining.proofs.nearest.nearest.Goals as goal
 
 -- one number more
@@ -14,6 +14,6 @@ loop-number-preserved c =
     let up : suc number ≡ number + 1 = omega arith in
     record {
       nearest = c.chosen-best.ensures.chosen ∙ (λ i. chosen (nearer records depths) (c.is_end-fits.ensures i) number (c.loop-number.invariant.nearest i))
-          ∙ ap (λ k. nearest_below records (is_asked c.args.ns.now c.args.object.now) depths k) up;
+          ∙ ap (λ k. nearest_below records (asked_by c.args.question) depths k) up;
       range = c.chosen-best.ensures.range;
     }

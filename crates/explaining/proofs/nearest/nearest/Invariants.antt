@@ -1,13 +1,13 @@
 use Rattle.std.proofs.Common.{◌≡◌, ◌<◌, length}
 use Rattle.std.specs.Prelude.{IfSome}
-use Rattle.meta_types.specs.Explanations.{is_asked}
 use Rattle.gc_graph.specs.Stored.{records_of}
 use Rattle.explaining.specs.Ends.{nearest_below}
+use Rattle.explaining.specs.Questions.{asked_by}
 use Rattle.explaining.proofs.nearest.nearest.Given as goal
 
 -- of the numbers so far the nearest
 abbrev pub invariant-loop-number : goal.invariant-loop-number
 invariant-loop-number l = record {
-  nearest : l.best ≡ nearest_below (records_of l.rows) (is_asked l.ns l.object) l.depths l.number;
+  nearest : l.best ≡ nearest_below (records_of l.rows) (asked_by l.question) l.depths l.number;
   range : IfSome l.best (λ b. b < length l.depths);
 }

@@ -1,11 +1,11 @@
 use Rattle.std.proofs.Common.{◌≡◌, take, map}
 use Rattle.std.specs.Prelude.{option_map}
 use Rattle.meta_types.specs.Paths.{container}
-use Rattle.meta_types.specs.Explanations.{is_asked}
 use Rattle.explaining.specs.Found.{thing_of}
 use Rattle.explaining.specs.Ends.{root_among}
+use Rattle.explaining.specs.Questions.{asked_by}
 use Rattle.explaining.proofs.roots.container_among.Given as goal
 
 -- of the rows so far the first that is asked for and stays
 abbrev pub invariant-loop-row : goal.invariant-loop-row
-invariant-loop-row l = option_map thing_of l.first ≡ root_among l.profile l.fn.at.0 (is_asked l.ns l.object) (option_map thing_of l.best) (map (λ row. container row.now) (take l.row-index l.rows))
+invariant-loop-row l = option_map thing_of l.first ≡ root_among l.fn.rows.profile l.fn.at.0 (asked_by l.question) (option_map thing_of l.best) (map (λ row. container row.now) (take l.row-index l.fn.rows.containers.now))

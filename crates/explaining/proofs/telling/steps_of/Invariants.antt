@@ -2,7 +2,7 @@ use Rattle.std.proofs.Common.{◌-◌, drop, length, map}
 use Rattle.meta_types.specs.Explanations.{AreTold}
 use Rattle.explaining.specs.Found.{thing_of}
 use Rattle.explaining.specs.StepWords.{root_word}
-use Rattle.explaining.proofs.telling.told.Given as goal
+use Rattle.explaining.proofs.telling.steps_of.Given as goal
 
 -- the things that are left out stand before the place
 abbrev pub invariant-loop-done : goal.invariant-loop-done

@@ -1,7 +1,7 @@
 use Rattle.std.proofs.Common.{◌-◌, length, refl}
 use Rattle.explaining.specs.StepWords.{root_word}
 use Rattle.explaining.proofs.TellPaths.{told_round}
-use Rattle.explaining.proofs.telling.told.Goals as goal
+use Rattle.explaining.proofs.telling.steps_of.Goals as goal
 
 -- a step more
 pub loop-done-preserved : goal.loop-done-preserved
