@@ -7,6 +7,7 @@ mod Errors
 mod Feeds
 mod Files
 pub mod Groups
+pub mod Growing
 mod Heads
 mod LastFeeds
 mod LineFeeds

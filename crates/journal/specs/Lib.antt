@@ -1,5 +1,6 @@
 pub mod Crashes
 pub mod Groups
+pub mod Growth
 pub mod Laws
 pub mod Reading
 pub mod Reads

@@ -1,6 +1,7 @@
 //! Accepted lines, each on the disk before it is acknowledged.
-ghost use Rattle.std.specs.Prelude.{◌≡◌, ◌++◌, ◌∷◌, [], List, ℕ, IsTrue, OnOk};
+ghost use Rattle.std.specs.Prelude.{◌≡◌, ◌≢◌, ◌<◌, ◌-◌, ◌++◌, ◌∷◌, [], List, ℕ, length, IsTrue, IfOk, IfErr, OnOk};
 ghost use Rattle.journal.specs.Text.{lines_text, commit_of, IsLine, AreLines};
+ghost use Rattle.journal.specs.Reading.{found, sound};
 ghost use Rattle.journal.specs.Groups.{HasGroups, LeavesEither, added};
 
 use crate::line_head::end_of;
@@ -83,5 +84,44 @@ impl<D: Log + Drop> Journal<D> {
         self.end = end;
         self.pending.clear();
         Ok(())
+    }
+
+    /// How many bytes of zeros stand behind the groups. The disk isn't asked.
+    pub fn room(&self) -> Result<usize, JournalError>
+        ensures ok { IfOk result (λ room. IsTrue (D.is_clean self.now.log)
+            → room ≡ length (D.text self.now.log) - self.now.end) }
+    {
+        let size = self.log.size()?;
+        Ok(size.saturating_sub(self.end))
+    }
+
+    /// Makes room behind the groups. Where that is refused the journal is as it was and goes on,
+    /// unless the disk failed; then open the file again. No crash changes what is read.
+    pub fn grow(&mut self) -> Result<(), JournalError>
+        ensures ok { OnOk result ((first : List ℕ) (groups : List (List (List ℕ)))
+            → IsTrue (D.is_clean self.old.log)
+            → HasGroups (D.text self.old.log)
+            (D.may_leave self.old.log) self.old.last self.old.end first groups
+            → HasGroups (D.text self.new.log)
+            (D.may_leave self.new.log) self.new.last self.new.end first groups) }
+        ensures larger { OnOk result (IsTrue (D.is_clean self.old.log)
+            → length (D.text self.old.log) < length (D.text self.new.log)) }
+        ensures refused { IfErr result (λ error. error ≢ JournalError.DiskFailed
+            → (first : List ℕ) (groups : List (List (List ℕ)))
+            → IsTrue (D.is_clean self.old.log)
+            → HasGroups (D.text self.old.log)
+            (D.may_leave self.old.log) self.old.last self.old.end first groups
+            → HasGroups (D.text self.new.log)
+            (D.may_leave self.new.log) self.new.last self.new.end first groups) }
+        ensures same { (self.new.last ≡ self.old.last) × (self.new.end ≡ self.old.end)
+            × (self.new.pending ≡ self.old.pending) }
+        ensures calm { D.is_clean self.new.log ≡ D.is_clean self.old.log }
+        ensures crash { (first : List ℕ) (groups : List (List (List ℕ)))
+            → IsTrue (D.is_clean self.old.log)
+            → HasGroups (D.text self.old.log)
+            (D.may_leave self.old.log) self.old.last self.old.end first groups
+            → (c : List ℕ) → D.may_leave self.new.log c → found first c ≡ sound groups }
+    {
+        self.log.grow()
     }
 }

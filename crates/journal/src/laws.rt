@@ -1,5 +1,6 @@
 //! What holds of the text of journals.
 ghost use Rattle.journal.specs.Laws.{WhatIsWrittenIsRead, ATornGroupIsNotThere, NothingIsSkipped, AZeroIsTold, AChangeIsTold, TheLastSumTellsAll};
+ghost use Rattle.journal.specs.Growth.{ZerosChangeNothing};
 
 /// A journal is read as it was written. One of whose last group a crash lost bytes is read without
 /// that group, or with it where it is whole. That isn't found as damage.
@@ -24,4 +25,9 @@ pub fn damage_is_told()
 /// The last sum tells all that stands before it.
 pub fn the_last_sum_tells_all()
     ensures all { TheLastSumTellsAll }
+{}
+
+/// A file that is made larger by zeros is found to hold what it held.
+pub fn zeros_change_nothing()
+    ensures found { ZerosChangeNothing }
 {}

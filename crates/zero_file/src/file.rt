@@ -1,5 +1,5 @@
 //! A journal's file over a disk.
-ghost use Rattle.std.specs.Prelude.{◌≡◌, true, length, IsTrue};
+ghost use Rattle.std.specs.Prelude.{◌≡◌, ℕ, List, true, length, IsTrue, OnOk};
 
 use crate::steps::{put, read_block, size_of};
 use journal::{JournalError, Log};
@@ -27,6 +27,25 @@ impl<D: Disk + Drop> ZeroFile<D> {
             is_measured: false,
         }
     }
+
+    /// Measures the file.
+    pub fn open(&mut self) -> Result<(), JournalError>
+        ensures seen { D.Disk.seen self.new.disk ≡ D.Disk.seen self.old.disk }
+        ensures clean { IsTrue (D.Disk.is_clean self.new.disk)
+            → IsTrue (D.Disk.is_clean self.old.disk) }
+        ensures crash { (c : List ℕ) → D.Disk.may_leave self.new.disk c
+            → D.Disk.may_leave self.old.disk c }
+        ensures measured { OnOk result (self.new.is_measured ≡ true) }
+    {
+        if !self.disk.may_be_used() {
+            return Err(JournalError::DiskFailed);
+        }
+        self.is_measured = false;
+        let size = size_of(&mut self.disk)?;
+        self.size = size;
+        self.is_measured = true;
+        Ok(())
+    }
 }
 
 impl<D: Disk + Drop> Log for ZeroFile<D> {
@@ -42,15 +61,11 @@ impl<D: Disk + Drop> Log for ZeroFile<D> {
 
     ghost rested = { λ f c only left. only c left };
 
-    fn size(&mut self) -> Result<usize, JournalError> {
-        if !self.disk.may_be_used() {
+    fn size(&self) -> Result<usize, JournalError> {
+        if !self.is_measured {
             return Err(JournalError::DiskFailed);
         }
-        self.is_measured = false;
-        let size = size_of(&mut self.disk)?;
-        self.size = size;
-        self.is_measured = true;
-        Ok(size)
+        Ok(self.size)
     }
 
     fn read(&mut self, at: usize, count: usize, block: &mut Vec<u8>) -> Result<(), JournalError> {
@@ -75,5 +90,9 @@ impl<D: Disk + Drop> Log for ZeroFile<D> {
         put(&mut self.disk, at, bytes)?;
         self.is_measured = true;
         Ok(())
+    }
+
+    fn grow(&mut self) -> Result<(), JournalError> {
+        Err(JournalError::CannotGrow)
     }
 }

@@ -15,10 +15,10 @@ reading-init g c = record {
   sized = c.in_ok-size.ensures.size;
   reads = λ clean. c.new-reader.ensures;
   zeros = λ clean. (omega arith, refl);
-  clean = c.size.ensures.clean;
-  rests = c.size.ensures.rests;
-  same = c.size.ensures.same;
-  crash = c.size.ensures.crash;
+  clean = λ clean. clean;
+  rests = λ rests. rests;
+  same = refl;
+  crash = λ out left. left;
 }
 
 -- a block more

@@ -1,0 +1,5 @@
+use Rattle.journal.proofs.Growing.{zeros_change_nothing}
+use Rattle.journal.proofs.laws.zeros_change_nothing.Goals as goal
+
+pub returns : goal.returns
+returns c = record { found = zeros_change_nothing }
