@@ -1,9 +1,10 @@
 -- What a run of a service leaves that keeps a journal.
 use Rattle.std.specs.Prelude.{◌≡◌, ℕ, List, [], ◌∷◌, ◌++◌, take, Bool, true, false, if◌then◌else◌, Option}
-use Rattle.std.specs.Io.KnownBytes.{Appends}
+use Rattle.std.specs.Io.KnownBytes.{Appends, Consumes}
 use Rattle.journal.specs.Text.{IsLine}
 use Rattle.journal.specs.Reading.{found, sound}
 use Rattle.journal.specs.Groups.{HasGroups}
+use Rattle.kept_run.specs.Reads.{heard}
 
 -- a writer took the bytes but for the rest
 abbrev pub WritesFront : Option (List ℕ) → Option (List ℕ) → List ℕ → List ℕ → Type 0
@@ -62,23 +63,34 @@ pub record Survives (first : List ℕ) (old : List (List (List ℕ))) (trace : L
   pub bytes : ℕ
   pub answers : written ≡ take bytes (replies front)
 
--- Some entries were answered, and each crash leaves a file that survives so.
+-- Some lines of what was read were answered, the first ones, in order, and each crash leaves a file
+-- that survives so.
 pub record Kept {S : Type 0} (steps : S → List ℕ → List ℕ → Bool → S → Type 0) (first : List ℕ)
-    (old : List (List (List ℕ))) (from : S) (before : Option (List ℕ)) (outcomes : List ℕ → Type 0)
-    (contents : Option (List ℕ)) : Type 0 where
+    (old : List (List (List ℕ))) (from : S) (before unread : Option (List ℕ))
+    (outcomes : List ℕ → Type 0) (contents left : Option (List ℕ)) : Type 0 where
   pub trace : List Entry
   pub to : S
   pub goes : Trace steps from trace to
+  pub read : List ℕ
+  pub consumes : Consumes unread left read
+  pub later : List (List ℕ)
+  pub asks : heard read ≡ asked trace ++ later
   pub written : List ℕ
   pub wrote : Appends before contents written
   pub crash : (c : List ℕ) → outcomes c → Survives first old trace written c
 
--- All that was accepted is on the disk, and all that was answered is written.
-pub record Rests {S : Type 0} (steps : S → List ℕ → List ℕ → Bool → S → Type 0) (first : List ℕ)
-    (old : List (List (List ℕ))) (from to : S) (before contents : Option (List ℕ)) (text : List ℕ)
-    (outcomes : List ℕ → Type 0) (last : List ℕ) (end : ℕ) : Type 0 where
+-- Each line of what was read was answered, in order, all that was accepted is on the disk, and all
+-- replies are written.
+pub record Rests {S : Type 0} (steps : S → List ℕ → List ℕ → Bool → S → Type 0)
+    (lines_of_text : List ℕ → List (List ℕ)) (first : List ℕ)
+    (old : List (List (List ℕ))) (from to : S) (before unread : Option (List ℕ))
+    (text : List ℕ) (outcomes : List ℕ → Type 0) (last : List ℕ) (end : ℕ)
+    (contents left : Option (List ℕ)) : Type 0 where
   pub trace : List Entry
   pub goes : Trace steps from trace to
+  pub read : List ℕ
+  pub consumes : Consumes unread left read
+  pub asks : asked trace ≡ lines_of_text read
   pub groups : List (List (List ℕ))
   pub has : HasGroups text outcomes last end first groups
   pub lines : lines_of groups ≡ lines_of old ++ accepted trace

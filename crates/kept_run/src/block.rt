@@ -1,69 +1,188 @@
-//! One block of lines.
-ghost use Rattle.std.specs.Prelude.{◌≡◌, ◌++◌, ◌∷◌, [], List, ℕ, Bool, IsTrue, OnOk, take};
-ghost use Rattle.journal.specs.Text.{lines_text, AreLines, IsLine};
-ghost use Rattle.journal.specs.Reading.{whole_lines};
-ghost use Rattle.journal.specs.Groups.{HasGroups};
-ghost use Rattle.kept_run.specs.Runs.{Entry, asked, replies, accepted, Trace, lines_of, KeepsLine, Kept, Rests};
+//! The lines of a block.
+ghost use Rattle.std.specs.Prelude.{◌≡◌, ◌++◌, ◌∷◌, [], List, ℕ, IsTrue, OnOk, IsErrOf, Option, false};
+ghost use Rattle.std.specs.List.{list_any};
+ghost use Rattle.std.specs.Io.KnownBytes.{Consumes};
+ghost use Rattle.journal.specs.Text.{is_line_feed};
+ghost use Rattle.kept_run.specs.Reads.{heard};
+ghost use Rattle.kept_run.specs.Progress.{Start, Serves, Runs, Ends};
 
+use crate::line::{end_line, take_line};
+use crate::room::make_room;
+use crate::settling::settle;
+use crate::waiting::{Waiting, add_piece};
 use crate::{RunError, Service};
 use journal::{Journal, Log, cut_line};
+use std::io::Write;
+use std::sync::Wait;
+use std::thread::Threads;
 
-// Keeps a line that may have changed the service.
-fn keep<D: Log + Drop>(journal: &mut Journal<D>, line: &[u8], changes: bool) -> Result<(), RunError>
-    ensures kept { OnOk result
-        (KeepsLine changes line.now journal.old.pending.items journal.new.pending.items) }
-    ensures same { (journal.new.log ≡ journal.old.log) × (journal.new.last ≡ journal.old.last)
-        × (journal.new.end ≡ journal.old.end) }
-{
-    if !changes {
-        return Ok(());
-    }
-    match journal.push(line) {
-        Ok(()) => Ok(()),
-        Err(_) => Err(RunError::JournalFailed),
-    }
-}
+/// Replies of this number of bytes don't wait for the end of their block.
+const FULL: usize = 65_536;
 
-// Answers a line, and keeps it.
-fn take_line<S: Service, D: Log + Drop>(
+// Answers the line that a piece ends. Many replies don't wait for the end of the block.
+fn answer_piece<T: Threads + Wait + Sync, S: Service, D: Log + Drop, W: Write>(
+    rt: &T,
     service: &mut S,
     journal: &mut Journal<D>,
-    out: &mut Vec<u8>,
-    line: &[u8],
+    waiting: &mut Waiting,
+    writer: &mut W,
+    piece: &[u8],
 ) -> Result<(), RunError>
     ensures ok { OnOk result
-        ((reply : List ℕ) × (changes : Bool)
-        × S.steps service.old line.now reply changes service.new
-        × (out.new.items ≡ out.old.items ++ reply)
-        × KeepsLine changes line.now journal.old.pending.items journal.new.pending.items) }
-    ensures same { (journal.new.log ≡ journal.old.log) × (journal.new.last ≡ journal.old.last)
-        × (journal.new.end ≡ journal.old.end) }
+        ((start : Start S) (left : Option (List ℕ)) (later : List ℕ) → IsTrue (D.is_clean journal.old.log)
+        → list_any is_line_feed piece.now ≡ false
+        → Runs S.steps start service.old (D.text journal.old.log) (D.may_leave journal.old.log)
+        journal.old.last journal.old.end journal.old.pending.items waiting.old.replies.items
+        (W.contents writer.old) left waiting.old.line.items (piece.now ++ 10 ∷ later)
+        → Runs S.steps start service.new (D.text journal.new.log) (D.may_leave journal.new.log)
+        journal.new.last journal.new.end journal.new.pending.items waiting.new.replies.items
+        (W.contents writer.new) left waiting.new.line.items later) }
+    ensures kept { (start : Start S) (left : Option (List ℕ)) (later : List ℕ) → IsTrue (D.is_clean journal.old.log)
+        → list_any is_line_feed piece.now ≡ false
+        → Runs S.steps start service.old (D.text journal.old.log) (D.may_leave journal.old.log)
+        journal.old.last journal.old.end journal.old.pending.items waiting.old.replies.items
+        (W.contents writer.old) left waiting.old.line.items (piece.now ++ 10 ∷ later)
+        → Ends S.steps start (D.may_leave journal.new.log) (W.contents writer.new) left }
+    ensures calm { D.is_clean journal.new.log ≡ D.is_clean journal.old.log }
+    ensures unread { IsErrOf result RunError.ReadFailed → ⊥ }
 {
-    let changes = service.answer(line, out)?;
-    keep(journal, line, changes)?;
+    end_line(rt, service, journal, waiting, piece)?;
+    if waiting.replies.len() < FULL {
+        return Ok(());
+    }
+    settle(journal, &mut waiting.replies, writer)?;
     Ok(())
 }
 
-/// Answers the lines of a block.
-pub fn take_lines<S: Service, D: Log + Drop>(
+// Answers each line that the next bytes end.
+fn answer_lines<T: Threads + Wait + Sync, S: Service, D: Log + Drop, W: Write>(
+    rt: &T,
     service: &mut S,
     journal: &mut Journal<D>,
-    out: &mut Vec<u8>,
-    text: &[u8],
+    waiting: &mut Waiting,
+    writer: &mut W,
+    bytes: &[u8],
 ) -> Result<(), RunError>
-    ensures ok { OnOk result ((entries : List Entry) × Trace S.steps service.old entries service.new
-        × (asked entries ≡ whole_lines text.now)
-        × (out.new.items ≡ out.old.items ++ replies entries)
-        × AreLines (accepted entries)
-        × (journal.new.pending.items
-        ≡ journal.old.pending.items ++ lines_text (accepted entries))) }
-    ensures same { (journal.new.log ≡ journal.old.log) × (journal.new.last ≡ journal.old.last)
-        × (journal.new.end ≡ journal.old.end) }
+    ensures ok { OnOk result
+        ((start : Start S) (left : Option (List ℕ)) → IsTrue (D.is_clean journal.old.log)
+        → Runs S.steps start service.old (D.text journal.old.log) (D.may_leave journal.old.log)
+        journal.old.last journal.old.end journal.old.pending.items waiting.old.replies.items
+        (W.contents writer.old) left waiting.old.line.items bytes.now
+        → Runs S.steps start service.new (D.text journal.new.log) (D.may_leave journal.new.log)
+        journal.new.last journal.new.end journal.new.pending.items waiting.new.replies.items
+        (W.contents writer.new) left waiting.new.line.items []) }
+    ensures kept { (start : Start S) (left : Option (List ℕ)) → IsTrue (D.is_clean journal.old.log)
+        → Runs S.steps start service.old (D.text journal.old.log) (D.may_leave journal.old.log)
+        journal.old.last journal.old.end journal.old.pending.items waiting.old.replies.items
+        (W.contents writer.old) left waiting.old.line.items bytes.now
+        → Ends S.steps start (D.may_leave journal.new.log) (W.contents writer.new) left }
+    ensures calm { D.is_clean journal.new.log ≡ D.is_clean journal.old.log }
+    ensures unread { IsErrOf result RunError.ReadFailed → ⊥ }
 {
-    let mut rest = text;
-    while let Some((line, later)) = cut_line(rest) {
-        take_line(service, journal, out, line)?;
+    let mut rest = bytes;
+    while let Some((piece, later)) = cut_line(rest) {
+        answer_piece(rt, service, journal, waiting, writer, piece)?;
         rest = later;
     }
+    add_piece(&mut waiting.line, rest)?;
+    Ok(())
+}
+
+/// Takes in the next bytes: answers each line that they end, commits those that were accepted, and
+/// writes the replies.
+pub fn feed<T: Threads + Wait + Sync, S: Service, D: Log + Drop, W: Write>(
+    rt: &T,
+    service: &mut S,
+    journal: &mut Journal<D>,
+    waiting: &mut Waiting,
+    writer: &mut W,
+    bytes: &[u8],
+) -> Result<(), RunError>
+    ensures ok { OnOk result
+        ((start : Start S) (left : Option (List ℕ)) → IsTrue (D.is_clean journal.old.log)
+        → Runs S.steps start service.old (D.text journal.old.log) (D.may_leave journal.old.log)
+        journal.old.last journal.old.end journal.old.pending.items waiting.old.replies.items
+        (W.contents writer.old) left waiting.old.line.items bytes.now
+        → Runs S.steps start service.new (D.text journal.new.log) (D.may_leave journal.new.log)
+        journal.new.last journal.new.end journal.new.pending.items waiting.new.replies.items
+        (W.contents writer.new) left waiting.new.line.items []) }
+    ensures kept { (start : Start S) (left : Option (List ℕ)) → IsTrue (D.is_clean journal.old.log)
+        → Runs S.steps start service.old (D.text journal.old.log) (D.may_leave journal.old.log)
+        journal.old.last journal.old.end journal.old.pending.items waiting.old.replies.items
+        (W.contents writer.old) left waiting.old.line.items bytes.now
+        → Ends S.steps start (D.may_leave journal.new.log) (W.contents writer.new) left }
+    ensures empty { OnOk result
+        ((journal.new.pending.items ≡ []) × (waiting.new.replies.items ≡ [])) }
+    ensures calm { D.is_clean journal.new.log ≡ D.is_clean journal.old.log }
+    ensures unread { IsErrOf result RunError.ReadFailed → ⊥ }
+{
+    make_room(service, journal, waiting)?;
+    answer_lines(rt, service, journal, waiting, writer, bytes)?;
+    settle(journal, &mut waiting.replies, writer)?;
+    Ok(())
+}
+
+// Answers a last line that no line feed ends.
+fn end_last_line<T: Threads + Wait + Sync, S: Service, D: Log + Drop>(
+    rt: &T,
+    service: &mut S,
+    journal: &mut Journal<D>,
+    waiting: &mut Waiting,
+) -> Result<(), RunError>
+    ensures ok { OnOk result
+        ((start : Start S) (contents left : Option (List ℕ)) → IsTrue (D.is_clean journal.old.log)
+        → Runs S.steps start service.old (D.text journal.old.log) (D.may_leave journal.old.log)
+        journal.old.last journal.old.end journal.old.pending.items waiting.old.replies.items
+        contents left waiting.old.line.items []
+        → (read : List ℕ) × Consumes start.unread left read
+        × Serves S.steps start service.new (D.text journal.new.log) (D.may_leave journal.new.log)
+        journal.new.last journal.new.end journal.new.pending.items waiting.new.replies.items
+        contents (heard read)) }
+    ensures kept { (start : Start S) (contents left : Option (List ℕ))
+        → IsTrue (D.is_clean journal.old.log)
+        → Runs S.steps start service.old (D.text journal.old.log) (D.may_leave journal.old.log)
+        journal.old.last journal.old.end journal.old.pending.items waiting.old.replies.items
+        contents left waiting.old.line.items []
+        → Ends S.steps start (D.may_leave journal.new.log) contents left }
+    ensures calm { D.is_clean journal.new.log ≡ D.is_clean journal.old.log }
+    ensures unread { IsErrOf result RunError.ReadFailed → ⊥ }
+{
+    if waiting.line.is_empty() {
+        return Ok(());
+    }
+    make_room(service, journal, waiting)?;
+    take_line(rt, service, journal, &mut waiting.replies, &waiting.line)?;
+    Ok(())
+}
+
+/// Ends a run: a last line that no line feed ends is answered, too.
+pub fn finish<T: Threads + Wait + Sync, S: Service, D: Log + Drop, W: Write>(
+    rt: &T,
+    service: &mut S,
+    journal: &mut Journal<D>,
+    waiting: &mut Waiting,
+    writer: &mut W,
+) -> Result<(), RunError>
+    ensures ok { OnOk result
+        ((start : Start S) (left : Option (List ℕ)) → IsTrue (D.is_clean journal.old.log)
+        → Runs S.steps start service.old (D.text journal.old.log) (D.may_leave journal.old.log)
+        journal.old.last journal.old.end journal.old.pending.items waiting.old.replies.items
+        (W.contents writer.old) left waiting.old.line.items []
+        → (read : List ℕ) × Consumes start.unread left read
+        × Serves S.steps start service.new (D.text journal.new.log) (D.may_leave journal.new.log)
+        journal.new.last journal.new.end journal.new.pending.items waiting.new.replies.items
+        (W.contents writer.new) (heard read)) }
+    ensures kept { (start : Start S) (left : Option (List ℕ)) → IsTrue (D.is_clean journal.old.log)
+        → Runs S.steps start service.old (D.text journal.old.log) (D.may_leave journal.old.log)
+        journal.old.last journal.old.end journal.old.pending.items waiting.old.replies.items
+        (W.contents writer.old) left waiting.old.line.items []
+        → Ends S.steps start (D.may_leave journal.new.log) (W.contents writer.new) left }
+    ensures empty { OnOk result
+        ((journal.new.pending.items ≡ []) × (waiting.new.replies.items ≡ [])) }
+    ensures calm { D.is_clean journal.new.log ≡ D.is_clean journal.old.log }
+    ensures unread { IsErrOf result RunError.ReadFailed → ⊥ }
+{
+    end_last_line(rt, service, journal, waiting)?;
+    settle(journal, &mut waiting.replies, writer)?;
     Ok(())
 }

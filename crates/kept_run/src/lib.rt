@@ -4,10 +4,14 @@
 
 mod block;
 mod error;
+mod line;
+mod room;
 mod run;
+mod settling;
 mod traits;
+mod waiting;
 mod writing;
 
 pub use error::RunError;
 pub use run::run_kept;
-pub use traits::{Service, Source};
+pub use traits::Service;

@@ -1,128 +1,95 @@
 //! A run: block by block, each on the disk before its replies.
-ghost use Rattle.std.specs.Prelude.{◌≡◌, ◌⊎◌, [], List, ℕ, IsTrue, OnOk, take};
-ghost use Rattle.std.specs.Io.KnownBytes.{Appends};
-ghost use Rattle.journal.specs.Text.{lines_text, AreLines};
-ghost use Rattle.journal.specs.Reading.{found, sound, whole_lines};
-ghost use Rattle.journal.specs.Groups.{HasGroups, added};
-ghost use Rattle.kept_run.specs.Runs.{Entry, asked, replies, accepted, Trace, Kept, Rests};
+ghost use Rattle.std.specs.Prelude.{◌≡◌, ◌<◌, ◌≤◌, [], List, ℕ, length, IsTrue, OnOk, IfErr, IsErrOf, IfOk};
+ghost use Rattle.std.specs.Io.KnownBytes.{IsAtEnd, ReadConsumes};
+ghost use Rattle.journal.specs.Groups.{HasGroups};
+ghost use Rattle.kept_run.specs.Reads.{heard, heard_whole};
+ghost use Rattle.kept_run.specs.Runs.{Kept, Rests};
 
-use crate::block::take_lines;
-use crate::writing::{flush, write_bytes};
-use crate::{RunError, Service, Source};
+use crate::block::{feed, finish};
+use crate::waiting::Waiting;
+use crate::{RunError, Service};
 use journal::{Journal, Log};
 use std::alloc::Global;
-use std::io::Write;
+use std::io::{Read, Write};
+use std::sync::Wait;
+use std::thread::Threads;
 
 /// A run takes in fewer blocks than this.
 const BLOCK_LIMIT: u64 = 1 << 62;
 
-// Commits the lines that wait, and then writes the replies that wait.
-fn settle<D: Log + Drop, W: Write>(
-    journal: &mut Journal<D>,
-    out: &mut Vec<u8>,
-    writer: &mut W,
-) -> Result<(), RunError>
-    ensures ok { OnOk result
-        ((first : List ℕ) (groups : List (List (List ℕ))) (lines : List (List ℕ))
-        → IsTrue (D.is_clean journal.old.log)
-        → HasGroups (D.text journal.old.log)
-        (D.may_leave journal.old.log) journal.old.last journal.old.end first groups
-        → AreLines lines → journal.old.pending.items ≡ lines_text lines
-        → HasGroups (D.text journal.new.log)
-        (D.may_leave journal.new.log) journal.new.last journal.new.end first
-        (added groups lines)) }
-    ensures written { OnOk result
-        (Appends (W.contents writer.old) (W.contents writer.new) out.old.items) }
-    ensures empty { OnOk result ((journal.new.pending.items ≡ []) × (out.new.items ≡ [])) }
-    ensures calm { D.is_clean journal.new.log ≡ D.is_clean journal.old.log }
-    ensures crash { (first : List ℕ) (groups : List (List (List ℕ))) (lines : List (List ℕ))
-        → IsTrue (D.is_clean journal.old.log)
-        → HasGroups (D.text journal.old.log)
-        (D.may_leave journal.old.log) journal.old.last journal.old.end first groups
-        → AreLines lines → journal.old.pending.items ≡ lines_text lines
-        → (count : ℕ) × Appends (W.contents writer.old) (W.contents writer.new)
-        (take count out.old.items)
-        × ((c : List ℕ) → D.may_leave journal.new.log c
-        → (found first c ≡ sound (added groups lines))
-        ⊎ ((found first c ≡ sound groups) × (take count out.old.items ≡ []))) }
+/// This number of bytes is read at once.
+const BLOCK: usize = 65_536;
+
+// Room for a block.
+fn blank_block(alloc: Global) -> Result<Vec<u8>, RunError>
+    ensures room { IfOk result (λ block. 0 < length block.items) }
+    ensures unread { IsErrOf result RunError.ReadFailed → ⊥ }
 {
-    match journal.commit() {
-        Ok(()) => {}
-        Err(_) => return Err(RunError::JournalFailed),
+    let mut block: Vec<u8> = Vec::new(alloc);
+    block.resize(BLOCK, 0)?;
+    Ok(block)
+}
+
+// Reads the next bytes.
+fn read_block<R: Read>(reader: &mut R, block: &mut Vec<u8>) -> Result<usize, RunError>
+    ensures bound { IfOk result (λ count. count ≤ length block.new.items) }
+    ensures room { length block.new.items ≡ length block.old.items }
+    ensures bytes { ReadConsumes (R.remaining reader.old) (R.remaining reader.new)
+        result block.new.items }
+    ensures error { IfErr result (λ error. error ≡ RunError.ReadFailed) }
+{
+    match reader.read(block) {
+        Ok(count) => Ok(count),
+        Err(_) => Err(RunError::ReadFailed),
     }
-    write_bytes(writer, out)?;
-    flush(writer)?;
-    out.clear();
-    Ok(())
 }
 
-// Answers the lines of a block, commits those that were accepted, and writes the replies.
-fn serve_block<S: Service, D: Log + Drop, W: Write>(
-    service: &mut S,
-    journal: &mut Journal<D>,
-    out: &mut Vec<u8>,
-    writer: &mut W,
-    text: &[u8],
-) -> Result<(), RunError>
-    ensures ok { OnOk result
-        ((first : List ℕ) (groups : List (List (List ℕ))) → IsTrue (D.is_clean journal.old.log)
-        → HasGroups (D.text journal.old.log)
-        (D.may_leave journal.old.log) journal.old.last journal.old.end first groups
-        → journal.old.pending.items ≡ [] → out.old.items ≡ []
-        → (entries : List Entry) × Trace S.steps service.old entries service.new
-        × (asked entries ≡ whole_lines text.now)
-        × HasGroups (D.text journal.new.log)
-        (D.may_leave journal.new.log) journal.new.last journal.new.end first
-        (added groups (accepted entries))
-        × Appends (W.contents writer.old) (W.contents writer.new) (replies entries)) }
-    ensures empty { OnOk result ((journal.new.pending.items ≡ []) × (out.new.items ≡ [])) }
-    ensures calm { D.is_clean journal.new.log ≡ D.is_clean journal.old.log }
-    ensures crash { (first : List ℕ) (groups : List (List (List ℕ)))
-        → IsTrue (D.is_clean journal.old.log)
-        → HasGroups (D.text journal.old.log)
-        (D.may_leave journal.old.log) journal.old.last journal.old.end first groups
-        → journal.old.pending.items ≡ [] → out.old.items ≡ []
-        → Kept S.steps first groups service.old (W.contents writer.old)
-        (D.may_leave journal.new.log) (W.contents writer.new) }
-{
-    take_lines(service, journal, out, text)?;
-    settle(journal, out, writer)?;
-    Ok(())
-}
-
-/// The headline: whatever lines come and whatever fails, at each moment a crash leaves a file that
-/// is read as the lines that were there, and those accepted among the first lines of the run, in
+/// The headline: whatever is read and whatever fails, at each moment a crash leaves a file that is
+/// read as the lines that were there, and those accepted among the first lines of what was read, in
 /// order; and whatever was written are replies to these. So a line whose reply was written is found
 /// again, and no reply shows what a crash could take back.
-pub fn run_kept<S: Service, D: Log + Drop, B: Source, W: Write>(
+pub fn run_kept<T: Threads + Wait + Sync, S: Service, D: Log + Drop, R: Read, W: Write>(
+    rt: &T,
     alloc: Global,
     service: &mut S,
     journal: &mut Journal<D>,
-    source: &mut B,
+    reader: &mut R,
     writer: &mut W,
 ) -> Result<(), RunError>
     requires nothing_waits { journal.old.pending.items ≡ [] }
+    ensures end { OnOk result (IsAtEnd (R.remaining reader.new)) }
     ensures ok { OnOk result
         ((first : List ℕ) (groups : List (List (List ℕ))) → IsTrue (D.is_clean journal.old.log)
         → HasGroups (D.text journal.old.log)
         (D.may_leave journal.old.log) journal.old.last journal.old.end first groups
-        → Rests S.steps first groups service.old service.new (W.contents writer.old)
-        (W.contents writer.new)
-        (D.text journal.new.log) (D.may_leave journal.new.log) journal.new.last journal.new.end) }
+        → Rests S.steps heard first groups service.old service.new (W.contents writer.old)
+        (R.remaining reader.old) (D.text journal.new.log) (D.may_leave journal.new.log)
+        journal.new.last journal.new.end (W.contents writer.new) (R.remaining reader.new)) }
+
+    // A line that isn't whole when the reader fails isn't answered.
+    ensures read_failed { IsErrOf result RunError.ReadFailed → (first : List ℕ)
+        (groups : List (List (List ℕ))) → IsTrue (D.is_clean journal.old.log)
+        → HasGroups (D.text journal.old.log)
+        (D.may_leave journal.old.log) journal.old.last journal.old.end first groups
+        → Rests S.steps heard_whole first groups service.old service.new (W.contents writer.old)
+        (R.remaining reader.old) (D.text journal.new.log) (D.may_leave journal.new.log)
+        journal.new.last journal.new.end (W.contents writer.new) (R.remaining reader.new) }
     ensures kept { (first : List ℕ) (groups : List (List (List ℕ)))
         → IsTrue (D.is_clean journal.old.log)
         → HasGroups (D.text journal.old.log)
         (D.may_leave journal.old.log) journal.old.last journal.old.end first groups
-        → Kept S.steps first groups service.old (W.contents writer.old)
-        (D.may_leave journal.new.log) (W.contents writer.new) }
+        → Kept S.steps first groups service.old (W.contents writer.old) (R.remaining reader.old)
+        (D.may_leave journal.new.log) (W.contents writer.new) (R.remaining reader.new) }
 {
-    let mut out: Vec<u8> = Vec::new(alloc);
-    let mut block: Vec<u8> = Vec::new(alloc);
+    let mut waiting = Waiting::new(alloc)?;
+    let mut block = blank_block(alloc)?;
     'serving: for _ in 1..BLOCK_LIMIT {
-        if !source.next(&mut block)? {
+        let count = read_block(reader, &mut block)?;
+        if count == 0 {
+            finish(rt, service, journal, &mut waiting, writer)?;
             return Ok(());
         }
-        serve_block(service, journal, &mut out, writer, &block)?;
+        feed(rt, service, journal, &mut waiting, writer, &block[..count])?;
     }
     Err(RunError::ReadFailed)
 }

@@ -1,7 +1,9 @@
 //! What a run stands on.
-ghost use Rattle.std.specs.Prelude.{◌≡◌, ◌++◌, List, ℕ, Bool, IfOk};
+ghost use Rattle.std.specs.Prelude.{◌≡◌, ◌++◌, List, ℕ, Bool, false, IfOk, OnOk};
 
-use crate::RunError;
+use std::alloc::AllocError;
+use std::sync::Wait;
+use std::thread::Threads;
 
 /// What answers lines.
 pub trait Service {
@@ -9,16 +11,26 @@ pub trait Service {
     ghost steps: { Self → List ℕ → List ℕ → Bool → Self → Type 0 };
 
     /// Answers a line: puts the reply behind what waits to be written, and tells whether the line
-    /// may have changed anything. At `Err` the run ends.
-    fn answer(&mut self, line: &[u8], out: &mut Vec<u8>) -> Result<bool, RunError>
+    /// may have changed anything. Of a line of more than 65,536 bytes it gets the first 65,537. At
+    /// `Err` memory is refused, and the run ends.
+    fn answer<T: Threads + Wait + Sync>(
+        &mut self,
+        rt: &T,
+        line: &[u8],
+        out: &mut Vec<u8>,
+    ) -> Result<bool, AllocError>
         ensures ok { IfOk result
             (λ changes. (reply : List ℕ) × steps self.old line.now reply changes self.new
             × (out.new.items ≡ out.old.items ++ reply)) };
-}
 
-/// Where lines come from.
-pub trait Source {
-    /// The next whole lines, each with its line feed, in place of the block's bytes; or none at the
-    /// end.
-    fn next(&mut self, block: &mut Vec<u8>) -> Result<bool, RunError>;
+    /// Answers a line, and doesn't do it: there is no memory to keep it.
+    fn refuse(&mut self, line: &[u8], out: &mut Vec<u8>) -> Result<(), AllocError>
+        ensures ok { OnOk result
+            ((reply : List ℕ) × steps self.old line.now reply false self.new
+            × (out.new.items ≡ out.old.items ++ reply)) };
+
+    /// From now on lines that add are refused, or they are done again. A run tells each turn once:
+    /// the journal can't grow, or it can again.
+    fn refuse_additions(&mut self, are_refused: bool)
+        ensures same { self.new ≡ self.old };
 }

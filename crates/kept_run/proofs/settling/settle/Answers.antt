@@ -5,7 +5,7 @@ use Rattle.journal.specs.Reading.{found, sound}
 use Rattle.journal.specs.Groups.{HasGroups}
 use Rattle.journal.proofs.Groups.{what_is_written_is_read}
 use Rattle.kept_run.proofs.Writers.{Appends-none, Appends-Keeps, front_taken}
-use Rattle.kept_run.proofs.run.settle.Goals as goal
+use Rattle.kept_run.proofs.settling.settle.Goals as goal
 
 read_so : (first text last : List ℕ) (outcomes : List ℕ → Type 0) (end : ℕ)
     (groups : List (List (List ℕ))) → HasGroups text outcomes last end first groups → (c : List ℕ)
