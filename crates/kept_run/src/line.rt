@@ -9,13 +9,17 @@ use journal::{Journal, Log};
 use std::sync::Wait;
 use std::thread::Threads;
 
-// Takes room for a line, so that no line is done that can't be kept for want of memory.
+/// A line feed, and both commit lines of a group.
+const LINE_END: usize = 167;
+
+// Takes room for a line and the end of its group, so that no line is done that can't be kept for
+// want of memory.
 fn take_room<D: Log + Drop>(journal: &mut Journal<D>, line: &[u8]) -> bool
     ensures same { (journal.new.log ≡ journal.old.log) × (journal.new.last ≡ journal.old.last)
         × (journal.new.end ≡ journal.old.end) }
     ensures waits { journal.new.pending.items ≡ journal.old.pending.items }
 {
-    journal.pending.reserve(line.len() + 1).is_ok()
+    journal.pending.reserve(line.len() + LINE_END).is_ok()
 }
 
 // Keeps a line that may have changed the service.
