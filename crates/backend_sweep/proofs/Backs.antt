@@ -1,5 +1,5 @@
 -- From places of shards and plans to what all sweeps come to.
-use Rattle.std.proofs.Common.{◌≡◌, ℕ, zero, suc, ◌+◌, ◌<◌, List, [], ◌∷◌, ◌++◌, map, length, take, refl, sym, ◌∙◌, ap, subst, inl, inr, arith, slice_index_or}
+use Rattle.std.proofs.Common.{◌≡◌, ℕ, Bool, ◌+◌, List, [], ◌∷◌, ◌++◌, map, length, take, refl, sym, ◌∙◌, ap, subst, inl, inr, arith, slice_index_or}
 use Rattle.std.specs.Prelude.{Contains, bytes_eq, filter}
 use Rattle.std.specs.List.{AllByRecursion}
 use Rattle.std.specs.List.Sorted.{IsStrictlySortedBy}
@@ -10,19 +10,23 @@ use Rattle.std.proofs.lemmas.Cmp.{tied_itself}
 use Rattle.std.proofs.lemmas.Bool.Decides.{Decides-eqb}
 use Rattle.std.proofs.lemmas.Slice.Eq.{bytes_eq-Decides}
 use Rattle.meta_types.specs.Text.{Text, text_cmp}
-use Rattle.meta_types.specs.Rows.{Tables}
-use Rattle.meta_types.specs.Backends.{BackNames, no_objects, removed_objects}
+use Rattle.meta_types.specs.Backends.{BackNames}
 use Rattle.meta_types.proofs.Members.{here, later, first_or_later, none_in_nothing}
 use Rattle.back_model.specs.Snaps.{Snaps}
 use Rattle.back_model.specs.Shown.{Shard, AreApart, snaps_at, shown, all_failures}
 use Rattle.back_model.proofs.ShardPlaces.{apart_head, apart_rest}
 use Rattle.backend_sweep.specs.Shards.{is_number, numbers_of}
 use Rattle.backend_sweep.specs.Sweep.{Childfirst}
-use Rattle.backend_sweep.specs.Singles.{AreHeldOnce, SweepsEach}
-use Rattle.backend_sweep.specs.ShardPlans.{PlannedShard, shard_plan_for, IsReady, SweepsShardPlan, is_removed, is_failed}
+use Rattle.backend_sweep.specs.Singles.{AreHeldOnce}
+use Rattle.backend_sweep.specs.ShardPlans.{PlannedShard, shard_plan_for, IsReady, fate_of, is_removed, is_failed}
+use Rattle.backend_sweep.specs.Fated.{AllFates, removed_of, failed_of}
 use Rattle.backend_sweep.specs.Backed.{MaySweep}
-use Rattle.backend_sweep.specs.Swept.{held_in, IsSwept, count_names}
-use Rattle.backend_sweep.proofs.Zipped.{Triple, olds_of, shard_plans_of, news_of, One, Zips, zipped}
+use Rattle.backend_sweep.specs.Swept.{held_in, SweepsNames, count_names}
+use Rattle.backend_sweep.specs.Tasks.{shards_in, shard_plans_in, AreJobsOf, AreReady, SweepsJobs, SweepsList}
+use Rattle.backend_sweep.specs.declared.fates.Fate.{Fate}
+use Rattle.backend_sweep.specs.declared.shard_task.ShardJob.{ShardJob}
+use Rattle.backend_sweep.proofs.Fated.{removed_by, failed_by}
+use Rattle.backend_sweep.proofs.Zipped.{Triple, olds_of, shard_plans_of, news_of, One, Zips, shard_plan_at, shard_there, zipped}
 use Rattle.backend_sweep.proofs.Counting.{counted}
 use Rattle.backend_sweep.proofs.SweptBackends.{held_once, texts_apart, numbers_apart, first_by, swept}
 
@@ -31,9 +35,17 @@ taken : {X : Type 0} (xs ys : List X) → take (length xs) (xs ++ ys) ≡ xs
 taken [] ys = refl
 taken (x ∷ xs) ys = ap (λ (l : List _). x ∷ l) (taken xs ys)
 
-pub whole_slice : {X : Type 0} (len : ℕ) (new ys : List X) → len ≡ length new
+whole_slice : {X : Type 0} (len : ℕ) (new ys : List X) → len ≡ length new
     → take len (new ++ ys) ≡ new
 whole_slice len new ys is = ap (λ (k : ℕ). take k (new ++ ys)) is ∙ taken new ys
+
+-- jobs that were lent as a slice
+pub swept_whole : {S : Type 0} (contents : S → Snaps) (fails : S → ℕ) (old lent new rest : List (ShardJob S)) (len : ℕ)
+    → lent ≡ old → len ≡ length old → SweepsJobs contents fails lent new
+    → SweepsJobs contents fails old (take len (new ++ rest))
+swept_whole contents fails old lent new rest len is long h =
+    subst (λ (l : List (ShardJob _)). SweepsJobs contents fails l (take len (new ++ rest))) is
+    (subst (λ (l : List (ShardJob _)). SweepsJobs contents fails lent l) (sym (whole_slice len new rest (long ∙ ap (λ (l : List (ShardJob _)). length l) (sym is) ∙ sym h.0))) h)
 
 pub held_blobs : (olds : List Shard) (blobs : List Text) (ingests : List ℕ) (names : BackNames)
     → MaySweep (held_in olds blobs ingests) names → AreHeldOnce bytes_eq names.blobs blobs
@@ -69,70 +81,83 @@ same_names : (names : List (Text × ℕ)) (zs : List Triple)
 same_names names [] each = refl
 same_names names (z ∷ zs) each = λ i. sym (each z (here z zs)).new_name i ∷ same_names names zs (λ w c. each w (later z zs w c)) i
 
-module _ {S : Type 0} (contents : S → Snaps) (fails : S → ℕ) where
+-- a sweep of the same backend, with the same fates
+list_swept : {X B : Type 0} (same : X → X → Bool) (contents : B → List X) (fails : B → ℕ) (list : List X) (old mid new last : B) (fates fates' : List Fate)
+    → mid ≡ old → fates' ≡ fates → last ≡ new
+    → SweepsList same contents fails list fates mid new
+    → SweepsList same contents fails list fates' old last
+list_swept same contents fails list old mid new last fates fates' m f l s =
+    subst (λ (b : _). SweepsList same contents fails list fates' b last) m
+    (subst (λ (fs : List Fate). SweepsList same contents fails list fs mid last) (sym f)
+    (subst (λ (b : _). SweepsList same contents fails list fates mid b) (sym l) s))
+
+module _ {S : Type 0} (contents : S → Snaps) (fails : S → ℕ) (olds : List Shard) (blobs : List Text) (ingests : List ℕ) (names : BackNames) (may : MaySweep (held_in olds blobs ingests) names) (apart : AreApart olds)
+    (jobs : List (ShardJob S)) (of : AreJobsOf contents fails names.snapshots olds jobs) where
   abbrev view : Text × S → Shard
   view = shown contents fails
 
-  item_there : (xs : List (Text × S)) (i : ℕ) (d : Text × S) → i < length xs
-      → Contains (map view xs) (view (slice_index_or xs i d))
-  item_there [] i d lt = absurd (omega (arith, lt))
-  item_there (x ∷ xs) zero d lt = here (view x) (map view xs)
-  item_there (x ∷ xs) (suc i) d lt = later (view x) (map view xs) (view (slice_index_or xs i d)) (item_there xs i d (omega (arith, lt)))
+  -- each shard may be swept by its plan
+  pub ready : AreReady contents fails jobs
+  ready i d lt =
+      let job : ShardJob S = slice_index_or jobs i d in
+      let shard_plan : job.shard_plan ≡ shard_plan_for names.snapshots job.entry.0 = shard_plan_at contents fails names.snapshots jobs i d lt of.shard_plans_are in
+      let at : snaps_at job.entry.0 olds ≡ contents job.entry.1 = ap (snaps_at job.entry.0) (sym of.shards_are)
+      ∙ at_shard (shards_in contents fails jobs) (subst AreApart (sym of.shards_are) apart) (view job.entry) (shard_there contents fails names.snapshots jobs i d lt) in
+      let first : Childfirst (numbers_of job.entry.0 names.snapshots) (contents job.entry.1) = subst (λ (m : Snaps). Childfirst (numbers_of job.entry.0 names.snapshots) m) at (first_by olds blobs ingests names may apart job.entry.0) in
+      let here : IsReady (view job.entry) (shard_plan_for names.snapshots job.entry.0) = (first, (refl, refl, refl, refl, omega arith)) in
+      subst (λ (l : PlannedShard). IsReady (view job.entry) l) (sym shard_plan) here
 
-  image_at : {Y : Type 0} (f : Text × S → Y) (xs : List (Text × S)) (i : ℕ) (d : Text × S) (e : Y)
-      → i < length xs → slice_index_or (map f xs) i e ≡ f (slice_index_or xs i d)
-  image_at f [] i d e lt = absurd (omega (arith, lt))
-  image_at f (x ∷ xs) zero d e lt = refl
-  image_at f (x ∷ xs) (suc i) d e lt = image_at f xs i d e (omega (arith, lt))
+  module _ (new : List (ShardJob S)) (done : SweepsJobs contents fails jobs new) where
+    pub zips : Zips names.snapshots (shards_in contents fails jobs) (shard_plans_in new) (shards_in contents fails new)
+    zips = zipped contents fails names.snapshots jobs new of.shard_plans_are done.0 done.1
 
-  module _ (olds : List Shard) (blobs : List Text) (ingests : List ℕ) (names : BackNames) (may : MaySweep (held_in olds blobs ingests) names) (apart : AreApart olds)
-      (xs : List (Text × S)) (ls : List PlannedShard) (olds_are : map view xs ≡ olds) (ls_are : ls ≡ map (λ (x : Text × S). shard_plan_for names.snapshots x.0) xs) where
-    -- each shard may be swept by its plan
-    pub ready : (i : ℕ) (d : Text × S) (e : PlannedShard) → i < length xs
-        → IsReady (view (slice_index_or xs i d)) (slice_index_or ls i e)
-    ready i d e lt =
-        let x = slice_index_or xs i d in
-        let shard_plan : slice_index_or ls i e ≡ shard_plan_for names.snapshots x.0 = ap (λ (l : List PlannedShard). slice_index_or l i e) ls_are ∙ image_at (λ (y : Text × S). shard_plan_for names.snapshots y.0) xs i d e lt in
-        let at : snaps_at x.0 olds ≡ contents x.1 = ap (snaps_at x.0) (sym olds_are) ∙ at_shard (map view xs) (subst AreApart (sym olds_are) apart) (view x) (item_there xs i d lt) in
-        let first : Childfirst (numbers_of x.0 names.snapshots) (contents x.1) = subst (λ (m : Snaps). Childfirst (numbers_of x.0 names.snapshots) m) at (first_by olds blobs ingests names may apart x.0) in
-        let here : IsReady (view x) (shard_plan_for names.snapshots x.0) = (first, (refl, refl, refl, refl, omega arith)) in
-        subst (λ (l : PlannedShard). IsReady (view x) l) (sym shard_plan) here
+    -- the shards stay apart
+    pub news_apart : AreApart (shards_in contents fails new)
+    news_apart =
+        subst AreApart zips.news_are (subst (IsStrictlySortedBy text_cmp) (same_names names.snapshots zips.zs zips.each) (subst AreApart (sym (zips.olds_are ∙ of.shards_are)) apart))
 
-    module _ (ys : List (Text × S)) (after : List PlannedShard) (shards_length : length ys ≡ length xs) (shard_plans_length : length after ≡ length ls)
-        (each : (i : ℕ) (d : Text × S) (e : PlannedShard) → i < length xs → SweepsShardPlan (view (slice_index_or xs i d)) (slice_index_or ls i e) (slice_index_or after i e) (view (slice_index_or ys i d))) where
-      same_length : {Y : Type 0} (f : Text × S → Y) (zs : List (Text × S))
-          → length (map f zs) ≡ length zs
-      same_length f [] = refl
-      same_length f (z ∷ zs) = (let e = same_length f zs in omega (arith, e))
+-- taking the shards out and putting them back leaves the other backends, and setting the
+-- snapshots' fates leaves the other fates
+module _ {S B I : Type 0} (contents : S → Snaps) (fails : S → ℕ) (texts : B → List Text) (blob_fails : B → ℕ) (numbers : I → List ℕ) (ingest_fails : I → ℕ)
+    (olds : List Shard) (b0 b1 b2 b3 : B) (i0 i1 i2 i3 : I) (names : BackNames) (may : MaySweep (held_in olds (texts b0) (numbers i0)) names) (apart : AreApart olds)
+    (jobs : List (ShardJob S)) (of : AreJobsOf contents fails names.snapshots olds jobs) (new : List (ShardJob S)) (done : SweepsJobs contents fails jobs new)
+    (fates last : AllFates) (last_is : last ≡ record fates { snapshots = map (fate_of (shard_plans_in new)) names.snapshots })
+    (blobs_taken : b1 ≡ b0) (blobs_put : b3 ≡ b2) (ingests_taken : i1 ≡ i0) (ingests_put : i3 ≡ i2)
+    (blobs_swept : SweepsList bytes_eq texts blob_fails names.blobs fates.blobs b1 b2) (ingests_swept : SweepsList is_number numbers ingest_fails names.ingests fates.ingests i1 i2)
+    (news : List Shard) (news_are : news ≡ shards_in contents fails new) where
+  z : Zips names.snapshots (shards_in contents fails jobs) (shard_plans_in new) (shards_in contents fails new)
+  z = zips contents fails olds (texts b0) (numbers i0) names may apart jobs of new done
 
-      pub zips : Zips names.snapshots (map view xs) after (map view ys)
-      zips = zipped contents fails names.snapshots xs ys after shards_length (shard_plans_length ∙ ap (λ (l : List PlannedShard). length l) ls_are ∙ same_length (λ (x : Text × S). shard_plan_for names.snapshots x.0) xs)
-          (subst (λ (l : List PlannedShard). (i : ℕ) (d : Text × S) (e : PlannedShard) → i < length xs → SweepsShardPlan (view (slice_index_or xs i d)) (slice_index_or l i e) (slice_index_or after i e) (view (slice_index_or ys i d))) ls_are each)
+  olds_are : olds_of z.zs ≡ olds
+  olds_are = z.olds_are ∙ of.shards_are
 
-      -- the shards stay apart
-      pub news_apart : AreApart (map view ys)
-      news_apart =
-          subst AreApart zips.news_are (subst (IsStrictlySortedBy text_cmp) (same_names names.snapshots zips.zs zips.each) (subst AreApart (sym (zips.olds_are ∙ olds_are)) apart))
+  sb : SweepsList bytes_eq texts blob_fails names.blobs last.blobs b0 b3
+  sb = list_swept bytes_eq texts blob_fails names.blobs b0 b1 b2 b3 fates.blobs last.blobs blobs_taken (ap (λ (f : AllFates). f.blobs) last_is) blobs_put blobs_swept
 
-      module _ (blobs' : List Text) (ingests' : List ℕ) (removed failed : BackNames) (b0 b1 i0 i1 : ℕ)
-          (sb : SweepsEach bytes_eq names.blobs blobs blobs' removed.blobs failed.blobs b0 b1) (si : SweepsEach is_number names.ingests ingests ingests' removed.ingests failed.ingests i0 i1)
-          (removed_are : removed.snapshots ≡ filter (is_removed after) names.snapshots) (failed_are : failed.snapshots ≡ filter (is_failed after) names.snapshots) where
-        pub swept_by : (news : List Shard) → news ≡ map view ys → (tables : Tables)
-            → names ≡ removed_objects tables no_objects (held_in olds blobs ingests)
-            → IsSwept tables (held_in olds blobs ingests) (held_in news blobs' ingests') removed failed
-        swept_by news news_are tables are =
-            swept olds blobs ingests names may apart zips.zs (zips.olds_are ∙ olds_are) zips.each tables are blobs' ingests' removed failed b0 b1 i0 i1 sb si
-            (removed_are ∙ ap (λ (l : List PlannedShard). filter (is_removed l) names.snapshots) (sym zips.shard_plans_are))
-            (failed_are ∙ ap (λ (l : List PlannedShard). filter (is_failed l) names.snapshots) (sym zips.shard_plans_are)) news (zips.news_are ∙ sym news_are)
+  si : SweepsList is_number numbers ingest_fails names.ingests last.ingests i0 i3
+  si = list_swept is_number numbers ingest_fails names.ingests i0 i1 i2 i3 fates.ingests last.ingests ingests_taken (ap (λ (f : AllFates). f.ingests) last_is) ingests_put ingests_swept
 
-        pub count_by : (news : List Shard) → news ≡ map view ys
-            → all_failures news + b1 + i1 ≡ all_failures olds + b0 + i0 + count_names failed
-        count_by news news_are =
-            let n = counted names.snapshots zips.zs (subst AreApart (sym (zips.olds_are ∙ olds_are)) apart) zips.each in
-            let a : all_failures news ≡ all_failures (news_of zips.zs) = ap all_failures (news_are ∙ sym zips.news_are) in
-            let b : all_failures (olds_of zips.zs) ≡ all_failures olds = ap all_failures (zips.olds_are ∙ olds_are) in
-            let f : length failed.snapshots ≡ length (filter (is_failed (shard_plans_of zips.zs)) names.snapshots)
-            = ap (λ (l : List (Text × ℕ)). length l) (failed_are ∙ ap (λ (l : List PlannedShard). filter (is_failed l) names.snapshots) (sym zips.shard_plans_are)) in
-            let p = sb.count in
-            let q = si.count in
-            omega (arith, n, a, b, f, p, q)
+  set : last.snapshots ≡ map (fate_of (shard_plans_in new)) names.snapshots
+  set = ap (λ (f : AllFates). f.snapshots) last_is
+
+  removed_are : (removed_of names last).snapshots ≡ filter (is_removed (shard_plans_of z.zs)) names.snapshots
+  removed_are = removed_by (shard_plans_in new) names.snapshots last.snapshots set ∙ ap (λ (l : List PlannedShard). filter (is_removed l) names.snapshots) (sym z.shard_plans_are)
+
+  failed_are : (failed_of names last).snapshots ≡ filter (is_failed (shard_plans_of z.zs)) names.snapshots
+  failed_are = failed_by (shard_plans_in new) names.snapshots last.snapshots set ∙ ap (λ (l : List PlannedShard). filter (is_failed l) names.snapshots) (sym z.shard_plans_are)
+
+  pub swept_by : SweepsNames names (held_in olds (texts b0) (numbers i0)) (held_in news (texts b3) (numbers i3)) last
+  swept_by tables are =
+      swept olds (texts b0) (numbers i0) names may apart z.zs olds_are z.each tables are (texts b3) (numbers i3) (removed_of names last) (failed_of names last) (blob_fails b0) (blob_fails b3) (ingest_fails i0) (ingest_fails i3)
+      sb si removed_are failed_are news (z.news_are ∙ sym news_are)
+
+  pub count_by : all_failures news + blob_fails b3 + ingest_fails i3
+      ≡ all_failures olds + blob_fails b0 + ingest_fails i0 + count_names (failed_of names last)
+  count_by =
+      let n = counted names.snapshots z.zs (subst AreApart (sym olds_are) apart) z.each in
+      let a : all_failures news ≡ all_failures (news_of z.zs) = ap all_failures (news_are ∙ sym z.news_are) in
+      let b : all_failures (olds_of z.zs) ≡ all_failures olds = ap all_failures olds_are in
+      let f : length (failed_of names last).snapshots ≡ length (filter (is_failed (shard_plans_of z.zs)) names.snapshots) = ap (λ (l : List (Text × ℕ)). length l) failed_are in
+      let p = sb.count in
+      let q = si.count in
+      omega (arith, n, a, b, f, p, q)

@@ -16,7 +16,6 @@ pub mod Counting
 pub mod SweptBackends
 pub mod Backs
 pub mod Allowed
-pub mod Placed
 pub mod Fated
 pub mod OnePass
 pub mod OnePart

@@ -22,7 +22,9 @@ use Rattle.back_model.specs.Shown.{Shard, AreApart, snaps_at, back_snap, snaps_i
 use Rattle.back_model.proofs.ShardPlaces.{apart_head, apart_rest}
 use Rattle.backend_sweep.specs.Shards.{has, numbers_of}
 use Rattle.backend_sweep.specs.Sweep.{Swept, Childfirst, Sweeps}
-use Rattle.backend_sweep.specs.ShardPlans.{PlannedShard, shard_plan_for, SweepsShardPlan, in_shard_plan, is_removed, is_failed}
+use Rattle.backend_sweep.specs.ShardPlans.{PlannedShard, shard_plan_for, in_shard_plan, is_removed, is_failed}
+use Rattle.backend_sweep.specs.Tasks.{entries_in, shards_in, shard_plans_in, SweepsJob}
+use Rattle.backend_sweep.specs.declared.shard_task.ShardJob.{ShardJob}
 use Rattle.backend_sweep.proofs.Pairing.{same_kept, in_part}
 use Rattle.backend_sweep.proofs.Naming.{Named, listed_is, falls_found, member_is}
 use Rattle.backend_sweep.proofs.Staying.{Of, stays_is, apart_is}
@@ -57,38 +59,58 @@ pub record Zips (names : List (Text × ℕ)) (olds : List Shard) (shard_plans : 
   pub news_are : news_of zs ≡ news
   pub each : (z : Triple) → Contains zs z → One names z
 
+first_shard_plan : (x y : PlannedShard) (xs ys : List PlannedShard) → x ∷ xs ≡ y ∷ ys → x ≡ y
+first_shard_plan x y xs ys e = cc
+
+more_shard_plans : (x y : PlannedShard) (xs ys : List PlannedShard) → x ∷ xs ≡ y ∷ ys → xs ≡ ys
+more_shard_plans x y xs ys e = cc
+
 module _ {S : Type 0} (contents : S → Snaps) (fails : S → ℕ) (names : List (Text × ℕ)) where
   abbrev view : Text × S → Shard
   view = shown contents fails
 
-  one_of : (x y : Text × S) (l : PlannedShard)
-      → SweepsShardPlan (view x) (shard_plan_for names x.0) l (view y)
-      → One names (view x, l, view y)
-  one_of x y l s = record {
+  abbrev plan_of : Text × S → PlannedShard
+  plan_of entry = shard_plan_for names entry.0
+
+  one_of : (x y : ShardJob S) → x.shard_plan ≡ plan_of x.entry → SweepsJob contents fails x y
+      → One names (view x.entry, y.shard_plan, view y.entry)
+  one_of x y is s = record {
     new_name = s.name;
-    shard_plan_name = ap (λ (k : PlannedShard). k.snapshotter) s.shard_plan_is;
-    list_is = ap (λ (k : PlannedShard). k.list) s.shard_plan_is;
-    sweeps = subst (λ (xs : List ℕ). Sweeps xs (contents x.1) (contents y.1) (fails x.1) (fails y.1) l.swept) (sym (ap (λ (k : PlannedShard). k.list) s.shard_plan_is)) s.sweeps;
+    shard_plan_name = ap (λ (k : PlannedShard). k.snapshotter) s.shard_plan_is ∙ ap (λ (k : PlannedShard). k.snapshotter) is;
+    list_is = ap (λ (k : PlannedShard). k.list) s.shard_plan_is ∙ ap (λ (k : PlannedShard). k.list) is;
+    sweeps = subst (λ (xs : List ℕ). Sweeps xs (contents x.entry.1) (contents y.entry.1) (fails x.entry.1) (fails y.entry.1) y.shard_plan.swept) (sym (ap (λ (k : PlannedShard). k.list) s.shard_plan_is)) s.sweeps;
   }
 
-  pub zipped : (xs ys : List (Text × S)) (ls : List PlannedShard) → length ys ≡ length xs
-      → length ls ≡ length xs
-      → ((i : ℕ) (d : Text × S) (e : PlannedShard) → i < length xs → SweepsShardPlan (view (slice_index_or xs i d)) (slice_index_or (map (λ (x : Text × S). shard_plan_for names x.0) xs) i e) (slice_index_or ls i e) (view (slice_index_or ys i d)))
-      → Zips names (map view xs) ls (map view ys)
-  zipped [] [] [] p q h = record { zs = []; olds_are = refl; shard_plans_are = refl; news_are = refl; each = λ z c. none_in_nothing z c }
-  zipped [] (y ∷ ys) ls p q h = absurd (omega (arith, p))
-  zipped [] [] (l ∷ ls) p q h = absurd (omega (arith, q))
-  zipped (x ∷ xs) [] ls p q h = absurd (omega (arith, p))
-  zipped (x ∷ xs) (y ∷ ys) [] p q h = absurd (omega (arith, q))
-  zipped (x ∷ xs) (y ∷ ys) (l ∷ ls) p q h =
-      let rest = zipped xs ys ls (omega (arith, p)) (omega (arith, q)) (λ i d e lt. h (suc i) d e (omega (arith, lt))) in
+  pub shard_plan_at : (jobs : List (ShardJob S)) (i : ℕ) (d : ShardJob S) → i < length jobs
+      → shard_plans_in jobs ≡ map plan_of (entries_in jobs)
+      → (slice_index_or jobs i d).shard_plan ≡ plan_of (slice_index_or jobs i d).entry
+  shard_plan_at [] i d lt are = absurd (omega (arith, lt))
+  shard_plan_at (x ∷ jobs) zero d lt are = first_shard_plan x.shard_plan (plan_of x.entry) (shard_plans_in jobs) (map plan_of (entries_in jobs)) are
+  shard_plan_at (x ∷ jobs) (suc i) d lt are = shard_plan_at jobs i d (omega (arith, lt)) (more_shard_plans x.shard_plan (plan_of x.entry) (shard_plans_in jobs) (map plan_of (entries_in jobs)) are)
+
+  pub shard_there : (jobs : List (ShardJob S)) (i : ℕ) (d : ShardJob S) → i < length jobs
+      → Contains (shards_in contents fails jobs) (view (slice_index_or jobs i d).entry)
+  shard_there [] i d lt = absurd (omega (arith, lt))
+  shard_there (x ∷ jobs) zero d lt = here (view x.entry) (shards_in contents fails jobs)
+  shard_there (x ∷ jobs) (suc i) d lt = later (view x.entry) (shards_in contents fails jobs) (view (slice_index_or jobs i d).entry) (shard_there jobs i d (omega (arith, lt)))
+
+  pub zipped : (jobs new : List (ShardJob S)) → shard_plans_in jobs ≡ map plan_of (entries_in jobs)
+      → length new ≡ length jobs
+      → ((i : ℕ) (d : ShardJob S) → i < length jobs → SweepsJob contents fails (slice_index_or jobs i d) (slice_index_or new i d))
+      → Zips names (shards_in contents fails jobs) (shard_plans_in new) (shards_in contents fails new)
+  zipped [] [] are same each = record { zs = []; olds_are = refl; shard_plans_are = refl; news_are = refl; each = λ z c. none_in_nothing z c }
+  zipped [] (y ∷ new) are same each = absurd (omega (arith, same))
+  zipped (x ∷ jobs) [] are same each = absurd (omega (arith, same))
+  zipped (x ∷ jobs) (y ∷ new) are same each =
+      let first : x.shard_plan ≡ plan_of x.entry = first_shard_plan x.shard_plan (plan_of x.entry) (shard_plans_in jobs) (map plan_of (entries_in jobs)) are in
+      let rest = zipped jobs new (more_shard_plans x.shard_plan (plan_of x.entry) (shard_plans_in jobs) (map plan_of (entries_in jobs)) are) (omega (arith, same)) (λ i d lt. each (suc i) d (omega (arith, lt))) in
       record {
-        zs = (view x, l, view y) ∷ rest.zs;
-        olds_are = ap (λ (k : List Shard). view x ∷ k) rest.olds_are;
-        shard_plans_are = ap (λ (k : List PlannedShard). l ∷ k) rest.shard_plans_are;
-        news_are = ap (λ (k : List Shard). view y ∷ k) rest.news_are;
-        each = λ z c. elim (first_or_later (view x, l, view y) rest.zs z c) [
-          | inl same ↦ subst (One names) same (one_of x y l (h 0 x l (omega arith)))
+        zs = (view x.entry, y.shard_plan, view y.entry) ∷ rest.zs;
+        olds_are = ap (λ (k : List Shard). view x.entry ∷ k) rest.olds_are;
+        shard_plans_are = ap (λ (k : List PlannedShard). y.shard_plan ∷ k) rest.shard_plans_are;
+        news_are = ap (λ (k : List Shard). view y.entry ∷ k) rest.news_are;
+        each = λ z c. elim (first_or_later (view x.entry, y.shard_plan, view y.entry) rest.zs z c) [
+          | inl same ↦ subst (One names) same (one_of x y first (each 0 x (omega arith)))
           | inr more ↦ rest.each z more
         ];
       }

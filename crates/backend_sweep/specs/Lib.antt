@@ -7,3 +7,4 @@ pub mod ShardPlans
 pub mod Backed
 pub mod Planned
 pub mod Swept
+pub mod Tasks

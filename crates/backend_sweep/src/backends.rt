@@ -1,5 +1,5 @@
 //! The sweep of all backends, by one thread or by several.
-ghost use Rattle.std.specs.Prelude.{◌≡◌, ◌+◌, map, None, IfOk, OnErr};
+ghost use Rattle.std.specs.Prelude.{◌≡◌, ◌+◌, None, IfOk, OnErr};
 ghost use Rattle.meta_types.specs.Faults.{Refuses, unless};
 ghost use Rattle.meta_types.specs.Limits.{is_worker_count};
 ghost use Rattle.meta_types.specs.declared.fault.Fault.TheVariants.{InvalidArgument};
@@ -7,34 +7,18 @@ ghost use Rattle.back_model.specs.Shown.{all_failures};
 ghost use Rattle.table_sweep.specs.BlobMarks.{AreBlobMarks};
 ghost use Rattle.backend_sweep.specs.Planned.{IsPlanned};
 ghost use Rattle.backend_sweep.specs.Fated.{AreFatesOf, failed_of};
-ghost use Rattle.backend_sweep.specs.ShardPlans.{fate_of};
 ghost use Rattle.backend_sweep.specs.Swept.{held_in, SweepsNames, count_names};
 
+use crate::crew::Crew;
 use crate::fates::Fates;
 use crate::gate::SweepGate;
-use crate::shard_jobs::{shard_plans_and_room, sweep_beside};
-use crate::shard_plans::{ShardPlan, set_fates, shard_plans_of, sweep_in_turn};
-use crate::tasks::sweep_singles;
+use crate::shard_task::ShardTask;
+use crate::tasks::{sweep_singles, sweep_tasks};
 use back_model::{Backends, BlobBackend, IngestBackend, SnapBackend};
 use meta_types::{Fault, is_worker_count};
 use std::alloc::Global;
 use std::thread::Threads;
 use table_sweep::Plan;
-
-// Copies each snapshot's fate from its shard's plan. It takes no memory.
-fn set_snapshots(shard_plans: &[ShardPlan], plan: &Plan, fates: &mut Fates)
-    requires { AreFatesOf plan.now.report.backend fates.old }
-    ensures set { fates.new ≡ record fates.old {
-      snapshots = map (fate_of shard_plans.now) plan.now.report.backend.snapshots;
-    } }
-    ensures of { AreFatesOf plan.now.report.backend fates.new }
-{
-    set_fates(
-        shard_plans,
-        &plan.report.backend.snapshots,
-        &mut fates.snapshots,
-    );
-}
 
 /// Removes what the plan names, on the calling thread; the plan's marks of blobs are of their order
 /// as the backend lends them. Nothing is removed where it is refused.
@@ -61,18 +45,10 @@ pub fn sweep_plain<S: SnapBackend, B: BlobBackend, I: IngestBackend>(
     ensures err { OnErr result (backends.new ≡ backends.old) }
 {
     let mut fates = Fates::room(alloc, plan)?;
-    let shards = backends.take_shards();
-    let shard_plans = match shard_plans_of(alloc, &shards, &plan.report.backend.snapshots) {
-        Ok(shard_plans) => shard_plans,
-        Err(fault) => {
-            backends.put_shards(shards);
-            return Err(fault);
-        }
-    };
-    let (shards, shard_plans) = sweep_in_turn(alloc, shards, shard_plans);
-    backends.put_shards(shards);
+    let mut task = ShardTask::take(alloc, backends, plan)?;
+    task.sweep_in_turn(alloc);
     sweep_singles(plan, backends, &mut fates);
-    set_snapshots(&shard_plans, plan, &mut fates);
+    task.put_back(backends, plan, &mut fates);
     Ok(fates)
 }
 
@@ -120,32 +96,14 @@ pub fn sweep_shards<
         return Err(Fault::InvalidArgument);
     }
     let mut fates = Fates::room(alloc, plan)?;
-    let shards = backends.take_shards();
-    let (shard_plans, jobs) = match shard_plans_and_room(
-        alloc,
-        &shards,
-        &plan.report.backend.snapshots,
-    ) {
-        Ok(made) => made,
-        Err(fault) => {
-            backends.put_shards(shards);
-            return Err(fault);
-        }
-    };
-    let (shards, swept) = sweep_beside(
+    let mut task = ShardTask::take(alloc, backends, plan)?;
+    let crew = Crew {
         rt,
         alloc,
-        shards,
-        shard_plans,
-        jobs,
-        backends,
-        plan,
-        &mut fates,
         workers,
         gate,
-        beside,
-    );
-    backends.put_shards(shards);
-    set_snapshots(&swept, plan, &mut fates);
+    };
+    sweep_tasks(&crew, &mut task, plan, backends, &mut fates, beside);
+    task.put_back(backends, plan, &mut fates);
     Ok(fates)
 }

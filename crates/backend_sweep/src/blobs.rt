@@ -1,8 +1,8 @@
 //! The sweep of blobs.
 ghost use Rattle.std.specs.Prelude.{◌≡◌, length, map, bytes_eq};
 ghost use Rattle.table_sweep.specs.BlobMarks.{AreBlobMarks};
-ghost use Rattle.backend_sweep.specs.Fated.{names_with, was_removed, has_failed};
-ghost use Rattle.backend_sweep.specs.Singles.{AreHeldOnce, SweepsEach};
+ghost use Rattle.backend_sweep.specs.Singles.{AreHeldOnce};
+ghost use Rattle.backend_sweep.specs.Tasks.{SweepsList};
 ghost use Rattle.backend_sweep.specs.declared.fates.Fate.TheVariants.{Removed};
 
 use crate::fates::Fate;
@@ -13,9 +13,8 @@ use meta_types::Digest;
 fn remove_each<B: BlobBackend>(backend: &mut B, names: &[Digest], fates: &mut [Fate])
     requires names { AreHeldOnce bytes_eq names.now (B.contents backend.old) }
     requires fates { length fates.old ≡ length names.now }
-    ensures swept { SweepsEach bytes_eq names.now (B.contents backend.old) (B.contents backend.new)
-        (names_with was_removed names.now fates.new) (names_with has_failed names.now fates.new)
-        (B.fails backend.old) (B.fails backend.new) }
+    ensures swept { SweepsList bytes_eq B.contents B.fails names.now fates.new backend.old
+        backend.new }
     ensures fates { length fates.new ≡ length names.now }
 {
     for i in 0..names.len() {
@@ -48,9 +47,8 @@ pub(crate) fn sweep_blobs<B: BlobBackend>(
     requires names { AreHeldOnce bytes_eq names.now (B.contents backend.old) }
     requires marks { AreBlobMarks names.now (B.arrived backend.old) marks.now }
     requires fates { length fates.old ≡ length names.now }
-    ensures swept { SweepsEach bytes_eq names.now (B.contents backend.old) (B.contents backend.new)
-        (names_with was_removed names.now fates.new) (names_with has_failed names.now fates.new)
-        (B.fails backend.old) (B.fails backend.new) }
+    ensures swept { SweepsList bytes_eq B.contents B.fails names.now fates.new backend.old
+        backend.new }
     ensures fates { length fates.new ≡ length names.now }
 {
     if backend.retain(marks) {

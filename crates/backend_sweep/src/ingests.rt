@@ -1,8 +1,8 @@
 //! The sweep of ingests.
 ghost use Rattle.std.specs.Prelude.{◌≡◌, length};
-ghost use Rattle.backend_sweep.specs.Fated.{names_with, was_removed, has_failed};
 ghost use Rattle.backend_sweep.specs.Shards.{is_number};
-ghost use Rattle.backend_sweep.specs.Singles.{AreHeldOnce, SweepsEach};
+ghost use Rattle.backend_sweep.specs.Singles.{AreHeldOnce};
+ghost use Rattle.backend_sweep.specs.Tasks.{SweepsList};
 
 use crate::fates::Fate;
 use back_model::IngestBackend;
@@ -12,9 +12,8 @@ use back_model::IngestBackend;
 pub(crate) fn sweep_ingests<I: IngestBackend>(backend: &mut I, names: &[u64], fates: &mut [Fate])
     requires names { AreHeldOnce is_number names.now (I.contents backend.old) }
     requires fates { length fates.old ≡ length names.now }
-    ensures swept { SweepsEach is_number names.now (I.contents backend.old) (I.contents backend.new)
-        (names_with was_removed names.now fates.new) (names_with has_failed names.now fates.new)
-        (I.fails backend.old) (I.fails backend.new) }
+    ensures swept { SweepsList is_number I.contents I.fails names.now fates.new backend.old
+        backend.new }
     ensures fates { length fates.new ≡ length names.now }
 {
     for i in 0..names.len() {

@@ -3,15 +3,16 @@
 
 mod backends;
 mod blobs;
+mod crew;
 mod fates;
 mod gate;
 mod ingests;
 mod number_set;
 mod parts;
 mod shard;
-mod shard_jobs;
 mod shard_plans;
 mod shard_swept;
+mod shard_task;
 mod tasks;
 
 pub use backends::{sweep_plain, sweep_shards};

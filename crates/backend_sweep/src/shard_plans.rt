@@ -1,13 +1,13 @@
 //! Shards beside what is to be swept of each.
-ghost use Rattle.std.specs.Prelude.{◌≡◌, ◌<◌, ℕ, length, map, find, option_map, bytes_eq, None, IfOk, IfSome, slice_index_or};
+ghost use Rattle.std.specs.Prelude.{◌≡◌, length, map, find, option_map, bytes_eq, None, IfOk, IfSome};
 ghost use Rattle.meta_types.specs.Faults.{Refuses};
-ghost use Rattle.back_model.specs.Shown.{shown};
+ghost use Rattle.backend_sweep.specs.Fated.{AreFatesOf};
 ghost use Rattle.backend_sweep.specs.Sweep.{Childfirst, IsRoomFor, Sweeps};
-ghost use Rattle.backend_sweep.specs.ShardPlans.{shard_plan_for, IsReady, SweepsShardPlan, IsFound, fate_in, fate_of};
+ghost use Rattle.backend_sweep.specs.ShardPlans.{shard_plan_for, IsFound, fate_in, fate_of};
 ghost use Rattle.backend_sweep.specs.Parts.{StandBySnapshotter};
 
-use crate::fates::Fate;
-use crate::gate::{OpenSweepGate, SweepGate};
+use crate::fates::{Fate, Fates};
+use crate::gate::SweepGate;
 use crate::parts::part_of;
 use crate::shard::sweep_shard;
 use crate::shard_swept::ShardSwept;
@@ -16,6 +16,7 @@ use meta_types::{Fault, ShortName};
 use std::alloc::Global;
 use std::marker::Model;
 use std::mem;
+use table_sweep::Plan;
 
 /// What is to be swept of one snapshotter's shard, and what was.
 #[derive(Drop)]
@@ -107,51 +108,6 @@ pub(crate) fn sweep_shard_plan<S: SnapBackend, H: SweepGate>(
     *swept = sweep_shard(snapshotter.text(), shard, list, into, gate);
 }
 
-fn sweep_shard_plans<S: SnapBackend, H: SweepGate>(
-    alloc: Global,
-    shards: &mut [(ShortName, S)],
-    shard_plans: &mut [ShardPlan],
-    gate: &H,
-)
-    requires length { length shard_plans.old ≡ length shards.old }
-    requires ready { (i : ℕ) (d : _) (e : _) → i < length shards.old
-        → IsReady (shown S.contents S.fails (slice_index_or shards.old i d))
-        (slice_index_or shard_plans.old i e) }
-    ensures length { (length shards.new ≡ length shards.old)
-        × (length shard_plans.new ≡ length shard_plans.old) }
-    ensures each { (i : ℕ) (d : _) (e : _) → i < length shards.old
-        → SweepsShardPlan (shown S.contents S.fails (slice_index_or shards.old i d))
-        (slice_index_or shard_plans.old i e) (slice_index_or shard_plans.new i e)
-        (shown S.contents S.fails (slice_index_or shards.new i d)) }
-{
-    for i in 0..shards.len() {
-        let entry = &mut shards[i];
-        let shard_plan = &mut shard_plans[i];
-        sweep_shard_plan(alloc, &mut entry.1, shard_plan, gate);
-    }
-}
-
-/// Sweeps each shard by its plan, one after the other. It takes no memory.
-pub(crate) fn sweep_in_turn<S: SnapBackend>(
-    alloc: Global,
-    mut shards: Vec<(ShortName, S)>,
-    mut shard_plans: Vec<ShardPlan>,
-) -> (Vec<(ShortName, S)>, Vec<ShardPlan>)
-    requires shard_plans { length shard_plans.items ≡ length shards.items }
-    requires ready { (i : ℕ) (d : _) (e : _) → i < length shards.items
-        → IsReady (shown S.contents S.fails (slice_index_or shards.items i d))
-        (slice_index_or shard_plans.items i e) }
-    ensures length { (length result.0.items ≡ length shards.items)
-        × (length result.1.items ≡ length shard_plans.items) }
-    ensures each { (i : ℕ) (d : _) (e : _) → i < length shards.items
-        → SweepsShardPlan (shown S.contents S.fails (slice_index_or shards.items i d))
-        (slice_index_or shard_plans.items i e) (slice_index_or result.1.items i e)
-        (shown S.contents S.fails (slice_index_or result.0.items i d)) }
-{
-    sweep_shard_plans(alloc, &mut shards, &mut shard_plans, &OpenSweepGate);
-    (shards, shard_plans)
-}
-
 // The plan of a snapshotter's shard, if it has one.
 fn shard_plan_at<'a>(shard_plans: &'a [ShardPlan], snapshotter: &ShortName) -> Option<&'a ShardPlan>
     ensures { option_map (λ shard_plan. shard_plan.now) result
@@ -201,8 +157,7 @@ fn fate_in(shard_plan: Option<&ShardPlan>, number: u64) -> Fate
     Fate::Removed
 }
 
-/// Copies what became of each snapshot from its shard's plan. It takes no memory.
-pub(crate) fn set_fates(shard_plans: &[ShardPlan], names: &[(ShortName, u64)], fates: &mut [Fate])
+fn set_fates(shard_plans: &[ShardPlan], names: &[(ShortName, u64)], fates: &mut [Fate])
     requires fates { length fates.old ≡ length names.now }
     ensures { fates.new ≡ map (fate_of shard_plans.now) names.now }
 {
@@ -212,4 +167,19 @@ pub(crate) fn set_fates(shard_plans: &[ShardPlan], names: &[(ShortName, u64)], f
         last = shard_plan_from(shard_plans, last, &name.0);
         fates[i] = fate_in(last, name.1);
     }
+}
+
+/// Copies what became of each snapshot from its shard's plan. It takes no memory.
+pub(crate) fn set_snapshots(shard_plans: &[ShardPlan], plan: &Plan, fates: &mut Fates)
+    requires { AreFatesOf plan.now.report.backend fates.old }
+    ensures set { fates.new ≡ record fates.old {
+      snapshots = map (fate_of shard_plans.now) plan.now.report.backend.snapshots;
+    } }
+    ensures of { AreFatesOf plan.now.report.backend fates.new }
+{
+    set_fates(
+        shard_plans,
+        &plan.report.backend.snapshots,
+        &mut fates.snapshots,
+    );
 }

@@ -1,5 +1,5 @@
 use Rattle.std.proofs.Common.{◌≡◌, ◌≤◌, ◌++◌, map, length, vec_capacity}
-use Rattle.backend_sweep.proofs.shard_jobs.join_jobs.Given as goal
+use Rattle.backend_sweep.proofs.shard_task.join_jobs.Given as goal
 
 abbrev pub invariant-loop-entry : goal.invariant-loop-entry
 invariant-loop-entry g l =

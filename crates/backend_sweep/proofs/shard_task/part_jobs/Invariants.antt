@@ -1,5 +1,5 @@
 use Rattle.std.proofs.Common.{◌≡◌, ◌≤◌, ◌++◌, map, length, vec_capacity}
-use Rattle.backend_sweep.proofs.shard_jobs.part_jobs.Given as goal
+use Rattle.backend_sweep.proofs.shard_task.part_jobs.Given as goal
 
 abbrev pub invariant-loop-job : goal.invariant-loop-job
 invariant-loop-job g l =
