@@ -1,2 +1,10 @@
+mod Blanks
+mod Fronts
+mod Growth
+mod Heads
+mod NewHeads
+mod Openings
+mod Pairs
 mod Rooms
+mod Texts
 mod Writing

@@ -1,5 +1,5 @@
 -- Room in a block.
-use Rattle.std.proofs.Common.{◌≡◌, ◌∙◌, ap, refl, ℕ, zero, suc, ◌+◌, ◌-◌, List, [], ◌++◌, take, replicate, length, arith, length-append}
+use Rattle.std.proofs.Common.{◌≡◌, ◌∙◌, ap, refl, ℕ, zero, suc, ◌-◌, List, [], ◌++◌, take, replicate, length, arith, length-append}
 use Rattle.std.proofs.lemmas.List.{length-replicate}
 
 nothing_taken : (n : ℕ) → length (take {A = ℕ} n []) ≡ 0

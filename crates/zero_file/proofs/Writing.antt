@@ -1,8 +1,8 @@
 -- What a write within a file leaves.
-use Rattle.std.proofs.Common.{◌≡◌, ◌⊎◌, ◌∙◌, ap, sym, subst, ℕ, suc, ◌+◌, ◌<◌, ◌≤◌, List, [], ◌∷◌, ◌++◌, length, take, drop, slice_index, inl, inr, arith, length-drop, get_or-drop, get_or-take}
+use Rattle.std.proofs.Common.{◌≡◌, ◌⊎◌, ◌∙◌, ap, sym, ℕ, suc, ◌+◌, ◌<◌, ◌≤◌, List, [], ◌∷◌, ◌++◌, length, take, drop, slice_index, inl, inr, arith, length-drop, get_or-drop, get_or-take}
 use Rattle.std.proofs.lemmas.List.{take-append-drop, length-take-le, drop-drop, ext_get_or}
-use Rattle.sqlite_disk.specs.Disk.{Holds, Torn, Mixed, Follows}
-use Rattle.journal.specs.Crashes.{Only, Mixes, written, PutCrash}
+use Rattle.sqlite_disk.specs.Disk.{Holds, Torn, Mixed}
+use Rattle.journal.specs.Crashes.{Mixes, written}
 
 mixes_from : (a b c : List ℕ) → length a ≡ length c → length b ≡ length c
     → ((i : ℕ) → i < length c
@@ -43,7 +43,7 @@ module _ (at : ℕ) (n : ℕ) (old new : List ℕ) (torn : Torn at n old new)
       ∙ torn.above (at + n + i) (omega (arith, lt, here, same_size)) (omega arith)
       ∙ sym (get_or-drop (at + n) old i 0))
 
-  length-middle : length (take n (drop at new)) ≡ n
+  pub length-middle : length (take n (drop at new)) ≡ n
   length-middle = length-take-le n (drop at new)
       (let here = length-drop at new in omega (arith, here, same_size, within))
 
@@ -80,25 +80,23 @@ put_done at bytes old new torn holds within =
     is_written at n old new torn within ∙ ap (λ (m : List ℕ). written at m old) same
 
 -- one that a crash cut short
-pub put_crash : (at : ℕ) (bytes seen : List ℕ) (old new : List ℕ → Type 0)
-    → at + length bytes ≤ length seen → Only seen old → Follows (Mixed at bytes) old new
-    → PutCrash seen at bytes new
-put_crash at bytes seen old new within only follows c left =
+pub put_mixed : (at : ℕ) (bytes d c : List ℕ) → at + length bytes ≤ length d → Mixed at bytes d c
+    → (mixed : List ℕ) × (length mixed ≡ length bytes)
+    × Mixes (take (length bytes) (drop at d)) bytes mixed × (c ≡ written at mixed d)
+put_mixed at bytes d c within mixed =
     let n = length bytes in
-    let from = follows c left in
-    let mixed : Mixed at bytes seen c =
-    subst (λ (d : List ℕ). Mixed at bytes d c) (only from.0 from.1) from.2 in
-    let size = length-middle at n seen c mixed.torn within in (
+    let size = length-middle at n d c mixed.torn within in (
       take n (drop at c),
-      mixes_from (take n (drop at seen)) bytes (take n (drop at c))
-          (length-old at n seen c mixed.torn within ∙ sym size) (sym size) (λ i lt.
+      size,
+      mixes_from (take n (drop at d)) bytes (take n (drop at c))
+          (length-old at n d c mixed.torn within ∙ sym size) (sym size) (λ i lt.
           let less : i < n = omega (arith, lt, size) in
-          let here = byte_at at n seen c mixed.torn within i less in
+          let here = byte_at at n d c mixed.torn within i less in
           elim (mixed.each i less (omega (arith, less, within))) [
-            | inl same ↦ inl (here ∙ same ∙ sym (old_at at n seen c mixed.torn within i less))
+            | inl same ↦ inl (here ∙ same ∙ sym (old_at at n d c mixed.torn within i less))
             | inr other ↦ inr (here ∙ other)
           ]),
-      is_written at n seen c mixed.torn within,
+      is_written at n d c mixed.torn within,
     )
 
 -- what a read answers

@@ -1,4 +1,4 @@
-use Rattle.std.proofs.Common.{◌≡◌, ◌∙◌, ap, List, ℕ, length}
+use Rattle.std.proofs.Common.{◌∙◌, ap, length}
 use Rattle.zero_file.proofs.Rooms.{filled}
 use Rattle.zero_file.proofs.steps.make_room.Goals as goal
 

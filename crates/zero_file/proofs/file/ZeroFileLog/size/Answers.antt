@@ -1,0 +1,8 @@
+use Rattle.zero_file.proofs.Texts.{text_size}
+use Rattle.zero_file.proofs.file.ZeroFileLog.size.Goals as goal
+
+pub returns-clause-size : goal.returns-clause-size
+returns-clause-size g c clean =
+    let it = c.args.self.now in
+    text_size _ it.steps it.size (it.headed c.if-not-self.false clean)
+    (it.sized c.if-not-self.false).0

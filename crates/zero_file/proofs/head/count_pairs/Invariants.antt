@@ -1,0 +1,12 @@
+use Rattle.std.proofs.Common.{◌≡◌, ◌≤◌, ◌+◌, ◌-◌, ◌*◌, drop}
+use Rattle.zero_file.specs.Head.{pairs}
+use Rattle.zero_file.proofs.head.count_pairs.Given as goal
+
+abbrev pub invariant-counting : goal.invariant-counting
+invariant-counting l = record {
+  bound : l.steps ≤ 2039;
+  counts : pairs l.marks ≡ l.steps + pairs (drop (2 * l.steps) l.marks);
+}
+
+abbrev pub decreases-counting : goal.decreases-counting
+decreases-counting l = 2039 - l.steps
