@@ -1,5 +1,6 @@
 //! What a run stands on.
 ghost use Rattle.std.specs.Prelude.{◌≡◌, ◌++◌, List, ℕ, Bool, false, IfOk, OnOk};
+ghost use Rattle.std.specs.Thread.{IsSync};
 
 use std::alloc::AllocError;
 use std::sync::Wait;
@@ -19,6 +20,7 @@ pub trait Service {
         line: &[u8],
         out: &mut Vec<u8>,
     ) -> Result<bool, AllocError>
+        requires sync { IsSync T.row }
         ensures ok { IfOk result
             (λ changes. (reply : List ℕ) × steps self.old line.now reply changes self.new
             × (out.new.items ≡ out.old.items ++ reply)) };
