@@ -8,6 +8,9 @@ use std::alloc::Global;
 /// A line that is longer is cut to this length: so much tells that it is too long.
 const LINE_ROOM: usize = 65_537;
 
+/// The replies to the lines of a block have room, but for long ones.
+const REPLIES_ROOM: usize = 131_072;
+
 /// A line as far as it was read, and the replies that aren't written yet.
 #[derive(Drop)]
 pub struct Waiting {
@@ -18,16 +21,17 @@ pub struct Waiting {
 }
 
 impl Waiting {
-    /// Nothing waits. There is room for the longest line.
+    /// Nothing waits. There is room for the longest line, and for replies.
     pub fn new(alloc: Global) -> Result<Waiting, RunError>
         ensures empty { IfOk result (λ waiting. (waiting.line.items ≡ [])
             × (waiting.replies.items ≡ [])) }
         ensures unread { IsErrOf result RunError.ReadFailed → ⊥ }
     {
         let line = Vec::with_capacity(alloc, LINE_ROOM)?;
+        let replies = Vec::with_capacity(alloc, REPLIES_ROOM)?;
         Ok(Waiting {
             line,
-            replies: Vec::new(alloc),
+            replies,
             refuses_additions: false,
         })
     }
