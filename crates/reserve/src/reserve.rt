@@ -1,7 +1,7 @@
 //! Memory that is kept for a collection or a question: additions leave it alone, and a line that
 //! collects, asks or lists gives it up. No clause speaks of memory that is there, so a trial shows
 //! that it is enough.
-ghost use Rattle.std.specs.Prelude.{◌≡◌, ◌≤◌, None, true};
+ghost use Rattle.std.specs.Prelude.{◌≡◌, ◌≤◌, None, true, IsErr};
 ghost use Rattle.meta_types.specs.Faults.{Refuses};
 ghost use Rattle.meta_types.specs.Limits.{is_worker_count};
 
@@ -23,6 +23,8 @@ pub struct Reserve {
     since: Weight,
     // What the request adds that is being done.
     adds: Weight,
+    // Each addition is refused.
+    refuses_additions: bool,
 }
 
 // What a thread takes at most: a stack, and what the C library sets aside for its blocks.
@@ -44,7 +46,15 @@ impl Reserve {
             counted: Weight::none(),
             since: Weight::none(),
             adds: Weight::none(),
+            refuses_additions: false,
         })
+    }
+
+    /// From now on each addition is refused, or none for this.
+    pub fn refuse_additions(&mut self, are_refused: bool)
+        ensures { self.new.refuses_additions ≡ are_refused }
+    {
+        self.refuses_additions = are_refused;
     }
 
     // The bytes that a collection takes of a store with the request that is being done.
@@ -77,7 +87,7 @@ impl Reserve {
     }
 
     /// Keeps what a collection may take once the request is done. An addition calls it before it
-    /// changes the store, and is refused where the block can't grow.
+    /// changes the store, and is refused where the block can't grow, or where each one is.
     pub fn hold(
         &mut self,
         alloc: Global,
@@ -85,8 +95,12 @@ impl Reserve {
         request: &Request,
     ) -> Result<(), Fault>
         ensures fault { Refuses result None }
+        ensures refused { self.old.refuses_additions ≡ true → IsErr result }
     {
         self.adds = weight_of(request);
+        if self.refuses_additions {
+            return Err(Fault::OutOfMemory);
+        }
         if self.keep(self.wanted(stored)) {
             return Ok(());
         }

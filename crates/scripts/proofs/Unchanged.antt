@@ -120,3 +120,9 @@ line_step-said state line answer new bytes full is (inr told) =
           refl ∙ (λ i. (with_line_feed (sym told.1 i), same i)),
       true_at_memory state line,
     )
+
+-- where the answer to a line is read-only, the store is as before
+pub line_step-quiet : (state : State) (line : List ℕ) (answer : LineAnswer) (new : State)
+    → IsLineAnswer state line answer new → is_read_only answer ≡ true → new ≡ state
+line_step-quiet state line answer new is only = sym (ap (λ step. step.1) is.1)
+    ∙ step_quiet state is.0 line (ap (λ step. is_read_only step.0) is.1 ∙ only)

@@ -4,6 +4,7 @@ pub mod EventLaws
 pub mod LineSteps
 pub mod LineAnswers
 pub mod SaidLines
+pub mod DryRuns
 pub mod Served
 pub mod Exchanging
 pub mod Output

@@ -1,5 +1,5 @@
 //! Answers one line of a script.
-ghost use Rattle.std.specs.Prelude.{◌≡◌, ◌≤◌, ◌<◌, length, true, IfOk, IfErr, OnErr, Option, None};
+ghost use Rattle.std.specs.Prelude.{◌≡◌, ◌≤◌, ◌<◌, length, true, IfOk, IfErr, OnErr, Option, Some, None};
 ghost use Rattle.std.specs.Cow.{cow_str_bytes};
 ghost use Rattle.meta_types.specs.Faults.{Refuses};
 ghost use Rattle.meta_types.specs.Limits.{is_worker_count};
@@ -9,6 +9,7 @@ ghost use Rattle.meta_types.specs.Questions.{of_event};
 ghost use Rattle.reply_line.specs.Replies.{answer_text};
 ghost use Rattle.reply_line.specs.Explained.{line_answer_text, told_of, told_text};
 ghost use Rattle.reply_line.specs.Foreseen.{impact_text};
+ghost use Rattle.scripts.specs.DryRuns.{is_dry_run};
 ghost use Rattle.scripts.specs.LineAnswers.{line_answer_of};
 ghost use Rattle.scripts.specs.LineSteps.{Supplied, line_step, IsLineAnswer, IsTrueAt};
 ghost use Rattle.scripts.specs.SaidLines.{is_read_only, IsSaid, said_bytes, reply_bytes};
@@ -144,6 +145,8 @@ fn said_text(alloc: Global, answer: &LineAnswer) -> Result<CowStr<'static, Globa
 fn said(alloc: Global, answer: LineAnswer) -> Result<Said, Fault>
     ensures fault { Refuses result None }
     ensures ok { IfOk result (λ said. IsSaid (line_answer_of answer) (said_bytes said)) }
+    ensures dry { IfOk result (λ said. is_dry_run (Some said) ≡ true
+        → is_read_only (line_answer_of answer) ≡ true) }
 {
     match answer {
         LineAnswer::Event(Answer::Reported(report)) => Ok(Said::Report(report)),
@@ -174,6 +177,8 @@ pub fn answer_line<L: Ledger, K: Keeps, R: Threads + Wait + Sync>(
         × (line_step locked.old.store.state refusal line.now
         ≡ (reply_bytes reply, locked.new.store.state))
         × IsTrueAt locked.old.store.state refusal line.now) }
+    ensures dry { IfOk result (λ reply. is_dry_run reply ≡ true
+        → locked.new.store.state ≡ locked.old.store.state) }
     ensures err { OnErr result ((refusal : Option Supplied)
         × (locked.new.store.state ≡ (line_step locked.old.store.state refusal line.now).1)) }
     ensures opened { session.new.number < locked.new.opened }

@@ -1,5 +1,5 @@
 //! Memory that is kept from line to line.
-ghost use Rattle.std.specs.Prelude.{None};
+ghost use Rattle.std.specs.Prelude.{◌≡◌, None};
 ghost use Rattle.meta_types.specs.Faults.{Refuses};
 
 use json::Scratch;
@@ -27,5 +27,13 @@ impl LineMemory {
         let mut scratch = Scratch::new(alloc);
         scratch.reserve(LONGEST)?;
         Ok(LineMemory { reserve, scratch })
+    }
+
+    /// From now on each addition is refused with 7, or none for this. So a service that has no room
+    /// left to keep additions still removes and collects.
+    pub fn refuse_additions(&mut self, are_refused: bool)
+        ensures { self.new.reserve.refuses_additions ≡ are_refused }
+    {
+        self.reserve.refuse_additions(are_refused);
     }
 }

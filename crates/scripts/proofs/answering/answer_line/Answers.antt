@@ -1,7 +1,7 @@
 use Rattle.std.proofs.Common.{◌∙◌, None, ap, sym}
 use Rattle.scripts.proofs.Writers.{holds_on_err}
 use Rattle.scripts.proofs.LineAnswers.{line_step-empty, line_step-answer, true_at_empty}
-use Rattle.scripts.proofs.Unchanged.{line_step-said}
+use Rattle.scripts.proofs.Unchanged.{line_step-said, line_step-quiet}
 use Rattle.scripts.proofs.answering.answer_line.Goals as goal
 
 -- an empty line
@@ -27,3 +27,9 @@ returns-clause-ok g c =
     let answer = c.line_outcome-answer.ensures.answer in
     line_step-said c.args.locked.now.store.state c.args.line.now _ _ _ (sym c.if-is_empty.ensures)
     answer c.in_ok-said.ensures.ok
+
+-- a dry run leaves the store
+pub returns-clause-dry : goal.returns-clause-dry
+returns-clause-dry g c = λ dry.
+    line_step-quiet c.args.locked.now.store.state c.args.line.now _ _
+    c.line_outcome-answer.ensures.answer (c.in_ok-said.ensures.dry dry)
