@@ -4,7 +4,8 @@ ghost use Rattle.steal_mark.specs.Hinting.{IsHintSeat};
 ghost use Rattle.steal_mark.specs.Refusing.{RefusesThreads};
 ghost use Rattle.steal_mark.specs.Team.{AreWorked, IsKept, IsReady};
 
-use crate::shared::hints::{HintSeat, Hints, another, new_hints, stop};
+use crate::shared::hints::{HintSeat, another, new_hints, stop};
+use crate::threads::crew::Crew;
 use crate::threads::worker::work;
 use crate::turn::marker::Marker;
 use crate::turn::turn::Gate;
@@ -27,17 +28,20 @@ impl Promise<Marker> for SameAs {
 // Starts the thread of one worker. None where no thread can be made.
 fn start<'s, E, R: Wait + Sync, G: Gate>(
     scope: &Scope<'s, E>,
-    rt: &'s R,
-    graph: &'s Graph,
-    gate: &'s G,
-    hints: &'s Hints,
+    crew: &Crew<'s, R, G>,
     seat: HintSeat,
     marker: Marker,
 ) -> Option<PromisedHandle<Marker, SameAs>>
-    requires ready { IsReady graph.now marker }
-    requires hints { IsHintSeat hints.now seat }
+    requires ready { IsReady crew.now.graph.now marker }
+    requires hints { IsHintSeat crew.now.hints.now seat }
     ensures began { IfSome result (λ handle. handle.promise.0.value ≡ marker) }
 {
+    let Crew {
+        rt,
+        graph,
+        gate,
+        hints,
+    } = *crew;
     let promise = SameAs(Snapshot::of(&marker));
     let worker = move || -> Marker
         requires ready { IsReady graph.now marker }
@@ -50,26 +54,23 @@ fn start<'s, E, R: Wait + Sync, G: Gate>(
 // Starts a thread for each marker. Where one can't be made, those that run are told to stop.
 fn start_all<'s, E, R: Wait + Sync, G: Gate>(
     scope: &Scope<'s, E>,
-    rt: &'s R,
+    crew: &Crew<'s, R, G>,
     alloc: Global,
-    graph: &'s Graph,
-    gate: &'s G,
-    hints: &'s Hints,
     seat: &mut HintSeat,
     markers: Vec<Marker>,
 ) -> Result<Vec<PromisedHandle<Marker, SameAs>>, Fault>
-    requires ready { All (IsReady graph.now) markers.items }
-    requires hints { IsHintSeat hints.now seat.old }
-    ensures seat { IsHintSeat hints.now seat.new }
+    requires ready { All (IsReady crew.now.graph.now) markers.items }
+    requires hints { IsHintSeat crew.now.hints.now seat.old }
+    ensures seat { IsHintSeat crew.now.hints.now seat.new }
     ensures fault { RefusesThreads result None }
     ensures began { IfOk result (λ handles. map (λ h. h.promise.0.value) handles.items
         ≡ markers.items) }
 {
     let mut handles = Vec::with_capacity(alloc, markers.len())?;
     for marker in markers {
-        let own = another(hints, seat);
-        let Some(handle) = start(scope, rt, graph, gate, hints, own, marker) else {
-            stop(hints, seat);
+        let own = another(crew.hints, seat);
+        let Some(handle) = start(scope, crew, own, marker) else {
+            stop(crew.hints, seat);
             return Err(Fault::NoWorker);
         };
         handles.push_reserved(handle);
@@ -79,11 +80,11 @@ fn start_all<'s, E, R: Wait + Sync, G: Gate>(
 
 // Runs each of the markers in a thread of its own, and one more in the calling thread. The scope ends
 // when all threads have ended, also where one can't be made.
-fn run_beside<R: Threads + Wait + Sync, G: Gate>(
-    rt: &R,
+fn run_beside<'a, R: Threads + Wait + Sync, G: Gate>(
+    rt: &'a R,
     alloc: Global,
-    graph: &Graph,
-    gate: &G,
+    graph: &'a Graph,
+    gate: &'a G,
     others: Vec<Marker>,
     own: Marker,
 ) -> Result<Vec<Marker>, Fault>
@@ -104,7 +105,13 @@ fn run_beside<R: Threads + Wait + Sync, G: Gate>(
             ensures fault { RefusesThreads result None }
             ensures worked { IfOk result (λ done. AreWorked (others.items ++ own ∷ []) done.items) }
         {
-            let handles = start_all(scope, rt, alloc, graph, gate, shared, &mut seat, others)?;
+            let crew = Crew {
+                rt,
+                graph,
+                gate,
+                hints: shared,
+            };
+            let handles = start_all(scope, &crew, alloc, &mut seat, others)?;
             let worked = work(rt, own, graph, gate, shared, seat);
             let mut done = thread::join_promised(rt, handles)?;
             done.push(worked)?;

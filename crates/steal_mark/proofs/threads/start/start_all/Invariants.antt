@@ -9,6 +9,6 @@ invariant-loop-marker g l =
     (goal.iterator-loop-marker g).can_next l.marker-iterator ×
     (goal.iterator-loop-marker g).is_finite l.marker-iterator ×
     (l.yielded ++ l.marker-iterator.rest.items ≡ l.initial.marker-iterator.rest.items) ×
-    IsHintSeat l.hints l.seat ×
+    IsHintSeat l.crew.hints.now l.seat ×
     (length l.initial.marker-iterator.rest.items ≤ vec_capacity l.handles) ×
     (map began l.handles.items ≡ l.yielded)
