@@ -2,20 +2,34 @@
 
 use gc_graph::{ListedRows, build};
 use lease_book::Leases;
-use meta_types::{Fault, Instant};
+use meta_types::Instant;
 use object_tables::Tables;
 use std::alloc::Global;
+use std::mem::drop;
 use std::thread::Threads;
 
-fn make_graph(rt: &(impl Threads + Sync), alloc: Global) -> Result<(), Fault> {
-    let tables = Tables::new(alloc);
-    let leases = Leases::new(alloc);
-    let listed = ListedRows::new(alloc, &tables.arrived(), leases.arrived(), 1)?;
-    let (_book, _graph, _ignored) = build(rt, alloc, &listed.rows(), Instant(0), 1)?;
-    Ok(())
+// Whether the graph of these rows is made.
+fn makes_graph(
+    rt: &(impl Threads + Sync),
+    alloc: Global,
+    tables: &Tables,
+    leases: &Leases,
+) -> bool {
+    let Ok(listed) = ListedRows::new(alloc, &tables.arrived(), leases.arrived(), 1) else {
+        return false;
+    };
+    let made = build(rt, alloc, &listed.rows(), Instant(0), 1);
+    let is_made = made.is_ok();
+    drop(made);
+    is_made
 }
 
 /// Makes the graph of a store that holds nothing.
 pub(crate) fn calls(rt: &(impl Threads + Sync), alloc: Global) -> bool {
-    make_graph(rt, alloc).is_ok()
+    let tables = Tables::new(alloc);
+    let leases = Leases::new(alloc);
+    let is_made = makes_graph(rt, alloc, &tables, &leases);
+    drop(leases);
+    drop(tables);
+    is_made
 }

@@ -1,40 +1,73 @@
 //! A question of a store that holds one image.
 
 use explaining::explain;
-use lease_book::Leases;
 use meta_types::{Digest, Fault, ImageRow, Instant, Labels, Name, Object, ShortName};
 use object_tables::Tables;
 use request_core::Records;
 use std::alloc::Global;
+use std::mem::drop;
 use std::thread::Threads;
 
 const TARGET: &str = "sha256:aaaaaaaaaaaaaaaaaaaaaaaaaaaaaaaaaaaaaaaaaaaaaaaaaaaaaaaaaaaaaaaa";
 
-fn records(alloc: Global) -> Result<Records, Fault> {
-    let row = ImageRow {
-        ns: ShortName::read(alloc, "x")?,
-        name: Name::read(alloc, "i")?,
-        target: Digest::read(alloc, TARGET)?,
+fn image(alloc: Global) -> Result<ImageRow, Fault> {
+    let ns = ShortName::read(alloc, "x")?;
+    let name = Name::read(alloc, "i")?;
+    let target = Digest::read(alloc, TARGET)?;
+    Ok(ImageRow {
+        ns,
+        name,
+        target,
         labels: Labels::new(alloc),
-    };
-    let mut tables = Tables::new(alloc);
-    tables.add_ns(alloc, ShortName::read(alloc, "x")?)?;
-    tables.add_image(alloc, row)?;
-    Ok(Records {
-        tables,
-        leases: Leases::new(alloc),
-        next: 1,
-        profile: 1,
     })
+}
+
+fn add_ns(alloc: Global, tables: &mut Tables) -> Result<(), Fault> {
+    let ns = ShortName::read(alloc, "x")?;
+    tables.add_ns(alloc, ns)
+}
+
+fn add_image(alloc: Global, tables: &mut Tables) -> Result<(), Fault> {
+    let row = image(alloc)?;
+    tables.add_image(alloc, row)
+}
+
+// Whether an image is a root, since it is all of the path that keeps it.
+fn is_root(
+    rt: &(impl Threads + Sync),
+    alloc: Global,
+    records: &Records,
+    ns: &ShortName,
+    image: &Object,
+) -> Result<bool, Fault> {
+    let found = explain(rt, alloc, records, ns, image, Instant(0))?;
+    let is_root = found.kept && found.path.len() == 1;
+    drop(found);
+    Ok(is_root)
+}
+
+fn ask(rt: &(impl Threads + Sync), alloc: Global, records: &Records) -> Result<bool, Fault> {
+    let ns = ShortName::read(alloc, "x")?;
+    let image = Object::read(alloc, "images", "i")?;
+    let told = is_root(rt, alloc, records, &ns, &image);
+    drop(image);
+    told
+}
+
+fn fill_and_ask(
+    rt: &(impl Threads + Sync),
+    alloc: Global,
+    records: &mut Records,
+) -> Result<bool, Fault> {
+    add_ns(alloc, &mut records.tables)?;
+    add_image(alloc, &mut records.tables)?;
+    ask(rt, alloc, records)
 }
 
 /// Asks what keeps the image: it is a root.
 pub(crate) fn calls(rt: &(impl Threads + Sync), alloc: Global) -> Result<bool, Fault> {
-    let records = records(alloc)?;
-    let ns = ShortName::read(alloc, "x")?;
-    let image = Object::read(alloc, "images", "i")?;
-    let found = explain(rt, alloc, &records, &ns, &image, Instant(0))?;
-    let is_root = found.kept && found.path.len() == 1;
-    drop(found);
-    Ok(is_root)
+    let mut records = Records::empty(alloc);
+    let told = fill_and_ask(rt, alloc, &mut records);
+    drop(records);
+    told
 }
