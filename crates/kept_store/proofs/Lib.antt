@@ -1,0 +1,5 @@
+mod PassedOn
+mod Moves
+mod Stepping
+mod Replayed
+mod Restarts

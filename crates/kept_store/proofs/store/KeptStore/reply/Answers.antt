@@ -1,0 +1,7 @@
+use Rattle.kept_store.proofs.Stepping.{answered_steps}
+use Rattle.kept_store.proofs.store.KeptStore.reply.Goals as goal
+
+pub returns-clause-ok : goal.returns-clause-ok
+returns-clause-ok g c =
+    answered_steps c.args.self.now _ c.args.line.now c.in_ok-said.said c.in_ok-said.ensures.ok
+    c.in_ok-said.ensures.dry

@@ -1,0 +1,4 @@
+pub mod Replays
+pub mod Restarts
+pub mod Laws
+pub mod Starts

@@ -1,0 +1,187 @@
+//! A store that answers lines, to be run with a journal.
+ghost use Rattle.std.specs.Prelude.{◌≡◌, ◌≤◌, ◌++◌, ℕ, List, length, true, IfOk, OnOk, Option, None};
+ghost use Rattle.meta_types.specs.Faults.{Refuses};
+ghost use Rattle.meta_types.specs.Limits.{is_worker_count};
+ghost use Rattle.meta_types.specs.Rows.{empty_store};
+ghost use Rattle.scripts.specs.DryRuns.{is_dry_run};
+ghost use Rattle.scripts.specs.LineSteps.{Supplied, line_step, IsTrueAt};
+ghost use Rattle.scripts.specs.SaidLines.{reply_bytes};
+ghost use Rattle.kept_store.specs.Replays.{is_logged, LineSteps};
+
+use crate::logging::is_logged;
+use crate::replies::{has_room, put_line, put_refusal, put_reply, take_room};
+use kept_run::Service;
+use meta_types::Fault;
+use reply_line::{BLOCK_ROOM, refusal_text};
+use request_core::State;
+use scripts::{LineMemory, Said, answer_line};
+use std::alloc::{AllocError, Global};
+use std::marker::Model;
+use std::sync::Wait;
+use std::sync::ledger::{Blank, Ledger};
+use std::thread::Threads;
+use store_front::{Locked, MemLocked, Session, Unkept};
+
+/// The longest line that can be a request, in bytes without its line feed.
+pub(crate) const LINE_LIMIT: usize = 65536;
+
+/// A store in memory with its one session, and how many workers collect. The block has room for the
+/// text of a report while it is written.
+#[derive(Drop)]
+pub struct KeptStore<L: Ledger> {
+    alloc: Global,
+    locked: MemLocked<L, Unkept>,
+    session: Session<L>,
+    workers: usize,
+    memory: LineMemory,
+    block: Vec<u8>,
+}
+
+impl<L: Ledger> Model for KeptStore<L> {
+    ghost use Rattle.std.specs.Prelude.{◌≡◌, ◌<◌, true};
+    ghost use Rattle.meta_types.specs.Limits.{is_worker_count};
+    ghost use Rattle.meta_types.specs.Rows.{State};
+
+    ghost Value = { State };
+
+    ghost view = { λ d. d.locked.store.state };
+
+    ghost invariant = { λ d. record {
+      opened : d.session.number < d.locked.opened;
+      workers : is_worker_count d.workers ≡ true;
+    } };
+}
+
+impl<L: Ledger> KeptStore<L> {
+    /// An empty store, which collects with one worker. The blank has 65,536 parts.
+    pub(crate) fn empty(alloc: Global, blank: Blank) -> Result<KeptStore<L>, Fault>
+        requires name { blank.name ≡ L.name }
+        requires parts { (blank.parts ≡ L.parts) × (blank.parts ≡ 65536) }
+        ensures fault { Refuses result None }
+        ensures ok { IfOk result (λ store. store ≡ empty_store) }
+    {
+        let block = Vec::with_capacity(alloc, BLOCK_ROOM)?;
+        let memory = LineMemory::open(alloc)?;
+        let mut locked = Locked::open_unkept(alloc, blank, State::empty(alloc));
+        let Ok(session) = locked.session(alloc) else {
+            unreachable!()
+        };
+        Ok(KeptStore {
+            alloc,
+            locked,
+            session,
+            workers: 1,
+            memory,
+            block,
+        })
+    }
+
+    /// From now on collections have this number of workers.
+    pub(crate) fn set_workers(&mut self, workers: usize)
+        requires { is_worker_count workers ≡ true }
+        ensures { self.new ≡ self.old }
+    {
+        self.workers = workers;
+    }
+
+    // The reply to a line that isn't too long, as `answer_line` gives it.
+    fn said<T: Threads + Wait + Sync>(&mut self, rt: &T, line: &[u8]) -> Result<Option<Said>, Fault>
+        requires { length line.now ≤ 65536 }
+        ensures fault { Refuses result None }
+        ensures ok { IfOk result (λ reply. (supplied : Option Supplied)
+            × (line_step self.old supplied line.now ≡ (reply_bytes reply, self.new))
+            × IsTrueAt self.old supplied line.now) }
+        ensures dry { IfOk result (λ reply. is_dry_run reply ≡ true → self.new ≡ self.old) }
+    {
+        answer_line(
+            &mut self.locked,
+            rt,
+            self.alloc,
+            &mut self.session,
+            line,
+            self.workers,
+            &mut self.memory,
+        )
+    }
+
+    /// The reply to a line that isn't too long.
+    pub(crate) fn reply<T: Threads + Wait + Sync>(
+        &mut self,
+        rt: &T,
+        line: &[u8],
+    ) -> Result<Option<Said>, Fault>
+        requires { length line.now ≤ 65536 }
+        ensures fault { Refuses result None }
+        ensures ok { IfOk result (λ reply.
+            LineSteps self.old line.now (reply_bytes reply) (is_logged reply) self.new) }
+    {
+        let said = self.said(rt, line)?;
+        Ok(said)
+    }
+
+    // Puts a reply behind what waits.
+    fn put(&mut self, out: &mut Vec<u8>, reply: &Option<Said>) -> Result<(), Fault>
+        ensures same { self.new ≡ self.old }
+        ensures fault { Refuses result None }
+        ensures ok { OnOk result (out.new.items ≡ out.old.items ++ reply_bytes reply.now) }
+    {
+        put_reply(out, self.alloc, &mut self.block, reply)
+    }
+
+    /// Answers a line: puts the reply behind what waits, and answers whether the line is to be
+    /// logged. No line is done while there is no room for a short reply. A line that changes nothing
+    /// is refused where there is no room for its text.
+    pub(crate) fn take<T: Threads + Wait + Sync>(
+        &mut self,
+        rt: &T,
+        line: &[u8],
+        out: &mut Vec<u8>,
+    ) -> Result<bool, Fault>
+        ensures fault { Refuses result None }
+        ensures ok { IfOk result (λ is_logged. (reply : List ℕ)
+            × LineSteps self.old line.now reply is_logged self.new
+            × (out.new.items ≡ out.old.items ++ reply)) }
+    {
+        take_room(out)?;
+        if line.len() > LINE_LIMIT {
+            put_line(out, refusal_text(Fault::TooLong).as_bytes())?;
+            return Ok(false);
+        }
+        let reply = self.reply(rt, line)?;
+        if has_room(out, &reply) {
+            self.put(out, &reply)?;
+            return Ok(is_logged(&reply));
+        }
+        put_refusal(out, line)?;
+        Ok(false)
+    }
+}
+
+impl<L: Ledger> Service for KeptStore<L> {
+    ghost use Rattle.kept_store.specs.Replays.{LineSteps};
+
+    ghost steps = { LineSteps };
+
+    fn answer<T: Threads + Wait + Sync>(
+        &mut self,
+        rt: &T,
+        line: &[u8],
+        out: &mut Vec<u8>,
+    ) -> Result<bool, AllocError> {
+        let Ok(is_logged) = self.take(rt, line, out) else {
+            return Err(AllocError);
+        };
+        Ok(is_logged)
+    }
+
+    fn refuse(&mut self, line: &[u8], out: &mut Vec<u8>) -> Result<(), AllocError> {
+        let Ok(()) = put_refusal(out, line) else {
+            return Err(AllocError);
+        };
+        Ok(())
+    }
+
+    fn refuse_additions(&mut self, are_refused: bool) {
+        self.memory.refuse_additions(are_refused);
+    }
+}
