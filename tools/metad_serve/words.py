@@ -3,8 +3,9 @@ from __future__ import annotations
 
 import argparse
 import asyncio
+import os
 import resource
-from typing import List
+from typing import List, Optional
 
 from . import sockets
 from .faults import Refused, tell
@@ -12,23 +13,38 @@ from .front import CLIENTS, Front
 
 SPARE = 32  # descriptors beside those of clients: pipes, listeners, the loop's own
 
-EPILOG = """The COMMAND answers each line by a line, as `metad run` does. Each connection sends
-lines and gets a reply to each, in its order. Without --socket systemd hands the socket on
-(LISTEN_FDS). SIGTERM ends the front once all that was sent is answered. Status 0: it was asked to
-end; 2: other words, or a socket that can't be made; 4: the socket is served already; else that of
-the COMMAND, 128 and its number where a signal ended that. docs/SERVICE.md has more."""
+EPILOG = """Each connection sends lines and gets a reply to each, in its order. Without --socket
+systemd hands the socket on (LISTEN_FDS). With a COMMAND that program answers, in place of
+`metad serve --dir DIR`. SIGTERM ends the front once all that was sent is answered. Status 0: it
+was asked to end; 2: other words, or a socket that can't be made; 4: the socket is served already;
+else that of the service, 128 and its number where a signal ended that. docs/SERVICE.md has more."""
 
 
 def parser() -> argparse.ArgumentParser:
     """What stands before a COMMAND."""
     words = argparse.ArgumentParser(
         prog="metad-serve",
-        usage="metad-serve [--socket PATH] -- COMMAND ..",
+        usage="metad-serve [--socket PATH] (--dir DIR [--workers N] | -- COMMAND ..)",
         epilog=EPILOG,
         allow_abbrev=False,
     )
     words.add_argument("--socket", metavar="PATH", help="the Unix socket on which clients come")
+    words.add_argument("--dir", metavar="DIR", help="the folder of the store")
+    words.add_argument("--workers", metavar="N", help="so many threads mark and sweep; 1 without")
     return words
+
+
+def command_of(words: argparse.Namespace, command: Optional[List[str]], tool: str) -> List[str]:
+    """The program that answers: the COMMAND, or the one that `metad` beside the tools finds."""
+    if command is not None:
+        if words.dir is not None or words.workers is not None or not command:
+            raise Refused("a COMMAND stands behind --, and then neither --dir nor --workers")
+        return command
+    if words.dir is None:
+        raise Refused("--dir DIR or a COMMAND is wanted (metad-serve --help)")
+    top = os.path.dirname(os.path.dirname(tool))
+    command = [os.path.join(top, "metad"), "serve", "--dir", words.dir]
+    return command + (["--workers", words.workers] if words.workers is not None else [])
 
 
 def most_clients() -> int:
@@ -44,17 +60,16 @@ def most_clients() -> int:
     return CLIENTS
 
 
-def main(arguments: List[str]) -> int:
+def main(arguments: List[str], tool: str) -> int:
     """Serves until it is asked to end or the service ends; its status."""
-    command: List[str] = []
+    command: Optional[List[str]] = None
     if "--" in arguments:
         at = arguments.index("--")
         arguments, command = arguments[:at], arguments[at + 1 :]
     words = parser().parse_args(arguments)
     listeners: List[sockets.Listener] = []
     try:
-        if not command:
-            raise Refused("a COMMAND is wanted behind -- (metad-serve --help)")
+        command = command_of(words, command, tool)
         listeners = sockets.handed()
         if listeners and words.socket is not None:
             raise Refused("systemd hands a socket on, so --socket isn't wanted")

@@ -5,6 +5,7 @@ import time
 
 import edges
 import ends
+import kept
 import load
 import order
 from fronts import Told
@@ -15,8 +16,9 @@ PARTS = {
     "ends": (ends, None),
     "order": (order, "METAD"),
     "load": (load, "METAD"),
+    "kept": (kept, "METAD_KEPT"),
 }
-PROGRAMS = {"METAD": "metad"}
+PROGRAMS = {"METAD": "metad", "METAD_KEPT": "metad_kept"}
 
 
 def main():

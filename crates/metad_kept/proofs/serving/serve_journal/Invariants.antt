@@ -1,0 +1,5 @@
+use Rattle.metad_kept.proofs.serving.serve_journal.Given as goal
+
+-- the ledger is named as the blank is
+abbrev pub ghosts-serve_named : goal.ghosts-serve_named
+ghosts-serve_named g a = record { name = a.blank.name; parts = a.blank.parts }

@@ -1,0 +1,77 @@
+//! What the program tells beside its replies.
+
+use crate::finding::Finding;
+use journal::{JournalError, Sound};
+use meta_types::Fault;
+use std::process::ExitCode;
+use std::str::from_utf8;
+
+/// What a journal's error is among the faults.
+pub fn fault_of(error: JournalError) -> Fault {
+    match error {
+        JournalError::OutOfMemory => Fault::OutOfMemory,
+        _ => Fault::ReadFailed,
+    }
+}
+
+/// Tells the fault that ended the program.
+pub fn tell(rt: &HostRuntime, fault: Fault) -> ExitCode {
+    let number = fault.number();
+    let name = fault.name();
+    let _told = eprintln!(rt; "metad: fault {number} {name}");
+    ExitCode::from(1)
+}
+
+/// Tells the fault that ended the program, and the file that it was at.
+pub fn tell_at(rt: &HostRuntime, path: &str, fault: Fault) -> ExitCode {
+    let number = fault.number();
+    let name = fault.name();
+    let _told = eprintln!(rt; "metad: fault {number} {name} at {path}");
+    ExitCode::from(1)
+}
+
+/// Tells that a file can't grow.
+pub fn tell_full(rt: &HostRuntime, path: &str) {
+    let _told = eprintln!(rt; "metad: {path} can't grow: additions are refused until it can");
+}
+
+// The digits of a sum.
+fn digits(sum: &[u8; 64]) -> &str {
+    from_utf8(sum.as_slice()).unwrap_or("")
+}
+
+/// Tells how many lines a journal has, how far it goes, and its last sum.
+pub fn tell_found(rt: &HostRuntime, path: &str, lines: u64, sound: &Sound) {
+    let (end, last) = (sound.end, digits(&sound.last));
+    let _told = eprintln!(rt; "metad: {path}: {lines} lines, {end} bytes, last sum {last}");
+}
+
+/// Says where damage is.
+pub fn tell_damage(rt: &HostRuntime, path: &str, end: usize) -> ExitCode {
+    let _told = eprintln!(rt; "metad: {path}: damage behind byte {end}");
+    ExitCode::from(3)
+}
+
+/// Tells that a file has another format.
+pub fn tell_format(rt: &HostRuntime, path: &str) -> ExitCode {
+    let _told = eprintln!(rt; "metad: {path}: its first line isn't that of a journal");
+    ExitCode::from(3)
+}
+
+/// Tells that the head of a file is damaged.
+pub fn tell_head(rt: &HostRuntime, path: &str) -> ExitCode {
+    let _told = eprintln!(rt; "metad: {path}: damage in its head");
+    ExitCode::from(3)
+}
+
+/// Prints what a journal holds, and says where damage is.
+pub fn print_found(rt: &HostRuntime, path: &str, found: &Finding) -> ExitCode {
+    let (lines, end, last) = (found.lines, found.sound.end, digits(&found.sound.last));
+    if println!(rt; "{lines} lines, {end} bytes, last sum {last}").is_err() {
+        return tell(rt, Fault::WriteFailed);
+    }
+    if found.is_damaged {
+        return tell_damage(rt, path, end);
+    }
+    ExitCode::SUCCESS
+}

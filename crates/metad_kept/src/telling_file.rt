@@ -1,0 +1,52 @@
+//! A journal's file that tells when it can't grow.
+
+use crate::telling::tell_full;
+use journal::{JournalError, Log};
+
+/// A file that tells on standard error that it can't grow: once, until it has grown again.
+#[derive(Drop)]
+pub struct TellingFile<'a, D: Log + Drop> {
+    pub rt: &'a HostRuntime,
+    pub path: &'a str,
+    pub log: D,
+    pub is_told: bool,
+}
+
+// Tells that a file can't grow, where that isn't told yet. Answers whether it is told now.
+fn tell_of(rt: &HostRuntime, path: &str, grown: Result<(), JournalError>, is_told: bool) -> bool {
+    let is_full = grown.is_err();
+    if is_full && !is_told {
+        tell_full(rt, path);
+    }
+    is_full
+}
+
+impl<D: Log + Drop> Log for TellingFile<'_, D> {
+    ghost text = { λ f. D.Log.text f.log };
+
+    ghost may_leave = { λ f. D.Log.may_leave f.log };
+
+    ghost rests = { λ f. D.Log.rests f.log };
+
+    ghost is_clean = { λ f. D.Log.is_clean f.log };
+
+    ghost rested = { λ f c rests left. D.Log.rested f.log c rests left };
+
+    fn size(&self) -> Result<usize, JournalError> {
+        self.log.size()
+    }
+
+    fn read(&mut self, at: usize, count: usize, block: &mut Vec<u8>) -> Result<(), JournalError> {
+        self.log.read(at, count, block)
+    }
+
+    fn put(&mut self, at: usize, bytes: &[u8]) -> Result<(), JournalError> {
+        self.log.put(at, bytes)
+    }
+
+    fn grow(&mut self) -> Result<(), JournalError> {
+        let grown = self.log.grow();
+        self.is_told = tell_of(self.rt, self.path, grown, self.is_told);
+        grown
+    }
+}

@@ -1,0 +1,103 @@
+//! What the program's words ask for.
+ghost use Rattle.std.specs.Prelude.{◌≡◌, true};
+ghost use Rattle.meta_types.specs.Limits.{is_worker_count};
+
+use meta_types::is_worker_count;
+
+/// A number of workers that is allowed.
+#[derive(Clone, Copy)]
+pub struct Workers {
+    pub count: usize,
+    ghost allowed: { is_worker_count count ≡ true },
+}
+
+/// What the words ask for, in a folder.
+#[derive(Clone, Copy)]
+pub enum Asked {
+    /// A run, and how many workers collect.
+    Serve(Workers),
+    /// What the journal holds.
+    Check,
+    /// The lines of the journal.
+    Script,
+}
+
+/// What the words ask for, and the folder that they name.
+#[derive(Clone, Copy)]
+pub struct Words<'a> {
+    pub dir: &'a str,
+    pub asked: Asked,
+}
+
+// The options as far as they were read.
+#[derive(Clone, Copy)]
+struct Options<'a> {
+    dir: Option<&'a str>,
+    workers: Option<Workers>,
+}
+
+// The number of workers that a text is.
+fn number(text: &str) -> Option<Workers> {
+    let Ok(count) = text.parse::<usize>() else {
+        return None;
+    };
+    if is_worker_count(count) {
+        return Some(Workers { count });
+    }
+    None
+}
+
+// The options with one more. Each stands once at most.
+fn with_option<'a>(options: Options<'a>, name: &str, value: &'a str) -> Option<Options<'a>> {
+    match name {
+        "--dir" if options.dir.is_none() && !value.is_empty() => Some(Options {
+            dir: Some(value),
+            workers: options.workers,
+        }),
+        "--workers" if options.workers.is_none() => Some(Options {
+            dir: options.dir,
+            workers: Some(number(value)?),
+        }),
+        _ => None,
+    }
+}
+
+// Reads the options, each as `--name value` or `--name=value`.
+fn read_options<'a>(words: &[&'a str]) -> Option<Options<'a>> {
+    let mut options = Options {
+        dir: None,
+        workers: None,
+    };
+    let mut at = 0usize;
+    'reading: for _ in 0..u64::MAX {
+        let Some(word) = words.get(at) else {
+            return Some(options);
+        };
+        at = at.saturating_add(1);
+        if let Some((name, value)) = word.split_once('=') {
+            options = with_option(options, name, value)?;
+            continue;
+        }
+        let value = words.get(at)?;
+        at = at.saturating_add(1);
+        options = with_option(options, word, value)?;
+    }
+    None
+}
+
+/// What the words ask for, the program's name first among them.
+pub fn read_words<'a>(words: &[&'a str]) -> Option<Words<'a>> {
+    let [_, command, rest @ ..] = words else {
+        return None;
+    };
+    let options = read_options(rest)?;
+    let dir = options.dir?;
+    let asked = match (*command, options.workers) {
+        ("serve", Some(workers)) => Asked::Serve(workers),
+        ("serve", None) => Asked::Serve(Workers { count: 1 }),
+        ("check", None) => Asked::Check,
+        ("script", None) => Asked::Script,
+        _ => return None,
+    };
+    Some(Words { dir, asked })
+}

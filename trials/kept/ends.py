@@ -1,0 +1,199 @@
+"""How runs begin and end: words, folders, two programs, formats, lines at the limit, signals."""
+import os
+import resource
+import signal
+import subprocess
+import tempfile
+
+from stores import (
+    DONE, HEAD, JOURNAL, KEPT, TOP, WHEN, Client, Model, Told, check, journal_of, line_of,
+    lines_told, logged, probes, run, script_of, serve,
+)
+
+wants = Told.wants
+
+
+def words(folder):
+    """What asks for nothing is answered with the usage."""
+    for it in (
+        [], ["serve"], ["serve", "--dir"], ["serve", "--dir="], ["serve", "--dir", folder, "x"],
+        ["check", "--dir", folder, "--workers=2"], ["script"], ["other", "--dir", folder],
+        ["serve", "--dir", folder, "--dir", folder],
+    ):
+        wants("other words end with 2", run([KEPT, *it]).status == 2, it)
+    for it in ("0", "17", "x", "-1", ""):
+        wants("another number of workers", serve(folder, b"", "--workers", it).status == 2, it)
+    wants("no file was made", os.listdir(folder) == [])
+    wants("16 workers", serve(folder, b"", "--workers=16").status == 0)
+
+
+def folders(folder):
+    """Folders in which no journal can be, or isn't."""
+    none = os.path.join(folder, "none")
+    wants("a folder that isn't there", serve(none).status == 1)
+    wants("no journal to check", run([KEPT, "check", "--dir", folder]).status == 1)
+    wants("no journal to write", run([KEPT, "script", "--dir", folder]).status == 1)
+    plain = os.path.join(folder, "plain")
+    with open(plain, "wb"):
+        pass
+    wants("a folder that is a file", serve(plain).status == 1)
+    closed = os.path.join(folder, "closed")
+    os.mkdir(closed)
+    serve(closed, line_of(op="ns.add", ns="x"))
+    if os.geteuid():
+        os.chmod(closed, 0o500)
+        os.chmod(os.path.join(closed, JOURNAL), 0o400)
+    else:
+        closed = "/proc/self"
+    done = serve(closed)
+    wants("a folder that can't be written", done.status == 1 and b"fault 11" in done.told, done)
+
+
+def locks(folder):
+    """A folder that a program serves is refused to another, and not to check and script."""
+    first = Client(folder)
+    wants("the first of two programs", first.ask([line_of(op="ns.add", ns="x")]) == [DONE])
+    done = serve(folder, line_of(op="ns.add", ns="y"))
+    wants("the second ends with 4", (done.status, done.out) == (4, b""), done)
+    wants("a check beside it", check(folder).status == 0)
+    wants("a script beside it", script_of(folder) == ([line_of(op="ns.add", ns="x")], 0))
+    wants("the end of input", first.ends().status == 0)
+    wants("a program after it", serve(folder).status == 0)
+
+
+def formats(folder):
+    """A file of another format is refused and left alone, as is one whose head is damaged."""
+    path = os.path.join(folder, JOURNAL)
+    for text in (
+        b"#metad journal 2\n" + bytes(8192), b"a page\n" * 2000, b"x", b"\0" * 5000 + b"x",
+    ):
+        with open(path, "wb") as file:
+            file.write(text)
+        for done in (serve(folder), check(folder), run([KEPT, "script", "--dir", folder])):
+            wants("another format", done.status == 3 and b"first line" in done.told, text[:9], done)
+        wants("it is left alone", journal_of(folder) == text, text[:20])
+    for text in (b"", bytes(100), bytes(9000)):
+        with open(path, "wb") as file:
+            file.write(text)
+        wants("an empty journal", lines_told(check(folder).out) == 0, len(text))
+        done = serve(folder, line_of(op="ns.add", ns="x"))
+        wants("it is served", (done.status, done.out) == (0, DONE), len(text), done)
+
+
+def lines(folder):
+    """The longest line, a longer one, empty ones, and a last one without a line feed."""
+    longest = line_of(op="ns.add", ns="x")[:-1].ljust(65536) + b"\n"
+    longer = line_of(op="ns.add", ns="y")[:-1].ljust(65537) + b"\n"
+    script = longest + b"\n" + longer + b"\n\n" + b'{"op":"ns.list"}'
+    done = serve(folder, script)
+    wanted = DONE + b'{"fault":6,"name":"TooLong"}\n' + b'{"names":["x"],"ok":true}\n'
+    wants("the longest line and a longer one", (done.status, done.out) == (0, wanted), done)
+    done = serve(folder, line_of(op="ns.add", ns="z")[:-1])
+    wants("a last line without a line feed", (done.status, done.out) == (0, DONE), done)
+    wants("half a line", serve(folder, b'{"op":"ns.add","ns').out.startswith(b'{"fault":5'))
+    kept = [longest, line_of(op="ns.add", ns="z")]
+    wants("both are kept", script_of(folder) == (kept, 0))
+    done = serve(folder, line_of(op="ns.list"))
+    wants("both are found again", done.out == b'{"names":["x","z"],"ok":true}\n', done)
+
+
+def signals(folder):
+    """A signal is as a crash: what was answered is found again."""
+    more = [line_of(op="ns.add", ns="n%d" % number) for number in range(4)]
+    for number, line in zip((signal.SIGTERM, signal.SIGINT, signal.SIGHUP, signal.SIGKILL), more):
+        client = Client(folder)
+        wants("a line before a signal", client.ask([line]) == [DONE])
+        wants("a signal ends the program", client.ends(number).status == -number)
+    wants("what was answered is kept", script_of(folder)[0] == more)
+
+
+def streams(folder):
+    """Standard input that can't be read, standard output that can't be written."""
+    wants("a reader that fails", run_with(folder, stdin=os.open(folder, os.O_RDONLY)) == 1)
+    full = os.open("/dev/full", os.O_WRONLY)
+    done = subprocess.run(
+        [KEPT, "serve", "--dir", folder], input=line_of(op="ns.add", ns="x"), stdout=full,
+        stderr=subprocess.PIPE,
+    )
+    os.close(full)
+    wants("a writer that fails", done.returncode == 1 and b"fault 11" in done.stderr, done)
+    wants("its line is kept all the same", script_of(folder)[0] == [line_of(op="ns.add", ns="x")])
+
+
+def run_with(folder, stdin):
+    """The status of a run with this input."""
+    try:
+        return subprocess.run(
+            [KEPT, "serve", "--dir", folder], stdin=stdin, capture_output=True
+        ).returncode
+    finally:
+        os.close(stdin)
+
+
+def examples(folder):
+    """Each example is answered as it has to be, and found again by the next start."""
+    names = os.listdir(os.path.join(TOP, "examples"))
+    for name in sorted(it for it in names if it.endswith(".script")):
+        own = os.path.join(folder, name)
+        os.mkdir(own)
+        with open(os.path.join(TOP, "examples", name), "rb") as file:
+            script = file.read()
+        with open(os.path.join(TOP, "examples", name[: -len("script")] + "expected"), "rb") as file:
+            expected = file.read()
+        done = serve(own, script, "--workers", "2")
+        wants("an example", (done.status, done.out) == (0, expected), name, done.told)
+        kept = logged(script.splitlines(keepends=True))
+        wants("its journal", script_of(own) == (kept, 0), name)
+        more = probes()
+        done = serve(own, b"".join(more))
+        wanted = Model().takes(kept).answers(more)
+        wants("its store", (done.status, done.out) == (0, b"".join(wanted)), name)
+        wants("its lines are told", lines_told(done.told) == len(kept), name, done.told)
+        # the whole file as a script: a commit line is no request, and neither are zeros
+        lines = journal_of(own).split(b"\n")
+        store, done = Model(), 0
+        for line in lines:
+            done += is_change(store.answer(line + b"\n"))
+        wants("a journal is a script", done == len(kept), name, done, len(kept))
+
+
+def is_change(reply):
+    """Whether a line of a journal is answered so that it is a request's."""
+    return not reply.startswith((b'{"fault":5', b'{"fault":6'))
+
+
+def unlogged(folder):
+    """Listings, refusals and dry runs leave the journal's bytes as they were."""
+    serve(folder, line_of(op="ns.add", ns="temp"))
+    before = journal_of(folder)[HEAD:].rstrip(b"\0")
+    lines = [line_of(op="ns.list"), line_of(op="ns.add", ns="temp"), b"none\n"]
+    lines += [line_of(op="gc.plan", at=WHEN)] * 1000
+    done = serve(folder, b"".join(lines))
+    wants("a thousand plans", done.status == 0 and done.out.count(b"\n") == 1003, done.told)
+    wants("they aren't logged", journal_of(folder)[HEAD:].rstrip(b"\0") == before)
+
+
+def little_memory(folder):
+    """A start that memory refuses changes no file."""
+    serve(folder, line_of(op="ns.add", ns="x"))
+    refused = 0
+    for kilobytes in range(3000, 8000, 250):
+        before = journal_of(folder)
+        limit = lambda: resource.setrlimit(  # noqa: E731
+            resource.RLIMIT_AS, (kilobytes << 10, kilobytes << 10))
+        done = serve(folder, line_of(op="ns.list"), preexec_fn=limit)
+        if done.status == 1:
+            wants("a start without memory", done.out == b"" and b"fault 7" in done.told, done)
+            wants("it changes no file", journal_of(folder) == before, kilobytes)
+            refused += 1
+    wants("a start is refused memory", refused > 0)
+    wants("it starts with memory", lines_told(serve(folder).told) == 1)
+
+
+def all_parts():
+    """Each of these, in a folder of its own."""
+    parts = (words, folders, locks, formats, lines, signals, streams, examples, unlogged,
+             little_memory)
+    for part in parts:
+        with tempfile.TemporaryDirectory(prefix="metad-kept-") as folder:
+            part(folder)

@@ -1,0 +1,34 @@
+"""trials/kept/main.py [PART..]: the trials of the program that keeps a store, all or these."""
+import signal
+import sys
+import time
+
+import crashes
+import damage
+import disk
+import ends
+import kills
+import memory
+from stores import Told
+
+PARTS = {"ends": ends, "damage": damage, "crashes": crashes, "kills": kills, "disk": disk,
+         "memory": memory}
+
+
+def main():
+    """Runs the parts; status 1 where anything was wrong."""
+    names = sys.argv[1:] or list(PARTS)
+    if not set(names) <= set(PARTS):
+        sys.exit("usage: trials/kept/run [%s ..]" % " | ".join(PARTS))
+    # who starts this in the background may have it ignore signals, and the program would too
+    for number in (signal.SIGINT, signal.SIGTERM, signal.SIGHUP):
+        signal.signal(number, signal.SIG_DFL)
+    for name in names:
+        began, tried, wrong = time.monotonic(), Told.tried, Told.wrong
+        PARTS[name].all_parts()
+        told = (name, Told.tried - tried, Told.wrong - wrong, time.monotonic() - began)
+        print("kept: %s: %d tried, %d wrong, %.0f s" % told, flush=True)
+    return 1 if Told.wrong else 0
+
+
+sys.exit(main())

@@ -1,0 +1,93 @@
+"""Memory that is refused: in turn, each growth of a run; and a store that ran full."""
+import os
+import resource
+import tempfile
+from concurrent.futures import ThreadPoolExecutor
+
+from stores import (
+    DONE, NO_MEMORY, REFUSE, WHEN, Model, Told, is_logged, journal_of, line_of, lines_told,
+    script_of, serve,
+)
+
+wants = Told.wants
+
+
+def limited(folder, megabytes, script):
+    """A run with so much memory."""
+    limit = lambda: resource.setrlimit(  # noqa: E731
+        resource.RLIMIT_AS, (megabytes << 20, megabytes << 20))
+    return serve(folder, script, preexec_fn=limit)
+
+
+def full(megabytes):
+    """A store that was filled until additions are refused starts again with as much memory."""
+    with tempfile.TemporaryDirectory(prefix="metad-kept-") as folder:
+        count = 6000 * megabytes
+        lines = [line_of(op="ns.add", ns="x")]
+        lines += [line_of(op="lease.add", ns="x", id="lease-%d" % it) for it in range(count)]
+        done = limited(folder, megabytes, b"".join(lines))
+        replies = done.out.splitlines(keepends=True)
+        added = replies.count(DONE)
+        wants("a full store answers each line", done.status == 0 and len(replies) == len(lines),
+              megabytes, done.status, done.told)
+        wants("additions are refused at last", 0 < added < len(lines)
+              and set(replies) == {DONE, NO_MEMORY}, megabytes, added)
+        done = limited(folder, megabytes, line_of(op="lease.remove", ns="x", id="lease-0"))
+        wants("it starts again", (done.status, done.out) == (0, DONE), megabytes, done)
+        wants("with all lines", lines_told(done.told) == added, megabytes, done.told, added)
+    print("kept: a store of %d rows starts again at %d MiB" % (added, megabytes))
+
+
+SCRIPT = [
+    line_of(op="ns.add", ns="x"),
+    line_of(op="content.add", ns="x", digest="sha256:" + "a" * 64),
+    line_of(op="content.add", ns="x", digest="sha256:" + "b" * 64),
+    line_of(op="image.add", ns="x", name="i", target="sha256:" + "a" * 64),
+    line_of(op="lease.add", ns="x", id="l"),
+    line_of(op="content.list", ns="x"),
+    line_of(op="gc.run", at=WHEN),
+    line_of(op="image.remove", ns="x", name="i", sync=WHEN),
+    line_of(op="lease.remove", ns="x", id="l"),
+]
+
+
+def refused(number):
+    """A run of which one growth is refused. How many growths it had."""
+    with tempfile.TemporaryDirectory(prefix="metad-kept-") as folder:
+        serve(folder, SCRIPT[0])
+        before = journal_of(folder)
+        env = {**os.environ, "LD_PRELOAD": REFUSE, "REFUSE": str(number)}
+        done = serve(folder, b"".join(SCRIPT[1:]), env=env)
+        replies, store, kept = done.out.splitlines(keepends=True), Model().takes(SCRIPT[:1]), 1
+        for line, reply in zip(SCRIPT[1:], replies):
+            if not reply.startswith((b'{"fault":7', b'{"fault":8')):
+                wants("the others are answered as without the refused line",
+                      reply == store.answer(line), number, reply)
+                kept += is_logged(reply)
+        wants("a run goes on, or says that memory is missing", done.status == 0
+              and len(replies) == len(SCRIPT) - 1 or b"fault 7" in done.told, number, done)
+        lines, status = script_of(folder)
+        wants("a line is done and kept, or neither", status == 0 and len(lines) == kept, number,
+              len(lines), kept)
+        if lines_told(done.told) is None:
+            wants("a start that is refused changes nothing", journal_of(folder) == before, number)
+        count = done.told.splitlines()[-1:]
+        return int(count[0]) if count and count[0].isdigit() else 0
+
+
+def growths():
+    """Each growth of a run is refused in a run of its own."""
+    if not REFUSE:
+        print("kept: refused growths are left out: the toolchain's clang isn't there")
+        return
+    most = refused(0)
+    wants("a run has growths", most > 10, most)
+    with ThreadPoolExecutor(os.cpu_count()) as pool:
+        list(pool.map(refused, range(1, most + 1)))
+    print("kept: %d growths, each refused in a run of its own" % most)
+
+
+def all_parts():
+    growths()
+    for megabytes in (24, 48):
+        full(megabytes)
