@@ -87,9 +87,10 @@ class Writer(threading.Thread):
     def __init__(self, folder):
         super().__init__(daemon=True)
         self.client, self.stopped = Client(folder), threading.Event()
+        # the file is there once a line was answered
+        self.client.ask([line_of(op="ns.add", ns="x")])
 
     def run(self):
-        self.client.ask([line_of(op="ns.add", ns="x")])
         number = 0
         while not self.stopped.is_set():
             ids = ["l%d" % it for it in range(number, number + 20)]
