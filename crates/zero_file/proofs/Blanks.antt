@@ -3,13 +3,11 @@ use Rattle.std.proofs.Common.{◌≡◌, ◌∙◌, ap, sym, refl, ℕ, zero, su
 use Rattle.std.proofs.lemmas.Bool.{cases_lt, cases_Bool, false≢true}
 use Rattle.std.proofs.lemmas.List.{length-replicate, drop_more, drop_all, get_or_past}
 use Rattle.sqlite_disk.specs.Disk.{Holds, Torn, Mixed}
-use Rattle.zero_file.specs.Head.{marks_of, believed, head_byte, is_blank, is_blank_from, IsHead}
+use Rattle.zero_file.specs.Head.{marks_of, choice_of, believed, head_byte, is_blank, is_blank_from, IsHead}
 use Rattle.zero_file.proofs.Pairs.{zero_is, pairs_none, zeros_at}
-use Rattle.zero_file.proofs.Heads.{short_believed}
-
-both_true : (a b : Bool) → (a && b) ≡ true → (a ≡ true) × (b ≡ true)
-both_true true b is = (refl, is)
-both_true false b is = absurd (false≢true is)
+use Rattle.zero_file.specs.Choice.{choice_bytes, IsUnused}
+use Rattle.zero_file.proofs.Choices.{unchosen, short_unused}
+use Rattle.zero_file.proofs.Most.{both_are}
 
 -- each byte is 0 or that of a new head
 blank_at : (at : ℕ) (file : List ℕ) (i : ℕ) → is_blank_from at file ≡ true
@@ -19,11 +17,11 @@ blank_at at [] i is =
 blank_at at (byte ∷ file) zero is =
     let here : at + 0 ≡ at = omega arith in
     ap (λ (n : ℕ). (byte == 0) || (byte == head_byte n)) here
-    ∙ (both_true _ (is_blank_from (suc at) file) is).0
+    ∙ (both_are _ (is_blank_from (suc at) file) is).0
 blank_at at (byte ∷ file) (suc i) is =
     let next : at + suc i ≡ suc at + i = omega arith in
     ap (λ (n : ℕ). (get_or file i 0 == 0) || (get_or file i 0 == head_byte n)) next
-    ∙ blank_at (suc at) file i (both_true _ (is_blank_from (suc at) file) is).1
+    ∙ blank_at (suc at) file i (both_are _ (is_blank_from (suc at) file) is).1
 
 is_zero : (byte : ℕ) → ((byte == 0) || (byte == 0)) ≡ true → byte ≡ 0
 is_zero byte is = elim (cases_Bool (byte == 0)) [
@@ -43,11 +41,23 @@ pub unmarked : (file : List ℕ) → get_or file 17 0 ≡ 0 → get_or file 18 0
 unmarked file one other =
     ap (λ (n : ℕ). take (1048576 * n) (drop 4096 file))
     (pairs_none (marks_of file)
-    (get_or-take 4078 (drop 17 file) 0 0 (omega arith) ∙ get_or-drop 17 file 0 0 ∙ one)
-    (get_or-take 4078 (drop 17 file) 1 0 (omega arith) ∙ get_or-drop 17 file 1 0 ∙ other))
+    (get_or-take 4074 (drop 17 file) 0 0 (omega arith) ∙ get_or-drop 17 file 0 0 ∙ one)
+    (get_or-take 4074 (drop 17 file) 1 0 (omega arith) ∙ get_or-drop 17 file 1 0 ∙ other))
 
 pub blank_believed : (file : List ℕ) → is_blank file ≡ true → believed file ≡ []
 blank_believed file blank = unmarked file (first_mark file blank) (second_mark file blank)
+
+first_choice : (file : List ℕ) → is_blank file ≡ true → get_or file 4091 0 ≡ 0
+first_choice file blank = is_zero (get_or file 4091 0) (blank_at 0 file 4091 blank)
+
+second_choice : (file : List ℕ) → is_blank file ≡ true → get_or file 4092 0 ≡ 0
+second_choice file blank = is_zero (get_or file 4092 0) (blank_at 0 file 4092 blank)
+
+pub blank_unused : (file : List ℕ) → is_blank file ≡ true → IsUnused file
+blank_unused file blank = record {
+  text = blank_believed file blank;
+  choice = unchosen file (first_choice file blank) (second_choice file blank);
+}
 
 -- ---- zeros
 
@@ -62,10 +72,10 @@ from_0 : (i : ℕ) → i ≡ 0 + i
 from_0 i = omega arith
 
 -- a file that was shorter than a head and is now as long, all zeros
-pub long_zeros : (n : ℕ) (old new zeros : List ℕ) → zeros ≡ replicate n 0 → n ≡ 4096
-    → length old < 4096 → Torn 0 (length zeros) old new
+pub long_zeros : (n : ℕ) (old new zeros : List ℕ) → zeros ≡ replicate n 0 → n ≡ 4095
+    → length old < 4095 → Torn 0 (length zeros) old new
     → (0 < length zeros → Holds new 0 zeros)
-    → (is_blank new ≡ true) × (4096 ≤ length new)
+    → (is_blank new ≡ true) × (4095 ≤ length new)
 long_zeros n old new zeros are size short torn holds =
     let count : length zeros ≡ n = ap length are ∙ length-replicate n 0 in
     let there = holds (omega (arith, count, size)) in
@@ -79,32 +89,46 @@ long_zeros n old new zeros are size short torn holds =
       omega (arith, within, count, size),
     )
 
-pub short_left : (n : ℕ) (old c : List ℕ) → n ≡ 4096 → length old < 4096 → Torn 0 n old c
-    → believed c ≡ []
+pub short_left : (n : ℕ) (old c : List ℕ) → n ≡ 4095 → length old < 4095 → Torn 0 n old c
+    → IsUnused c
 short_left n old c size short torn =
-    let most = torn.no_longer in short_believed c (omega (arith, most, size, short))
+    let most = torn.no_longer in short_unused c (omega (arith, most, size, short))
 
 -- ---- a new head over it
 
-head_at : (head : List ℕ) (size : ℕ) → IsHead head size 0 → (i : ℕ) → i < 4078
+head_at : (head : List ℕ) (size : ℕ) → IsHead head size 0 → (i : ℕ) → i < 4074
     → get_or head (17 + i) 0 ≡ 0
 head_at head size is i less =
-    sym (get_or-take 4078 (drop 17 head) i 0 less ∙ get_or-drop 17 head i 0)
-    ∙ ap (λ (t : List ℕ). get_or t i 0) is.later ∙ zeros_at (4078 - 2 * 0) i
+    sym (get_or-take 4074 (drop 17 head) i 0 less ∙ get_or-drop 17 head i 0)
+    ∙ ap (λ (t : List ℕ). get_or t i 0) is.later ∙ zeros_at (4074 - 2 * 0) i
 
-pub head_left : (file c head : List ℕ) (size : ℕ) → is_blank file ≡ true
-    → 4096 ≤ length file → IsHead head size 0 → length head ≡ 4096 → Mixed 0 head file c
-    → believed c ≡ []
-head_left file c head size blank long is count mixed =
-    unmarked c
-    (elim (mixed.each 17 (omega (arith, count)) (omega (arith, long))) [
-      | inl same ↦ same ∙ first_mark file blank
-      | inr new ↦ new ∙ head_at head size is 0 (omega arith)
-    ])
-    (elim (mixed.each 18 (omega (arith, count)) (omega (arith, long))) [
-      | inl same ↦ same ∙ second_mark file blank
-      | inr new ↦ new ∙ head_at head size is 1 (omega arith)
-    ])
+choice_at : (head : List ℕ) (i : ℕ) → choice_of head ≡ choice_bytes false → i < 3
+    → get_or head (4091 + i) 0 ≡ get_or (choice_bytes false) i 0
+choice_at head i is less =
+    sym (get_or-take 3 (drop 4091 head) i 0 less ∙ get_or-drop 4091 head i 0)
+    ∙ ap (λ (t : List ℕ). get_or t i 0) is
+
+module _ (file c head : List ℕ) (size : ℕ) (blank : is_blank file ≡ true)
+    (long : 4095 ≤ length file) (is : IsHead head size 0) (count : length head ≡ 4096)
+    (none : choice_of head ≡ choice_bytes false) (mixed : Mixed 0 head file c) where
+  zero_at : (i : ℕ) → i < 4095 → get_or file i 0 ≡ 0 → get_or head i 0 ≡ 0 → get_or c i 0 ≡ 0
+  zero_at i less before after =
+      elim (mixed.each i (omega (arith, count, less)) (omega (arith, long, less))) [
+        | inl same ↦ ap (λ (k : ℕ). get_or c k 0) (from_0 i) ∙ same
+            ∙ ap (λ (k : ℕ). get_or file k 0) (sym (from_0 i)) ∙ before
+        | inr new ↦ ap (λ (k : ℕ). get_or c k 0) (from_0 i) ∙ new ∙ after
+      ]
+
+  pub head_left : IsUnused c
+  head_left = record {
+    text = unmarked c
+        (zero_at 17 (omega arith) (first_mark file blank) (head_at head size is 0 (omega arith)))
+        (zero_at 18 (omega arith) (second_mark file blank) (head_at head size is 1 (omega arith)));
+    choice = unchosen c
+        (zero_at 4091 (omega arith) (first_choice file blank) (choice_at head 0 none (omega arith)))
+        (zero_at 4092 (omega arith) (second_choice file blank)
+        (choice_at head 1 none (omega arith)));
+  }
 
 -- ---- reading one byte after the other
 
@@ -127,3 +151,23 @@ blank_no_more file at less is =
 pub blank_end : (file : List ℕ) (at : ℕ) → length file ≤ at
     → is_blank_from at (drop at file) ≡ true
 blank_end file at past = ap (is_blank_from at) (drop_all at file past)
+
+-- ---- the front of a file
+
+-- the front of a blank file is blank
+blank_front : (at n : ℕ) (file : List ℕ) → is_blank_from at file ≡ true
+    → is_blank_from at (take n file) ≡ true
+blank_front at zero file is = refl
+blank_front at (suc n) [] is = refl
+blank_front at (suc n) (byte ∷ file) is =
+    let both = both_are _ (is_blank_from (suc at) file) is in
+    ap (λ (b : Bool). b && is_blank_from (suc at) (take n file)) both.0
+    ∙ blank_front (suc at) n file both.1
+
+-- so where the front isn't, the file isn't
+pub front_other : (file front : List ℕ) (n : ℕ) → front ≡ take n file → is_blank front ≡ false
+    → is_blank file ≡ false
+front_other file front n are other = elim (cases_Bool (is_blank file)) [
+  | inl blank ↦ absurd (false≢true (sym other ∙ ap is_blank are ∙ blank_front 0 n file blank))
+  | inr none ↦ none
+]

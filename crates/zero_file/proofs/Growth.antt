@@ -16,7 +16,7 @@ use Rattle.zero_file.proofs.Writing.{is_written, length-middle, holds_take}
 
 -- ---- the next pair of marks
 
-module _ (file : List ℕ) (k : ℕ) (head : IsHeaded file k) (less : k < 2039) (a b : ℕ) where
+module _ (file : List ℕ) (k : ℕ) (head : IsHeaded file k) (less : k < 2037) (a b : ℕ) where
   abbrev marked : List ℕ
   marked = written (17 + 2 * k) (a ∷ b ∷ []) file
 
@@ -27,21 +27,21 @@ module _ (file : List ℕ) (k : ℕ) (head : IsHeaded file k) (less : k < 2039) 
   inside = let fits = head.fits in omega (arith, fits, less)
 
   room : 2 * k + 2 ≤ length marks
-  room = let fits = head.fits in let some = length-take 4078 (drop 17 file) in let here =
+  room = let fits = head.fits in let some = length-take 4074 (drop 17 file) in let here =
       length-drop 17 file in omega (arith, fits, less, some, here)
 
   new_marks : marks_of marked ≡ written (2 * k) (a ∷ b ∷ []) marks
-  new_marks = ap (take 4078) (written_behind 17 (2 * k) (a ∷ b ∷ []) file inside)
-      ∙ written_within 4078 (2 * k) (a ∷ b ∷ []) (drop 17 file) room
+  new_marks = ap (take 4074) (written_behind 17 (2 * k) (a ∷ b ∷ []) file inside)
+      ∙ written_within 4074 (2 * k) (a ∷ b ∷ []) (drop 17 file) room
 
-  zeros_later : drop (2 * k + 2) marks ≡ replicate (4078 - 2 * k - 2) 0
+  zeros_later : drop (2 * k + 2) marks ≡ replicate (4074 - 2 * k - 2) 0
   zeros_later = sym (drop-drop 2 (2 * k) marks) ∙ ap (drop 2) head.later
-      ∙ drop-replicate 2 (4078 - 2 * k) 0
+      ∙ drop-replicate 2 (4074 - 2 * k) 0
 
   pub one_more : is_pair a b ≡ true → pairs (marks_of marked) ≡ k + 1
   one_more is = ap pairs new_marks
       ∙ pairs_put k marks a b (drop (2 * k + 2) marks) head.count is
-      (ap pairs zeros_later ∙ pairs_zeros (4078 - 2 * k - 2))
+      (ap pairs zeros_later ∙ pairs_zeros (4074 - 2 * k - 2))
 
   pub no_more : is_pair a b ≡ false → pairs (marks_of marked) ≡ k
   no_more is = ap pairs new_marks
@@ -50,10 +50,10 @@ module _ (file : List ℕ) (k : ℕ) (head : IsHeaded file k) (less : k < 2039) 
   pub same_behind : drop 4096 marked ≡ drop 4096 file
   same_behind = written_after (17 + 2 * k) 4096 (a ∷ b ∷ []) file inside (omega (arith, less))
 
-  later_is : drop (2 * (k + 1)) (marks_of marked) ≡ replicate (4078 - 2 * (k + 1)) 0
+  later_is : drop (2 * (k + 1)) (marks_of marked) ≡ replicate (4074 - 2 * (k + 1)) 0
   later_is =
       let next : 2 * (k + 1) ≡ 2 * k + 2 = omega arith in
-      let left : 4078 - 2 * k - 2 ≡ 4078 - 2 * (k + 1) = omega arith in
+      let left : 4074 - 2 * k - 2 ≡ 4074 - 2 * (k + 1) = omega arith in
       ap (drop (2 * (k + 1))) new_marks
       ∙ written_after (2 * k) (2 * (k + 1)) (a ∷ b ∷ []) marks
       (let fits = room in omega (arith, fits)) (omega arith)
@@ -76,6 +76,12 @@ module _ (file : List ℕ) (k : ℕ) (head : IsHeaded file k) (less : k < 2039) 
       ∙ ap (λ (t : Bool). t || list_any is_other (drop (2 * k + 2) marks)) other
       ∙ back
 
+  later_part : (at count : ℕ) (new : List ℕ) → new ≡ marked → 4091 ≤ at
+      → take count (drop at new) ≡ take count (drop at file)
+  later_part at count new is behind = ap (λ (t : List ℕ). take count (drop at t)) is
+      ∙ ap (take count) (written_after (17 + 2 * k) at (a ∷ b ∷ []) file inside
+      (omega (arith, less, behind)))
+
   pub is_marked : (new : List ℕ) → new ≡ marked → length new ≡ length file
       → 4096 + 1048576 * (k + 1) ≤ length file → is_pair a b ≡ true
       → is_other a ≡ false → is_other b ≡ false → IsHeaded new (k + 1)
@@ -86,10 +92,9 @@ module _ (file : List ℕ) (k : ℕ) (head : IsHeaded file k) (less : k < 2039) 
     marks = ap (list_any is_other) (ap marks_of is ∙ new_marks) ∙ no_other one other;
     count = ap (λ (t : List ℕ). pairs (marks_of t)) is ∙ one_more pair;
     later = ap (λ (t : List ℕ). drop (2 * (k + 1)) (marks_of t)) is ∙ later_is;
-    feed = ap (λ (t : List ℕ). take 1 (drop 4095 t)) is
-        ∙ ap (take 1) (written_after (17 + 2 * k) 4095 (a ∷ b ∷ []) file inside
-        (omega (arith, less)))
-        ∙ head.feed;
+    choice = ap (list_any is_other) (later_part 4091 3 new is (omega arith)) ∙ head.choice;
+    gap = later_part 4094 1 new is (omega arith) ∙ head.gap;
+    feed = later_part 4095 1 new is (omega arith) ∙ head.feed;
     fits = omega (arith, size, long);
   }
 
@@ -101,7 +106,7 @@ pair_of (a ∷ []) size = absurd (omega (arith, size))
 pair_of (a ∷ b ∷ []) size = (a, b, refl)
 pair_of (a ∷ b ∷ c ∷ bytes) size = absurd (omega (arith, size))
 
-pub marks_leave : (file c : List ℕ) (k : ℕ) → IsHeaded file k → k < 2039
+pub marks_leave : (file c : List ℕ) (k : ℕ) → IsHeaded file k → k < 2037
     → Torn (17 + 2 * k) 2 file c
     → (believed c ≡ believed file)
     ⊎ (believed c ≡ take (1048576 * (k + 1)) (drop 4096 file))
@@ -180,7 +185,7 @@ pub holds_to : (at : ℕ) (bytes a b : List ℕ) → b ≡ a → (0 < length byt
 holds_to at bytes a b same holds some =
     subst (λ (t : List ℕ). Holds t at bytes) (sym same) (holds some)
 
-pub marks_put : (file new bytes : List ℕ) (k at : ℕ) → k < 2039 → at ≡ 17 + 2 * k
+pub marks_put : (file new bytes : List ℕ) (k at : ℕ) → k < 2037 → at ≡ 17 + 2 * k
     → bytes ≡ 43 ∷ 43 ∷ [] → (at + length bytes ≤ length file → new ≡ written at bytes file)
     → (at + length bytes ≤ length file → length new ≡ length file)
     → IsHeaded file k → 4096 + 1048576 * (k + 1) ≤ length file
@@ -196,7 +201,7 @@ marks_put file new bytes k at less is are put same head long =
       ap (drop 4096) new_is ∙ same_behind file k head less 43 43,
     )
 
-pub marks_left : (file d c : List ℕ) (k at n : ℕ) → k < 2039 → at ≡ 17 + 2 * k → n ≡ 2
+pub marks_left : (file d c : List ℕ) (k at n : ℕ) → k < 2037 → at ≡ 17 + 2 * k → n ≡ 2
     → d ≡ file → Torn at n d c → IsHeaded file k
     → (believed c ≡ believed file)
     ⊎ (believed c ≡ take (1048576 * (k + 1)) (drop 4096 file))

@@ -5,14 +5,17 @@ use Rattle.std.proofs.lemmas.Bool.{cases_lt}
 use Rattle.std.proofs.lemmas.List.{length-take, length-take-le, take_all, drop_all, drop-drop}
 use Rattle.sqlite_disk.specs.Disk.{Torn, Mixed}
 use Rattle.journal.specs.Crashes.{Mixes, written}
-use Rattle.zero_file.specs.Head.{marks_of, is_other, pairs, believed, IsHead, IsHeaded}
+use Rattle.zero_file.specs.Head.{marks_of, choice_of, is_other, pairs, believed, IsHead, IsHeaded}
 use Rattle.zero_file.proofs.Fronts.{take_front, slice_front, torn_front, slice_within, written_front, written_behind, written_within}
 use Rattle.zero_file.proofs.Writing.{put_mixed}
 
 -- ---- the head is in the first 4,096 bytes
 
 pub same_marks : (a b : List ℕ) → take 4096 a ≡ take 4096 b → marks_of a ≡ marks_of b
-same_marks a b same = slice_front a b 17 4078 (take_front a b 4095 4096 (omega arith) same)
+same_marks a b same = slice_front a b 17 4074 (take_front a b 4091 4096 (omega arith) same)
+
+pub same_choice : (a b : List ℕ) → take 4096 a ≡ take 4096 b → choice_of a ≡ choice_of b
+same_choice a b same = slice_front a b 4091 3 (take_front a b 4094 4096 (omega arith) same)
 
 pub head_same : (a b : List ℕ) (size more steps : ℕ) → take 4096 a ≡ take 4096 b → size ≤ more
     → IsHead a size steps → IsHead b more steps
@@ -23,6 +26,8 @@ head_same a b size more steps same le head =
       marks = ap (list_any is_other) marks ∙ head.marks;
       count = ap pairs marks ∙ head.count;
       later = ap (drop (2 * steps)) marks ∙ head.later;
+      choice = ap (list_any is_other) (sym (same_choice a b same)) ∙ head.choice;
+      gap = sym (slice_front a b 4094 1 (take_front a b 4095 4096 (omega arith) same)) ∙ head.gap;
       feed = sym (slice_front a b 4095 1 same) ∙ head.feed;
       fits = let enough = head.fits in omega (arith, enough, le);
     }

@@ -1,10 +1,17 @@
 mod Blanks
+mod Choices
 mod Fronts
 mod Growth
 mod Heads
+mod MixedBytes
+mod Most
 mod NewHeads
 mod Openings
 mod Pairs
+mod PutChoices
+mod ReadHeads
 mod Rooms
 mod Texts
+mod ThreeBytes
 mod Writing
+mod Zeroing

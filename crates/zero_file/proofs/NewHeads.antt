@@ -1,175 +1,83 @@
--- The head of a new file, and how a head is read.
-use Rattle.std.proofs.Common.{◌≡◌, ◌∙◌, ap, sym, refl, ℕ, ◌+◌, ◌-◌, ◌*◌, ◌<◌, ◌≤◌, min, List, [], ◌∷◌, ◌++◌, length, take, drop, replicate, slice_index, get_or, Bool, true, false, inl, inr, bytes_eq, Result, Ok, Err, arith, append_assoc, length-append, length-drop, get_or-take, get_or-drop}
+-- The head of a new file.
+use Rattle.std.proofs.Common.{◌≡◌, ◌∙◌, ap, sym, refl, ℕ, ◌+◌, ◌-◌, ◌*◌, ◌≤◌, List, [], ◌∷◌, ◌++◌, length, take, drop, replicate, false, Result, Ok, Err, arith, append_assoc, length-append}
 use Rattle.std.specs.List.{list_any}
-use Rattle.std.specs.Prelude.{IfOk, IsErrAnd}
-use Rattle.std.proofs.lemmas.Bool.{cases_Bool, cases_lt, true≢false}
-use Rattle.std.proofs.lemmas.List.{length-take, length-take-le, length-replicate, take-take, take_at, drop_at, drop_more, take_all}
-use Rattle.std.proofs.lemmas.Slice.Eq.{bytes_eq-Decides}
-use Rattle.journal.specs.Crashes.{written}
-use Rattle.zero_file.specs.Head.{first_line, marks_of, is_other, is_there, pairs, IsHead, IsHeaded}
-use Rattle.zero_file.proofs.Fronts.{take_front}
-use Rattle.zero_file.proofs.Pairs.{pairs_zeros, no_others, none_there, all_zeros}
+use Rattle.std.specs.Prelude.{IfOk}
+use Rattle.std.proofs.lemmas.List.{length-replicate, replicate-append-replicate, drop-drop, take_at, drop_at, take_all}
+use Rattle.sqlite_disk.specs.Disk.{Holds}
+use Rattle.zero_file.specs.Head.{first_line, marks_of, choice_of, is_other, pairs, IsHead, IsHeaded}
+use Rattle.zero_file.proofs.Pairs.{pairs_zeros, no_others}
+use Rattle.zero_file.specs.Choice.{choice_bytes}
 use Rattle.zero_file.proofs.Heads.{head_same}
+use Rattle.zero_file.proofs.Writing.{holds_take}
 
 module _ (head : List ℕ) (n : ℕ) (is : head ≡ first_line ++ (replicate n 0 ++ 10 ∷ []))
     (count : n ≡ 4078) where
-  zeros : length {A = ℕ} (replicate n 0) ≡ n
-  zeros = length-replicate n 0
+  abbrev zeros : List ℕ
+  zeros = replicate (n - 4) 0
 
-  marks_are : marks_of head ≡ replicate n 0
-  marks_are = ap (λ (t : List ℕ). take 4078 (drop 17 t)) is
-      ∙ ap (take 4078) (drop_at first_line (replicate n 0 ++ 10 ∷ []) 17 refl)
-      ∙ take_at (replicate n 0) (10 ∷ []) 4078 (zeros ∙ count)
+  abbrev last : List ℕ
+  last = 0 ∷ 0 ∷ 0 ∷ 0 ∷ 10 ∷ []
 
-  front : length (first_line ++ replicate n 0) ≡ 4095
-  front = length-append first_line (replicate n 0)
-      ∙ (let long = zeros in omega (arith, long, count))
+  -- the marks, and what stands behind them
+  head_is : head ≡ first_line ++ (zeros ++ last)
+  head_is =
+      let all : n ≡ n - 4 + 4 = omega (arith, count) in
+      is ∙ ap (λ (k : ℕ). first_line ++ (replicate k 0 ++ 10 ∷ [])) all
+      ∙ ap (λ (t : List ℕ). first_line ++ (t ++ 10 ∷ []))
+      (sym (replicate-append-replicate (n - 4) 4 0))
+      ∙ ap (λ (t : List ℕ). first_line ++ t)
+      (append_assoc zeros (0 ∷ 0 ∷ 0 ∷ 0 ∷ []) (10 ∷ []))
+
+  zeros_long : length zeros ≡ 4074
+  zeros_long = length-replicate (n - 4) 0 ∙ omega (arith, count)
+
+  marks_are : marks_of head ≡ zeros
+  marks_are = ap (λ (t : List ℕ). take 4074 (drop 17 t)) head_is
+      ∙ ap (take 4074) (drop_at first_line (zeros ++ last) 17 refl)
+      ∙ take_at zeros last 4074 zeros_long
+
+  last_is : drop 4091 head ≡ last
+  last_is = ap (drop 4091) (head_is ∙ sym (append_assoc first_line zeros last))
+      ∙ drop_at (first_line ++ zeros) last 4091
+      (length-append first_line zeros ∙ (let long = zeros_long in omega (arith, long)))
+
+  behind_last : (k : ℕ) → drop (4091 + k) head ≡ drop k last
+  behind_last k = sym (drop-drop k 4091 head) ∙ ap (drop k) last_is
+
+  pub new_choice : choice_of head ≡ choice_bytes false
+  new_choice = ap (take 3) last_is
 
   pub new_size : length head ≡ 4096
   new_size =
-      let both = length-append first_line (replicate n 0 ++ 10 ∷ []) in
-      let rest = length-append {A = ℕ} (replicate n 0) (10 ∷ []) in
-      let long = zeros in
-      ap length is ∙ omega (arith, both, rest, long, count)
+      let both = length-append first_line (zeros ++ last) in
+      let rest = length-append zeros last in
+      let long = zeros_long in
+      ap length head_is ∙ omega (arith, both, rest, long)
 
   pub new_head_is : (size steps : ℕ) → steps ≡ 0 → 4096 ≤ size → IsHead head size steps
   new_head_is size steps none le = record {
-    line = ap (take 17) is ∙ take_at first_line (replicate n 0 ++ 10 ∷ []) 17 refl;
-    marks = ap (list_any is_other) marks_are ∙ no_others n;
-    count = ap pairs marks_are ∙ pairs_zeros n ∙ sym none;
+    line = ap (take 17) head_is ∙ take_at first_line (zeros ++ last) 17 refl;
+    marks = ap (list_any is_other) marks_are ∙ no_others (n - 4);
+    count = ap pairs marks_are ∙ pairs_zeros (n - 4) ∙ sym none;
     later =
         let nothing : 2 * steps ≡ 0 = omega (arith, none) in
-        let left : n ≡ 4078 - 2 * steps = omega (arith, none, count) in
+        let left : n - 4 ≡ 4074 - 2 * steps = omega (arith, none, count) in
         ap (λ (k : ℕ). drop k (marks_of head)) nothing
         ∙ marks_are ∙ ap (λ (k : ℕ). replicate k 0) left;
-    feed = ap (λ (t : List ℕ). take 1 (drop 4095 t))
-        (is ∙ sym (append_assoc first_line (replicate n 0) (10 ∷ [])))
-        ∙ ap (take 1) (drop_at (first_line ++ replicate n 0) (10 ∷ []) 4095 front);
+    choice = ap (λ (t : List ℕ). list_any is_other (take 3 t)) last_is;
+    gap = ap (take 1) (behind_last 3);
+    feed = ap (take 1) (behind_last 4);
     fits = omega (arith, none, le);
   }
 
 -- put over the front of a file
-pub put_new : (head file new : List ℕ) (steps : ℕ) → IsHead head 4096 steps
-    → length head ≡ 4096 → 4096 ≤ length file → new ≡ written 0 head file
-    → length new ≡ length file → IsHeaded new steps
-put_new head file new steps is count long put size =
+pub put_new : (head new : List ℕ) (steps : ℕ) → IsHead head 4096 steps → length head ≡ 4096
+    → Holds new 0 head → IsHeaded new steps
+put_new head new steps is count there =
     head_same head new 4096 (length new) steps
-    (take_all 4096 head (omega (arith, count))
-    ∙ sym (ap (take 4096) put ∙ take_at head (drop (0 + length head) file) 4096 count))
-    (omega (arith, long, size)) is
-
--- ---- reading
-
-pub feed_from : (head : List ℕ) → length head ≡ 4096 → slice_index head 4095 ≡ 10
-    → take 1 (drop 4095 head) ≡ 10 ∷ []
-feed_from head size is =
-    ap (take 1) (drop_more head 4095 0 (omega (arith, size)))
-    ∙ ap (λ (b : ℕ). b ∷ []) is
-
-pub feed_to : (head : List ℕ) → take 1 (drop 4095 head) ≡ 10 ∷ [] → slice_index head 4095 ≡ 10
-feed_to head is =
-    sym (get_or-take 1 (drop 4095 head) 0 0 (omega arith) ∙ get_or-drop 4095 head 0 0)
-    ∙ ap (λ (t : List ℕ). get_or t 0 0) is
-
-pub long_enough : (head : List ℕ) → take 1 (drop 4095 head) ≡ 10 ∷ [] → 4096 ≤ length head
-long_enough head is =
-    let size = ap length is in
-    let some = length-take 1 (drop 4095 head) in
-    let here = length-drop 4095 head in
-    omega (arith, size, some, here)
-
-pub no_first_line : (head : List ℕ) → length head < 17
-    → bytes_eq (take 17 head) first_line ≡ false
-no_first_line head short = elim (cases_Bool (bytes_eq (take 17 head) first_line)) [
-  | inl same ↦ absurd (omega (
-    arith,
-    short,
-    ap length ((bytes_eq-Decides (take 17 head) first_line).0 same),
-    length-take 17 head,
-  ))
-  | inr other ↦ other
-]
-
--- the first bytes of a file
-pub front_of : (file block : List ℕ) (size count : ℕ) → size ≡ length file → count ≡ min size 4096
-    → block ≡ take count file → take 4096 block ≡ take 4096 file
-front_of file block size count is less are =
-    let rest : take 4096 (take count file) ≡ take 4096 file = elim (cases_lt 4096 size) [
-      | inl more ↦ take-take 4096 count file (omega (arith, less, more))
-      | inr few ↦ ap (take 4096) (take_all count file (omega (arith, is, less, few)))
-    ] in
-    ap (take 4096) are ∙ rest
-
-pub is_first : (head : List ℕ) (found : Bool) → found ≡ bytes_eq (take 17 head) first_line
-    → found ≡ true → take 17 head ≡ first_line
-is_first head found is same = (bytes_eq-Decides (take 17 head) first_line).0 (sym is ∙ same)
-
--- a byte behind the pairs that count
-pub no_byte : (head : List ℕ) (size steps k : ℕ) (has : Bool) → k ≡ pairs (marks_of head)
-    → has ≡ list_any is_there (drop (2 * k) (marks_of head)) → has ≡ true
-    → IsHead head size steps → ⊥
-no_byte head size steps k has count is there known =
-    let same : k ≡ steps = count ∙ known.count in
-    true≢false (sym there ∙ is
-    ∙ ap (λ (n : ℕ). list_any is_there (drop (2 * n) (marks_of head))) same
-    ∙ ap (list_any is_there) known.later ∙ none_there (4078 - 2 * steps))
-
-later_zeros : (head : List ℕ) (k : ℕ) → length head ≡ 4096
-    → list_any is_there (drop (2 * k) (marks_of head)) ≡ false
-    → drop (2 * k) (marks_of head) ≡ replicate (4078 - 2 * k) 0
-later_zeros head k size none =
-    let marks = marks_of head in
-    let back = length-drop 17 head in
-    let long : length marks ≡ 4078 =
-    length-take-le 4078 (drop 17 head) (omega (arith, back, size)) in
-    all_zeros (drop (2 * k) marks) none
-    ∙ ap (λ (n : ℕ). replicate {A = ℕ} n 0) (length-drop (2 * k) marks
-    ∙ ap (λ (n : ℕ). n - 2 * k) long)
-
-pub read_is_head : (head : List ℕ) (size k end : ℕ) (other has : Bool) → length head ≡ 4096
-    → take 17 head ≡ first_line → other ≡ list_any is_other (marks_of head) → other ≡ false
-    → k ≡ pairs (marks_of head) → has ≡ list_any is_there (drop (2 * k) (marks_of head))
-    → has ≡ false → slice_index head 4095 ≡ 10 → end ≡ 4096 + 1048576 * k → end ≤ size
-    → IsHead head size k
-read_is_head head size k end other has long line marks no_other count later none feed is fits =
-    record {
-      line = line;
-      marks = sym marks ∙ no_other;
-      count = sym count;
-      later = later_zeros head k long (sym later ∙ none);
-      feed = feed_from head long feed;
-      fits = omega (arith, is, fits);
-    }
-
--- ---- the head that was read is that of the file
-
-module _ (file block : List ℕ) (size count : ℕ) (is : size ≡ length file)
-    (less : count ≡ min size 4096) (are : block ≡ take count file) where
-  same_front : take 4096 block ≡ take 4096 file
-  same_front = front_of file block size count is less are
-
-  same_line : take 17 file ≡ take 17 block
-  same_line = take_front file block 17 4096 (omega arith) (sym same_front)
-
-  pub file_headed : (steps : ℕ) → IsHead block size steps → IsHeaded file steps
-  file_headed steps head =
-      head_same block file size (length file) steps same_front (omega (arith, is)) head
-
-  pub file_damaged : (take 17 block ≡ first_line) × ((steps : ℕ) → IsHead block size steps → ⊥)
-      → (take 17 file ≡ first_line) × ((steps : ℕ) → IsHeaded file steps → ⊥)
-  file_damaged told = (
-    same_line ∙ told.0,
-    λ steps head. told.1 steps
-        (head_same file block (length file) size steps (sym same_front) (omega (arith, is)) head),
-  )
-
-  pub file_other : bytes_eq (take 17 block) first_line ≡ false
-      → bytes_eq (take 17 file) first_line ≡ false
-  file_other other = ap (λ (t : List ℕ). bytes_eq t first_line) same_line ∙ other
-
-pub all_of : (file block : List ℕ) (size : ℕ) → size ≡ length file → block ≡ take size file
-    → block ≡ file
-all_of file block size is are = are ∙ take_all size file (omega (arith, is))
+    (take_all 4096 head (omega (arith, count)) ∙ holds_take 0 new head there
+    ∙ ap (λ (n : ℕ). take n new) count)
+    (let within = there.within in omega (arith, within, count)) is
 
 -- ---- results
 
@@ -177,11 +85,3 @@ pub if_ok : {T E : Type 0} {P Q : T → Type 0} (result : Result T E) → ((x : 
     → IfOk result P → IfOk result Q
 if_ok (Ok x) f p = f x p
 if_ok (Err e) f p = tt
-
--- an error that was passed on
-pub same_error : {T U E : Type 0} (inner : Result T E) (outer : Result U E) (error told : E)
-    → inner ≡ Err error → IsErrAnd outer (λ other. other ≡ error) → outer ≡ Err told
-    → inner ≡ Err told
-same_error inner (Ok x) error told is passed out = absurd passed
-same_error inner (Err other) error told is passed out =
-    let same : other ≡ told = cc out in is ∙ ap Err (sym passed ∙ same)

@@ -1,40 +1,46 @@
 -- A file that gets its first head.
-use Rattle.std.proofs.Common.{◌≡◌, ◌∙◌, ap, sym, subst, ℕ, ◌<◌, ◌≤◌, List, [], length, replicate, true, arith}
+use Rattle.std.proofs.Common.{◌≡◌, ◌∙◌, ap, sym, subst, ℕ, ◌<◌, ◌≤◌, List, length, replicate, true, false, arith}
 use Rattle.std.proofs.lemmas.List.{length-replicate}
 use Rattle.sqlite_disk.specs.Disk.{Torn, Mixed}
 use Rattle.journal.specs.Crashes.{Only}
-use Rattle.zero_file.specs.Head.{believed, is_blank, IsHead}
-use Rattle.zero_file.proofs.Blanks.{blank_believed, short_left, head_left}
+use Rattle.zero_file.specs.Head.{choice_of, is_blank, IsHead}
+use Rattle.zero_file.specs.Choice.{choice_bytes, SameChoice, IsUnused}
+use Rattle.zero_file.proofs.Blanks.{blank_unused, short_left, head_left}
 
-pub blank_left : (file c : List ℕ) → is_blank file ≡ true → c ≡ file → believed c ≡ []
-blank_left file c blank same = ap believed same ∙ blank_believed file blank
+pub blank_left : (file c : List ℕ) → is_blank file ≡ true → c ≡ file → IsUnused c
+blank_left file c blank same = subst IsUnused (sym same) (blank_unused file blank)
 
-pub long_left : (zeros file d c : List ℕ) (n size : ℕ) → zeros ≡ replicate n 0 → n ≡ 4096
-    → size < 4096 → size ≡ length file → d ≡ file → Torn 0 (length zeros) d c → believed c ≡ []
+pub long_left : (zeros file d c : List ℕ) (n size : ℕ) → zeros ≡ replicate n 0 → n ≡ 4095
+    → size < 4095 → size ≡ length file → d ≡ file → Torn 0 (length zeros) d c → IsUnused c
 long_left zeros file d c n size are count less is same torn =
     let long = ap length are ∙ length-replicate n 0 in
     short_left (length zeros) d c (long ∙ count)
     (let e = ap length same in omega (arith, less, is, e)) torn
 
-pub new_left : (file d c head : List ℕ) (size : ℕ) → is_blank file ≡ true → 4096 ≤ length file
-    → IsHead head size 0 → length head ≡ 4096 → d ≡ file → Mixed 0 head d c → believed c ≡ []
-new_left file d c head size blank long is count same mixed =
-    head_left file c head size blank long is count
+pub new_left : (file d c head : List ℕ) (size : ℕ) → is_blank file ≡ true → 4095 ≤ length file
+    → IsHead head size 0 → length head ≡ 4096 → choice_of head ≡ choice_bytes false → d ≡ file
+    → Mixed 0 head d c → IsUnused c
+new_left file d c head size blank long is count none same mixed =
+    head_left file c head size blank long is count none
     (subst (λ (t : List ℕ). Mixed 0 head t c) same mixed)
 
-pub none_then_none : (old new : List ℕ) → is_blank old ≡ true → believed new ≡ []
-    → believed new ≡ believed old
-none_then_none old new blank none = none ∙ sym (blank_believed old blank)
+pub unused_then_unused : (old new : List ℕ) → is_blank old ≡ true → IsUnused new
+    → SameChoice old new
+unused_then_unused old new blank none =
+    let before = blank_unused old blank in record {
+      text = none.text ∙ sym before.text;
+      choice = none.choice ∙ sym before.choice;
+    }
 
 -- a file that was synced, was found to have no head, and got one or a part of it
 pub opened_left : (old synced found : List ℕ) (rest kept new : List ℕ → Type 0) (size count : ℕ)
     → synced ≡ old → found ≡ synced → Only synced rest → ((c : List ℕ) → kept c → rest c)
     → (is_blank synced ≡ true) × (count ≡ length synced) → size ≡ count
     → (size ≡ length found → is_blank found ≡ true → Only found kept
-    → (c : List ℕ) → new c → believed c ≡ [])
-    → (c : List ℕ) → new c → believed c ≡ believed old
+    → (c : List ℕ) → new c → IsUnused c)
+    → (c : List ℕ) → new c → SameChoice old c
 opened_left old synced found rest kept new size count same still durable fewer blank long crash c
     may =
-    none_then_none old c (ap is_blank (sym same) ∙ blank.0)
+    unused_then_unused old c (ap is_blank (sym same) ∙ blank.0)
     (crash (long ∙ blank.1 ∙ ap length (sym still)) (ap is_blank still ∙ blank.0)
     (λ d left. durable d (fewer d left) ∙ sym still) c may)

@@ -45,7 +45,7 @@ module _ (file : List ℕ) (steps size : ℕ) (head : IsHeaded file steps)
 
     pub put_crash : (old left : List ℕ → Type 0) → Only (believed file) (Texts old)
         → (place + length bytes < 2 ^ 64 → Follows (Mixed place bytes) old left)
-        → steps ≤ 2039 → PutCrash (believed file) at bytes (Texts left)
+        → steps ≤ 2037 → PutCrash (believed file) at bytes (Texts left)
     put_crash old left only mixes bound c may =
         let from = mixes (omega (arith, is, less, before, there, bound)) may.0 may.1 in
         let mixed : Mixed (4096 + at) bytes from.0 may.0 =

@@ -8,9 +8,13 @@ first_line =
     35 ∷ 109 ∷ 101 ∷ 116 ∷ 97 ∷ 100 ∷ 32
     ∷ 106 ∷ 111 ∷ 117 ∷ 114 ∷ 110 ∷ 97 ∷ 108 ∷ 32 ∷ 49 ∷ 10 ∷ []
 
--- the marks: 2,039 pairs of '+' or 0, between the first line and a line feed
+-- the marks: 2,037 pairs of '+' or 0, behind the first line
 abbrev pub marks_of : List ℕ → List ℕ
-marks_of file = take 4078 (drop 17 file)
+marks_of file = take 4074 (drop 17 file)
+
+-- the choice: three bytes of '+' or 0, behind the marks
+abbrev pub choice_of : List ℕ → List ℕ
+choice_of file = take 3 (drop 4091 file)
 
 -- a byte that is no mark
 abbrev pub is_other : ℕ → Bool
@@ -39,12 +43,14 @@ abbrev pub Texts : (List ℕ → Type 0) → List ℕ → Type 0
 Texts outcomes text = (file : List ℕ) × outcomes file × (text ≡ believed file)
 
 -- The head, of 4,096 bytes, of a file of this size. It has this number of pairs of marks, and zeros
--- behind these. What is believed stands in the file.
+-- behind these; a choice, a zero and a line feed. What is believed stands in the file.
 pub record IsHead (head : List ℕ) (size steps : ℕ) : Type 0 where
   pub line : take 17 head ≡ first_line
   pub marks : list_any is_other (marks_of head) ≡ false
   pub count : pairs (marks_of head) ≡ steps
-  pub later : drop (2 * steps) (marks_of head) ≡ replicate (4078 - 2 * steps) 0
+  pub later : drop (2 * steps) (marks_of head) ≡ replicate (4074 - 2 * steps) 0
+  pub choice : list_any is_other (choice_of head) ≡ false
+  pub gap : take 1 (drop 4094 head) ≡ 0 ∷ []
   pub feed : take 1 (drop 4095 head) ≡ 10 ∷ []
   pub fits : 4096 + 1048576 * steps ≤ size
 

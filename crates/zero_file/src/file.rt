@@ -1,36 +1,46 @@
 //! A journal's file over a disk.
 ghost use Rattle.std.specs.Prelude.{◌≡◌, ◌≤◌, ◌*◌, true, IsTrue};
 ghost use Rattle.zero_file.specs.Head.{IsHeaded};
+ghost use Rattle.zero_file.specs.Choice.{AllChoose};
 
+use crate::choice::{Choice, is_alike};
+use crate::choosing::find;
 use crate::growing::{add_zeros, put_marks};
 use crate::head::{STEP, STEPS, end_of, make_zeros, place_of, step_size};
-use crate::opening::open_disk;
 use crate::steps::{put, read_block};
 use journal::{JournalError, Log};
 use sqlite_disk::Disk;
 use std::alloc::Global;
+use std::marker::PhantomData;
 
 /// A file over a disk: a head, and behind it the bytes that are believed. Bytes are put only to a
 /// disk that mixes: then each byte of a write that a crash cut short is the old one or the new one.
+/// Once it was opened, each file that a crash may leave has the choice of the type, whatever was
+/// asked of it since.
 #[derive(Drop)]
-pub struct ZeroFile<D: Disk + Drop> {
+pub struct ZeroFile<D: Disk + Drop, C: Choice> {
     alloc: Global,
     disk: D,
     steps: usize,
     size: usize,
     is_open: bool,
+    was_opened: bool,
+    choice: PhantomData<C>,
     ghost headed: { is_open ≡ true → IsTrue (D.Disk.is_clean disk)
         → IsHeaded (D.Disk.seen disk) steps },
-    ghost sized: { is_open ≡ true → (size ≡ 1048576 * steps) × (steps ≤ 2039) },
+    ghost sized: { is_open ≡ true → (size ≡ 1048576 * steps) × (steps ≤ 2037) },
+    ghost chosen: { was_opened ≡ true → IsTrue (D.Disk.is_clean disk)
+        → AllChoose C.IS_OTHER (D.Disk.may_leave disk) },
 }
 
-impl<D: Disk + Drop> ZeroFile<D> {
+impl<D: Disk + Drop, C: Choice> ZeroFile<D, C> {
     ghost use Rattle.std.specs.Prelude.{◌≡◌, ◌⊎◌, List, ℕ, IsTrue, OnOk, IsErrOf, take, bytes_eq, true, false};
     ghost use Rattle.journal.specs.Crashes.{Only};
     ghost use Rattle.zero_file.specs.Head.{first_line, believed, is_blank, Texts, IsHeaded};
+    ghost use Rattle.zero_file.specs.Choice.{other_counts, AllChoose, SameChoice};
 
     /// The file of a disk. It has to be opened.
-    pub fn new(alloc: Global, disk: D) -> ZeroFile<D>
+    pub fn new(alloc: Global, disk: D) -> ZeroFile<D, C>
         ensures { result.disk ≡ disk }
     {
         ZeroFile {
@@ -39,16 +49,23 @@ impl<D: Disk + Drop> ZeroFile<D> {
             steps: 0,
             size: 0,
             is_open: false,
+            was_opened: false,
+            choice: PhantomData,
         }
     }
 
     /// Reads the head of the file. An empty file, or one that holds no more than zeros and a part
-    /// of a new head, gets a head; any other isn't changed.
+    /// of a new head, gets a head; any other isn't changed. One that has another choice is refused.
     pub fn open(&mut self) -> Result<(), JournalError>
         ensures rests { OnOk result (Only (believed (D.Disk.seen self.new.disk))
             (Texts (D.Disk.may_leave self.new.disk))) }
         ensures text { IsTrue (D.Disk.is_clean self.new.disk)
             → believed (D.Disk.seen self.new.disk) ≡ believed (D.Disk.seen self.old.disk) }
+        ensures same { IsTrue (D.Disk.is_clean self.new.disk)
+            → other_counts (D.Disk.seen self.new.disk) ≡ other_counts (D.Disk.seen self.old.disk) }
+        ensures opened { OnOk result (self.new.was_opened ≡ true) }
+        ensures chosen { OnOk result (IsTrue (D.Disk.is_clean self.new.disk)
+            → AllChoose C.IS_OTHER (D.Disk.may_leave self.new.disk)) }
         ensures headed { OnOk result (IsTrue (D.Disk.is_clean self.new.disk)
             → IsHeaded (D.Disk.seen self.new.disk) self.new.steps) }
         ensures changed { IsTrue (D.Disk.is_clean self.new.disk)
@@ -65,7 +82,7 @@ impl<D: Disk + Drop> ZeroFile<D> {
         ensures crash { IsTrue (D.Disk.is_clean self.new.disk)
             → (c : List ℕ) → D.Disk.may_leave self.new.disk c
             → (D.Disk.may_leave self.old.disk c)
-            ⊎ (believed c ≡ believed (D.Disk.seen self.old.disk)) }
+            ⊎ SameChoice (D.Disk.seen self.old.disk) c }
         ensures clean { IsTrue (D.Disk.is_clean self.new.disk)
             → IsTrue (D.Disk.is_clean self.old.disk) }
     {
@@ -73,15 +90,30 @@ impl<D: Disk + Drop> ZeroFile<D> {
             return Err(JournalError::DiskFailed);
         }
         self.is_open = false;
-        let steps = open_disk(self.alloc, &mut self.disk)?;
-        self.steps = steps;
-        self.size = STEP * steps;
+        self.was_opened = false;
+        let found = find(self.alloc, &mut self.disk)?;
+        if !is_alike(found.is_other, C::IS_OTHER) {
+            return Err(JournalError::DiskFailed);
+        }
+        self.steps = found.steps;
+        self.size = STEP * found.steps;
+        self.was_opened = true;
         self.is_open = true;
         Ok(())
     }
+
+    /// The disk of the file.
+    pub fn into_disk(self) -> D
+        ensures disk { result ≡ self.disk }
+        ensures chosen { self.was_opened ≡ true → IsTrue (D.Disk.is_clean result)
+            → AllChoose C.IS_OTHER (D.Disk.may_leave result) }
+    {
+        self.disk
+    }
 }
 
-impl<D: Disk + Drop> Log for ZeroFile<D> {
+impl<D: Disk + Drop, C: Choice> Log for ZeroFile<D, C> {
+    ghost use Rattle.std.specs.Prelude.{◌&&◌};
     ghost use Rattle.journal.specs.Crashes.{Only};
     ghost use Rattle.zero_file.specs.Head.{believed, Texts};
 
@@ -91,7 +123,7 @@ impl<D: Disk + Drop> Log for ZeroFile<D> {
 
     ghost rests = { λ f. Only (believed (D.Disk.seen f.disk)) (Texts (D.Disk.may_leave f.disk)) };
 
-    ghost is_clean = { λ f. D.Disk.is_clean f.disk };
+    ghost is_clean = { λ f. D.Disk.is_clean f.disk && f.was_opened };
 
     ghost rested = { λ f c only left. only c left };
 

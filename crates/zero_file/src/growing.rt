@@ -1,6 +1,6 @@
 //! Makes a file larger: first the zeros, then the marks by which they are believed.
 ghost use Rattle.std.specs.Prelude.{◌≡◌, ◌⊎◌, ◌≤◌, ◌<◌, ◌+◌, ◌*◌, ℕ, List, length, take, drop, IsTrue, IfErr, OnOk, IsErrOf};
-ghost use Rattle.sqlite_disk.specs.Disk.{Holds, Torn};
+ghost use Rattle.sqlite_disk.specs.Disk.{Holds, Torn, Follows};
 ghost use Rattle.journal.specs.Crashes.{Only};
 ghost use Rattle.zero_file.specs.Head.{believed, IsHeaded};
 
@@ -28,7 +28,7 @@ pub fn add_zeros<D: Disk>(disk: &mut D, at: usize, zeros: &[u8]) -> Result<(), J
 
 // Where the next pair of marks stands.
 fn mark_of(steps: usize) -> usize
-    requires { steps < 2039 }
+    requires { steps < 2037 }
     ensures { result ≡ 17 + 2 * steps }
 {
     17 + 2 * steps
@@ -37,7 +37,7 @@ fn mark_of(steps: usize) -> usize
 /// Marks one step more as believed, and waits until the marks are on the disk.
 pub fn put_marks<D: Disk>(disk: &mut D, steps: usize) -> Result<(), JournalError>
     requires usable { IsTrue (D.is_usable disk.old) }
-    requires bound { steps < 2039 }
+    requires bound { steps < 2037 }
     ensures ok { OnOk result (IsHeaded (D.seen disk.old) steps
         → 4096 + 1048576 * (steps + 1) ≤ length (D.seen disk.old)
         → IsHeaded (D.seen disk.new) (steps + 1)
@@ -49,6 +49,8 @@ pub fn put_marks<D: Disk>(disk: &mut D, steps: usize) -> Result<(), JournalError
         → Only (D.seen disk.old) (D.may_leave disk.old) → (c : List ℕ) → D.may_leave disk.new c
         → (believed c ≡ believed (D.seen disk.old))
         ⊎ (believed c ≡ take (1048576 * (steps + 1)) (drop 4096 (D.seen disk.old))) }
+    ensures torn { Follows (Torn (17 + 2 * steps) 2) (D.may_leave disk.old)
+        (D.may_leave disk.new) }
     ensures failed { IfErr result (λ error. error ≡ JournalError.DiskFailed) }
 {
     put(disk, mark_of(steps), b"++")

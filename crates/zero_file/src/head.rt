@@ -1,7 +1,8 @@
 //! The head of a journal's file.
 ghost use Rattle.std.specs.Prelude.{◌≡◌, ◌==◌, ◌||◌, ◌<◌, ◌≤◌, ◌+◌, ◌*◌, ◌++◌, ◌∷◌, [], ℕ, List, length, take, drop, replicate, slice_index, bytes_eq, IfOk, IfErr, IfSome, IfNone, IsErrOf, true, false};
 ghost use Rattle.std.specs.List.{list_any};
-ghost use Rattle.zero_file.specs.Head.{first_line, marks_of, is_other, is_there, is_pair, pairs, head_byte, is_blank, IsHead};
+ghost use Rattle.zero_file.specs.Head.{first_line, marks_of, choice_of, is_other, is_there, is_pair, pairs, head_byte, is_blank, IsHead};
+ghost use Rattle.zero_file.specs.Choice.{choice_bytes};
 
 use journal::JournalError;
 use std::alloc::{AllocError, Global};
@@ -9,11 +10,14 @@ use std::alloc::{AllocError, Global};
 /// The length of a head in bytes.
 pub const HEAD: usize = 4_096;
 
+/// Where the last byte of a head stands.
+pub const HEAD_END: usize = 4_095;
+
 /// The length of a step in bytes.
 pub const STEP: usize = 1_048_576;
 
 /// A file has as many steps at most: its head has room for no more pairs of marks.
-pub const STEPS: usize = 2_039;
+pub const STEPS: usize = 2_037;
 
 const FIRST_LINE: &[u8; 17] = b"#metad journal 1\n";
 
@@ -54,9 +58,9 @@ fn has_pair(marks: &[u8], steps: usize) -> bool
 
 // How many pairs of marks count.
 fn count_pairs(marks: &[u8]) -> usize
-    requires { length marks.now ≡ 4078 }
+    requires { length marks.now ≡ 4074 }
     ensures count { result ≡ pairs marks.now }
-    ensures bound { result ≤ 2039 }
+    ensures bound { result ≤ 2037 }
 {
     let mut steps = 0usize;
     'counting: while steps < STEPS {
@@ -77,7 +81,7 @@ pub fn step_size() -> usize
 
 /// Where what is believed ends in the file.
 pub fn end_of(steps: usize) -> usize
-    requires { steps ≤ 2039 }
+    requires { steps ≤ 2037 }
     ensures { result ≡ 4096 + 1048576 * steps }
 {
     HEAD + STEP * steps
@@ -99,7 +103,7 @@ pub fn place_of(at: usize) -> Result<usize, JournalError>
 pub fn read_head(head: &[u8], size: usize) -> Result<Option<usize>, JournalError>
     requires { length head.now ≤ 4096 }
     ensures some { IfOk result (λ found. IfSome found (λ steps. IsHead head.now size steps)) }
-    ensures bound { IfOk result (λ found. IfSome found (λ steps. steps ≤ 2039)) }
+    ensures bound { IfOk result (λ found. IfSome found (λ steps. steps ≤ 2037)) }
     ensures none { IfOk result
         (λ found. IfNone found (bytes_eq (take 17 head.now) first_line ≡ false)) }
     ensures damaged { IsErrOf result JournalError.Damaged
@@ -115,8 +119,14 @@ pub fn read_head(head: &[u8], size: usize) -> Result<Option<usize>, JournalError
     if head[4_095] != b'\n' {
         return Err(JournalError::Damaged);
     }
-    let marks = &head[17..4_095];
+    if head[4_094] != 0 {
+        return Err(JournalError::Damaged);
+    }
+    let marks = &head[17..4_091];
     if has_other(marks) {
+        return Err(JournalError::Damaged);
+    }
+    if has_other(&head[4_091..4_094]) {
         return Err(JournalError::Damaged);
     }
     let steps = count_pairs(marks);
@@ -189,6 +199,7 @@ fn make_head(alloc: Global, marks: usize) -> Result<Vec<u8>, AllocError>
 pub fn new_head(alloc: Global) -> Result<Vec<u8>, AllocError>
     ensures head { IfOk result (λ head. (size : ℕ) → 4096 ≤ size → IsHead head.items size 0) }
     ensures length { IfOk result (λ head. length head.items ≡ 4096) }
+    ensures choice { IfOk result (λ head. choice_of head.items ≡ choice_bytes false) }
 {
     make_head(alloc, 4_078)
 }

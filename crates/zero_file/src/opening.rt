@@ -1,13 +1,38 @@
 //! Finds the head of a file, or makes it.
-ghost use Rattle.std.specs.Prelude.{◌≡◌, ◌⊎◌, ◌≤◌, ℕ, List, [], length, take, bytes_eq, true, false, IsTrue, IfOk, IfSome, IfNone, OnOk, IsErrOf};
+ghost use Rattle.std.specs.Prelude.{◌≡◌, ◌⊎◌, ◌≤◌, ℕ, List, length, take, bytes_eq, true, false, IsTrue, IfOk, IfSome, IfNone, OnOk, IsErrOf};
 ghost use Rattle.journal.specs.Crashes.{Only};
-ghost use Rattle.zero_file.specs.Head.{first_line, believed, is_blank, IsHeaded};
+ghost use Rattle.zero_file.specs.Head.{first_line, is_blank, IsHeaded};
+ghost use Rattle.zero_file.specs.Choice.{SameChoice, IsUnused};
 
-use crate::head::{HEAD, is_blank, make_zeros, new_head, read_head};
-use crate::steps::{put, read_block, size_of, sync, write_through};
+use crate::head::{HEAD, HEAD_END, is_blank, make_zeros, new_head, read_head};
+use crate::steps::{read_block, size_of, sync, write_through};
 use journal::JournalError;
 use sqlite_disk::Disk;
 use std::alloc::Global;
+
+// Whether a file of this size never had a whole head. The block holds its front, and all of it
+// where it never had one: any other is no longer read.
+fn is_new<D: Disk>(disk: &mut D, size: usize, block: &mut Vec<u8>) -> Result<bool, JournalError>
+    requires { IsTrue (D.is_usable disk.old) }
+    ensures ok { (count : ℕ) → IfOk result (λ is_new. IsTrue (D.is_clean disk.new)
+        → size ≡ length (D.seen disk.old) → block.old.items ≡ take count (D.seen disk.old)
+        → is_new ≡ is_blank (D.seen disk.old)) }
+    ensures whole { IfOk result (λ is_new. IsTrue (D.is_clean disk.new)
+        → size ≡ length (D.seen disk.old) → is_new ≡ true
+        → length block.new.items ≡ length (D.seen disk.old)) }
+    ensures blind { (IsErrOf result JournalError.Damaged → ⊥)
+        × (IsErrOf result JournalError.UnknownFormat → ⊥) }
+    ensures clean { IsTrue (D.is_clean disk.new) → IsTrue (D.is_clean disk.old) }
+    ensures seen { D.seen disk.new ≡ D.seen disk.old }
+    ensures usable { IsTrue (D.is_usable disk.new) }
+    ensures crash { (c : List ℕ) → D.may_leave disk.new c → D.may_leave disk.old c }
+{
+    if !is_blank(block) {
+        return Ok(false);
+    }
+    read_block(disk, 0, size, block)?;
+    Ok(is_blank(block))
+}
 
 // How many steps of a file are believed; or none where it never had a whole head, and then the
 // block holds all of it.
@@ -15,7 +40,7 @@ fn find_head<D: Disk>(disk: &mut D, block: &mut Vec<u8>) -> Result<Option<usize>
     requires { IsTrue (D.is_usable disk.old) }
     ensures some { IfOk result (λ found. IfSome found
         (λ steps. IsTrue (D.is_clean disk.new) → IsHeaded (D.seen disk.old) steps)) }
-    ensures bound { IfOk result (λ found. IfSome found (λ steps. steps ≤ 2039)) }
+    ensures bound { IfOk result (λ found. IfSome found (λ steps. steps ≤ 2037)) }
     ensures none { IfOk result (λ found. IfNone found (IsTrue (D.is_clean disk.new)
         → (is_blank (D.seen disk.old) ≡ true)
         × (length block.new.items ≡ length (D.seen disk.old)))) }
@@ -37,8 +62,7 @@ fn find_head<D: Disk>(disk: &mut D, block: &mut Vec<u8>) -> Result<Option<usize>
     if let Ok(Some(steps)) = head {
         return Ok(Some(steps));
     }
-    read_block(disk, 0, size, block)?;
-    if is_blank(block) {
+    if is_new(disk, size, block)? {
         return Ok(None);
     }
     match head {
@@ -47,37 +71,38 @@ fn find_head<D: Disk>(disk: &mut D, block: &mut Vec<u8>) -> Result<Option<usize>
     }
 }
 
-// Makes a file that never had a head as long as one.
+// Makes a file that never had a head as long as one without its last byte. So what a crash leaves of
+// it has no choice.
 fn make_long<D: Disk>(alloc: Global, disk: &mut D, size: usize) -> Result<(), JournalError>
     requires { IsTrue (D.is_usable disk.old) }
     ensures ok { OnOk result
         (size ≡ length (D.seen disk.old) → is_blank (D.seen disk.old) ≡ true
-        → (is_blank (D.seen disk.new) ≡ true) × (4096 ≤ length (D.seen disk.new))) }
+        → (is_blank (D.seen disk.new) ≡ true) × (4095 ≤ length (D.seen disk.new))) }
     ensures durable { OnOk result (Only (D.seen disk.old) (D.may_leave disk.old)
         → Only (D.seen disk.new) (D.may_leave disk.new)) }
     ensures calm { D.is_clean disk.new ≡ D.is_clean disk.old }
     ensures crash { size ≡ length (D.seen disk.old) → is_blank (D.seen disk.old) ≡ true
         → Only (D.seen disk.old) (D.may_leave disk.old)
-        → (c : List ℕ) → D.may_leave disk.new c → believed c ≡ [] }
+        → (c : List ℕ) → D.may_leave disk.new c → IsUnused c }
     ensures blind { (IsErrOf result JournalError.Damaged → ⊥)
         × (IsErrOf result JournalError.UnknownFormat → ⊥) }
 {
-    if size >= HEAD {
+    if size >= HEAD_END {
         return Ok(());
     }
-    let zeros = make_zeros(alloc, HEAD)?;
+    let zeros = make_zeros(alloc, HEAD_END)?;
     write_through(disk, 0, &zeros)?;
     Ok(())
 }
 
 // Puts a new head over the front of a file that never had one.
 fn put_head<D: Disk>(alloc: Global, disk: &mut D) -> Result<(), JournalError>
-    ensures ok { OnOk result (4096 ≤ length (D.seen disk.old) → IsHeaded (D.seen disk.new) 0) }
+    ensures ok { OnOk result (IsHeaded (D.seen disk.new) 0) }
     ensures durable { OnOk result (Only (D.seen disk.new) (D.may_leave disk.new)) }
     ensures calm { D.is_clean disk.new ≡ D.is_clean disk.old }
-    ensures crash { is_blank (D.seen disk.old) ≡ true → 4096 ≤ length (D.seen disk.old)
+    ensures crash { is_blank (D.seen disk.old) ≡ true → 4095 ≤ length (D.seen disk.old)
         → Only (D.seen disk.old) (D.may_leave disk.old)
-        → (c : List ℕ) → D.may_leave disk.new c → believed c ≡ [] }
+        → (c : List ℕ) → D.may_leave disk.new c → IsUnused c }
     ensures blind { (IsErrOf result JournalError.Damaged → ⊥)
         × (IsErrOf result JournalError.UnknownFormat → ⊥) }
 {
@@ -88,21 +113,19 @@ fn put_head<D: Disk>(alloc: Global, disk: &mut D) -> Result<(), JournalError>
     if !disk.mixes() {
         return Err(JournalError::DiskFailed);
     }
-    put(disk, 0, &head)?;
+    write_through(disk, 0, &head)?;
     Ok(())
 }
 
 // Makes the head of a file that never had one.
 fn make_head<D: Disk>(alloc: Global, disk: &mut D, size: usize) -> Result<(), JournalError>
     requires { IsTrue (D.is_usable disk.old) }
-    ensures ok { OnOk result
-        (size ≡ length (D.seen disk.old) → is_blank (D.seen disk.old) ≡ true
-        → IsHeaded (D.seen disk.new) 0) }
+    ensures ok { OnOk result (IsHeaded (D.seen disk.new) 0) }
     ensures durable { OnOk result (Only (D.seen disk.new) (D.may_leave disk.new)) }
     ensures calm { D.is_clean disk.new ≡ D.is_clean disk.old }
     ensures crash { size ≡ length (D.seen disk.old) → is_blank (D.seen disk.old) ≡ true
         → Only (D.seen disk.old) (D.may_leave disk.old)
-        → (c : List ℕ) → D.may_leave disk.new c → believed c ≡ [] }
+        → (c : List ℕ) → D.may_leave disk.new c → IsUnused c }
     ensures blind { (IsErrOf result JournalError.Damaged → ⊥)
         × (IsErrOf result JournalError.UnknownFormat → ⊥) }
 {
@@ -117,12 +140,12 @@ pub fn open_disk<D: Disk>(alloc: Global, disk: &mut D) -> Result<usize, JournalE
     requires { IsTrue (D.is_usable disk.old) }
     ensures headed { IfOk result
         (λ steps. IsTrue (D.is_clean disk.new) → IsHeaded (D.seen disk.new) steps) }
-    ensures bound { IfOk result (λ steps. steps ≤ 2039) }
-    ensures text { IsTrue (D.is_clean disk.new)
-        → believed (D.seen disk.new) ≡ believed (D.seen disk.old) }
+    ensures bound { IfOk result (λ steps. steps ≤ 2037) }
+    ensures same { IsTrue (D.is_clean disk.new)
+        → SameChoice (D.seen disk.old) (D.seen disk.new) }
     ensures durable { OnOk result (Only (D.seen disk.new) (D.may_leave disk.new)) }
     ensures crash { IsTrue (D.is_clean disk.new) → (c : List ℕ) → D.may_leave disk.new c
-        → (D.may_leave disk.old c) ⊎ (believed c ≡ believed (D.seen disk.old)) }
+        → (D.may_leave disk.old c) ⊎ SameChoice (D.seen disk.old) c }
     ensures changed { IsTrue (D.is_clean disk.new)
         → (D.seen disk.new ≡ D.seen disk.old) ⊎ (is_blank (D.seen disk.old) ≡ true) }
     ensures unknown { IsErrOf result JournalError.UnknownFormat → IsTrue (D.is_clean disk.new)

@@ -4,9 +4,9 @@ use Rattle.zero_file.proofs.head.count_pairs.Given as goal
 
 abbrev pub invariant-counting : goal.invariant-counting
 invariant-counting l = record {
-  bound : l.steps ≤ 2039;
+  bound : l.steps ≤ 2037;
   counts : pairs l.marks ≡ l.steps + pairs (drop (2 * l.steps) l.marks);
 }
 
 abbrev pub decreases-counting : goal.decreases-counting
-decreases-counting l = 2039 - l.steps
+decreases-counting l = 2037 - l.steps

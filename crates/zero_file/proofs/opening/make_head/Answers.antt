@@ -13,7 +13,3 @@ pub returns-clause-crash : goal.returns-clause-crash
 returns-clause-crash g c is blank only out left =
     let long = c.in_ok-make_long.ensures.ok is blank in
     c.put_head.ensures.crash long.0 long.1 (c.in_ok-make_long.ensures.durable only) out left
-
-pub returns-clause-ok : goal.returns-clause-ok
-returns-clause-ok g c is blank =
-    c.in_ok-put_head.ensures.ok (c.in_ok-make_long.ensures.ok is blank).1

@@ -1,5 +1,5 @@
 use Rattle.std.proofs.Common.{◌≡◌, ◌∙◌, ap, sym, subst, List, ℕ, length, arith}
-use Rattle.zero_file.specs.Head.{IsHead}
+use Rattle.zero_file.specs.Head.{choice_of, IsHead}
 use Rattle.zero_file.proofs.NewHeads.{put_new}
 use Rattle.zero_file.proofs.Openings.{blank_left, new_left}
 use Rattle.zero_file.proofs.opening.put_head.Goals as goal
@@ -16,34 +16,33 @@ pub returns-then-not-mixes-clause-crash : goal.returns-then-not-mixes-clause-cra
 returns-then-not-mixes-clause-crash g c blank long only out left =
     blank_left _ out blank (only out left)
 
-pub returns-in_err-put-clause-crash : goal.returns-in_err-put-clause-crash
-returns-in_err-put-clause-crash g c blank long only out left =
+pub returns-in_err-write_through-clause-crash : goal.returns-in_err-write_through-clause-crash
+returns-in_err-write_through-clause-crash g c blank long only out left =
     let is = c.deref.ensures.value in
     let size : length c.deref.result.now ≡ 4096 = ap length is ∙ c.in_ok-head.ensures.length in
     let mixing = sym c.mixes.ensures ∙ c.if-not-mixes.false in
-    let from = c.put.ensures.mixed mixing (omega (arith, size)) out left in
+    let from = c.write_through.ensures.mixed mixing (omega (arith, size)) out left in
     new_left _ from.0 out c.deref.result.now 4096 blank long
     (subst (λ (t : List ℕ). IsHead t 4096 0) (sym is)
     (c.in_ok-head.ensures.head 4096 (omega arith)))
-    size (only from.0 from.1) from.2
+    size (ap choice_of is ∙ c.in_ok-head.ensures.choice) (only from.0 from.1) from.2
 
 pub returns-clause-crash : goal.returns-clause-crash
 returns-clause-crash g c blank long only out left =
     let is = c.deref.ensures.value in
     let size : length c.deref.result.now ≡ 4096 = ap length is ∙ c.in_ok-head.ensures.length in
     let mixing = sym c.mixes.ensures ∙ c.if-not-mixes.false in
-    let from = c.put.ensures.mixed mixing (omega (arith, size)) out left in
+    let from = c.write_through.ensures.mixed mixing (omega (arith, size)) out left in
     new_left _ from.0 out c.deref.result.now 4096 blank long
     (subst (λ (t : List ℕ). IsHead t 4096 0) (sym is)
     (c.in_ok-head.ensures.head 4096 (omega arith)))
-    size (only from.0 from.1) from.2
+    size (ap choice_of is ∙ c.in_ok-head.ensures.choice) (only from.0 from.1) from.2
 
 pub returns-clause-ok : goal.returns-clause-ok
-returns-clause-ok g c long =
+returns-clause-ok g c =
     let is = c.deref.ensures.value in
     let size : length c.deref.result.now ≡ 4096 = ap length is ∙ c.in_ok-head.ensures.length in
-    put_new c.deref.result.now _ _ 0
+    put_new c.deref.result.now _ 0
     (subst (λ (t : List ℕ). IsHead t 4096 0) (sym is)
     (c.in_ok-head.ensures.head 4096 (omega arith)))
-    size long (c.in_ok-put.ensures.ok (omega (arith, size, long)))
-    (c.in_ok-put.ensures.same (omega (arith, size, long)))
+    size (c.in_ok-write_through.ensures.holds (omega (arith, size)))

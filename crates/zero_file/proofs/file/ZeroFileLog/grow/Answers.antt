@@ -1,5 +1,8 @@
-use Rattle.std.proofs.Common.{◌∙◌, sym, arith}
-use Rattle.zero_file.proofs.Texts.{behind, unmarked_text, more_headed, more_long, grown_text, grown_left, longer_same, at_any_error}
+use Rattle.std.proofs.Common.{◌∙◌, ap, sym, ◌+◌, ◌*◌, Bool, ◌&&◌, inl, inr, arith}
+use Rattle.std.proofs.lemmas.Bool.{false≢true}
+use Rattle.zero_file.proofs.Choices.{follows_choice, zeros_choice}
+use Rattle.zero_file.proofs.Most.{both_are}
+use Rattle.zero_file.proofs.Texts.{behind, unmarked_text, more_headed, more_long, grown_text, grown_left, longer_same, at_any_error, rests_from}
 use Rattle.zero_file.proofs.file.ZeroFileLog.grow.Goals as goal
 
 pub returns-then-not-self-clause-crash : goal.returns-then-not-self-clause-crash
@@ -25,12 +28,22 @@ invariant_of-self g c =
           c.end_of.ensures (c.deref.ensures.value ∙ c.in_ok-zeros.ensures) c.step_size.ensures
           _ c.add_zeros.ensures.torn).0;
       sized = λ now. it.sized is_open;
+      chosen = λ opened still.
+          let end = c.end_of.ensures in
+          zeros_choice g.C.Choice.IS_OTHER c.end_of.result _ _ _ _
+          (g.met.D.Disk.seen_may_stay it.disk) (inl (omega (arith, end)))
+          c.add_zeros.ensures.crash (it.chosen opened (sym c.add_zeros.ensures.calm ∙ still));
     }
+
+pub returns-in_err-add_zeros-clause-calm : goal.returns-in_err-add_zeros-clause-calm
+returns-in_err-add_zeros-clause-calm g c =
+    ap (λ (b : Bool). b && c.args.self.now.was_opened) c.add_zeros.ensures.calm
 
 pub returns-in_err-add_zeros-clause-refused : goal.returns-in_err-add_zeros-clause-refused
 returns-in_err-add_zeros-clause-refused g c =
-    at_any_error c.from_residual-in_err-add_zeros.result (λ error other clean.
+    at_any_error c.from_residual-in_err-add_zeros.result (λ error other both.
     let it = c.args.self.now in
+    let clean = (both_are _ it.was_opened both).0 in
     let is_open = c.if-not-self.false in
     let head = it.headed is_open clean in (
       (behind _ it.steps c.end_of.result c.step_size.result c.deref.result.now head
@@ -42,8 +55,9 @@ returns-in_err-add_zeros-clause-refused g c =
     ))
 
 pub returns-in_err-add_zeros-clause-crash : goal.returns-in_err-add_zeros-clause-crash
-returns-in_err-add_zeros-clause-crash g c clean only out left =
+returns-in_err-add_zeros-clause-crash g c both only out left =
     let it = c.args.self.now in
+    let clean = (both_are _ it.was_opened both).0 in
     let is_open = c.if-not-self.false in
     let head = it.headed is_open clean in
     longer_same _ out (only out
@@ -52,8 +66,9 @@ returns-in_err-add_zeros-clause-crash g c clean only out left =
     _ _ (g.met.D.Disk.seen_may_stay it.disk) c.add_zeros.ensures.crash out left))
 
 pub returns-in-Err-clause-crash : goal.returns-in-Err-clause-crash
-returns-in-Err-clause-crash g c clean only out left =
+returns-in-Err-clause-crash g c both only out left =
     let it = c.args.self.now in
+    let clean = (both_are _ it.was_opened both).0 in
     let is_open = c.if-not-self.false in
     let head = it.headed is_open clean in
     grown_left _ it.steps c.end_of.result c.step_size.result c.deref.result.now head
@@ -82,8 +97,9 @@ invariant_of-self-2-clause-sized g c now =
     (omega (arith, sized.0), omega (arith, c.if-self-ge-STEPS.false))
 
 pub returns-clause-ok : goal.returns-clause-ok
-returns-clause-ok g c clean =
+returns-clause-ok g c both =
     let it = c.args.self.now in
+    let clean = (both_are _ it.was_opened both).0 in
     let is_open = c.if-not-self.false in
     let head = it.headed is_open clean in
     let done = c.in-Ok.ensures.ok
@@ -101,11 +117,55 @@ returns-clause-ok g c clean =
     )
 
 pub returns-clause-crash : goal.returns-clause-crash
-returns-clause-crash g c clean only out left =
+returns-clause-crash g c both only out left =
     let it = c.args.self.now in
+    let clean = (both_are _ it.was_opened both).0 in
     let is_open = c.if-not-self.false in
     let head = it.headed is_open clean in
     grown_left _ it.steps c.end_of.result c.step_size.result c.deref.result.now head
     c.end_of.ensures (c.deref.ensures.value ∙ c.in_ok-zeros.ensures) c.step_size.ensures
     _ c.add_zeros.ensures.torn c.in_ok-add_zeros.ensures.holds
     _ _ c.in_ok-add_zeros.ensures.durable c.put_marks.ensures.crash out left
+
+pub invariant_of-self-2-clause-chosen : goal.invariant_of-self-2-clause-chosen
+invariant_of-self-2-clause-chosen g c opened still =
+    let clean = sym c.add_zeros.ensures.calm ∙ sym c.put_marks.ensures.calm ∙ still in
+    let it = c.args.self.now in
+    let end = c.end_of.ensures in
+    let less = c.if-self-ge-STEPS.false in
+    follows_choice g.C.Choice.IS_OTHER (17 + 2 * it.steps) 2 _ _ (inr (omega (arith, less)))
+    c.put_marks.ensures.torn
+    (zeros_choice g.C.Choice.IS_OTHER c.end_of.result _ _ _ _
+    (g.met.D.Disk.seen_may_stay it.disk) (inl (omega (arith, end)))
+    c.add_zeros.ensures.crash (it.chosen opened clean))
+
+pub returns-clause-durable : goal.returns-clause-durable
+returns-clause-durable g c both = rests_from _ _ c.in-Ok.ensures.durable
+
+pub returns-in-Err-clause-calm : goal.returns-in-Err-clause-calm
+returns-in-Err-clause-calm g c =
+    ap (λ (b : Bool). b && c.args.self.now.was_opened)
+    (c.put_marks.ensures.calm ∙ c.add_zeros.ensures.calm)
+
+pub returns-clause-calm : goal.returns-clause-calm
+returns-clause-calm g c =
+    ap (λ (b : Bool). b && c.args.self.now.was_opened)
+    (c.put_marks.ensures.calm ∙ c.add_zeros.ensures.calm)
+
+-- the marks were put, or a part of them
+pub invariant_of-self-in-Err : goal.invariant_of-self-in-Err
+invariant_of-self-in-Err g c =
+    let it = c.args.self.now in
+    let end = c.end_of.ensures in
+    let less = c.if-self-ge-STEPS.false in
+    record {
+      headed = λ now. absurd (false≢true now);
+      sized = λ now. absurd (false≢true now);
+      chosen = λ opened still.
+          let clean = sym c.add_zeros.ensures.calm ∙ sym c.put_marks.ensures.calm ∙ still in
+          follows_choice g.C.Choice.IS_OTHER (17 + 2 * it.steps) 2 _ _
+          (inr (omega (arith, less))) c.put_marks.ensures.torn
+          (zeros_choice g.C.Choice.IS_OTHER c.end_of.result _ _ _ _
+          (g.met.D.Disk.seen_may_stay it.disk) (inl (omega (arith, end)))
+          c.add_zeros.ensures.crash (it.chosen opened clean));
+    }

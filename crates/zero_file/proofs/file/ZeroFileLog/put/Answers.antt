@@ -1,10 +1,14 @@
-use Rattle.std.proofs.Common.{◌∙◌, sym, [], inr}
-use Rattle.zero_file.proofs.Texts.{put_fits, put_text, put_keeps, put_crash}
+use Rattle.std.proofs.Common.{◌∙◌, ap, sym, [], Bool, ◌&&◌, inl, inr, arith}
+use Rattle.std.proofs.lemmas.Bool.{false≢true}
+use Rattle.zero_file.proofs.Choices.{follows_choice}
+use Rattle.zero_file.proofs.Most.{both_are}
+use Rattle.zero_file.proofs.Texts.{put_fits, put_text, put_keeps, put_crash, rests_from}
 use Rattle.zero_file.proofs.file.ZeroFileLog.put.Goals as goal
 
 pub returns-in_err-put-clause-crash : goal.returns-in_err-put-clause-crash
-returns-in_err-put-clause-crash g c clean only =
+returns-in_err-put-clause-crash g c both only =
     let it = c.args.self.now in
+    let clean = (both_are _ it.was_opened both).0 in
     let is_open = c.if-not-self.false in
     let head = it.headed is_open clean in
     let sized = it.sized is_open in
@@ -32,8 +36,9 @@ pub invariant_of-self-2-clause-sized : goal.invariant_of-self-2-clause-sized
 invariant_of-self-2-clause-sized g c now = c.args.self.now.sized c.if-not-self.false
 
 pub returns-clause-ok : goal.returns-clause-ok
-returns-clause-ok g c clean =
+returns-clause-ok g c both =
     let it = c.args.self.now in
+    let clean = (both_are _ it.was_opened both).0 in
     let is_open = c.if-not-self.false in
     let head = it.headed is_open clean in
     let sized = it.sized is_open in
@@ -42,8 +47,9 @@ returns-clause-ok g c clean =
     c.in_ok-put.ensures.ok
 
 pub returns-clause-fits : goal.returns-clause-fits
-returns-clause-fits g c clean =
+returns-clause-fits g c both =
     let it = c.args.self.now in
+    let clean = (both_are _ it.was_opened both).0 in
     let is_open = c.if-not-self.false in
     let head = it.headed is_open clean in
     let sized = it.sized is_open in
@@ -51,8 +57,9 @@ returns-clause-fits g c clean =
     c.args.bytes.now [] c.if-bytes-self.false c.if-at-self.false c.in_ok-place.ensures.ok
 
 pub returns-clause-crash : goal.returns-clause-crash
-returns-clause-crash g c clean only =
+returns-clause-crash g c both only =
     let it = c.args.self.now in
+    let clean = (both_are _ it.was_opened both).0 in
     let is_open = c.if-not-self.false in
     let head = it.headed is_open clean in
     let sized = it.sized is_open in
@@ -64,3 +71,30 @@ returns-clause-crash g c clean only =
           c.args.bytes.now [] c.if-bytes-self.false c.if-at-self.false c.in_ok-place.ensures.ok
           _ _ only (c.put.ensures.mixed mixing) sized.1,
     )
+
+pub returns-clause-durable : goal.returns-clause-durable
+returns-clause-durable g c both = rests_from _ _ c.in_ok-put.ensures.durable
+
+pub returns-in_err-put-clause-calm : goal.returns-in_err-put-clause-calm
+returns-in_err-put-clause-calm g c =
+    ap (λ (b : Bool). b && c.args.self.now.was_opened) c.put.ensures.calm
+
+pub returns-clause-calm : goal.returns-clause-calm
+returns-clause-calm g c =
+    ap (λ (b : Bool). b && c.args.self.now.was_opened) c.put.ensures.calm
+
+-- behind a head nothing is put that chooses
+pub invariant_of-self : goal.invariant_of-self
+invariant_of-self g c = record {
+  headed = λ now. absurd (false≢true now);
+  sized = λ now. absurd (false≢true now);
+  chosen = λ opened still. follows_choice g.C.Choice.IS_OTHER c.in_ok-place.place _ _ _
+      (inl (omega (arith, c.in_ok-place.ensures.ok))) c.put.ensures.crash
+      (c.args.self.now.chosen opened (sym c.put.ensures.calm ∙ still));
+}
+
+pub invariant_of-self-2-clause-chosen : goal.invariant_of-self-2-clause-chosen
+invariant_of-self-2-clause-chosen g c opened still =
+    follows_choice g.C.Choice.IS_OTHER c.in_ok-place.place _ _ _
+    (inl (omega (arith, c.in_ok-place.ensures.ok))) c.put.ensures.crash
+    (c.args.self.now.chosen opened (sym c.put.ensures.calm ∙ still))
