@@ -8,11 +8,11 @@ use Rattle.journal.specs.Reading.{found, sound}
 use Rattle.journal.specs.Groups.{HasGroups, added}
 use Rattle.journal.proofs.Groups.{what_is_written_is_read}
 use Rattle.journal.proofs.TextLines.{HasNoFeed, lines_text-append}
-use Rattle.kept_run.specs.Reads.{longer_line, heard, heard_whole, Reads}
-use Rattle.kept_run.specs.Runs.{Entry, asked, replies, accepted, Trace, lines_of, KeepsLine, Survives, Rests}
+use Rattle.kept_run.specs.Reads.{longer_line, heard, heard_whole, IsPiece, Reads}
+use Rattle.kept_run.specs.Runs.{Entry, asked, replies, accepted, Trace, lines_of, KeepsLine, Rests, Pauses}
 use Rattle.kept_run.specs.Progress.{Start, Serves, Breaks, Runs, Ends}
 use Rattle.kept_run.proofs.Taking.{trace-append, asked-append, replies-append, accepted-append, lines-both, one_line}
-use Rattle.kept_run.proofs.Reading.{heard_first, heard_all, heard_last, heard_whole_are, reads_none, reads_line, reads_piece, reads_more, reads_still}
+use Rattle.kept_run.proofs.Reading.{heard_first, heard_all, heard_last, heard_whole_are, next_is, reads_begun, reads_line, reads_piece, reads_more, reads_still}
 use Rattle.kept_run.proofs.Writers.{Appends-none, Appends-append}
 
 lines_of-append : (a b : List (List (List ℕ))) → lines_of (a ++ b) ≡ lines_of a ++ lines_of b
@@ -41,6 +41,18 @@ pub read_so : (first text last : List ℕ) (outcomes : List ℕ → Type 0) (end
 read_so first text last outcomes end groups has c left =
     ap (found first) (has.durable c left ∙ has.file)
     ∙ what_is_written_is_read first groups has.room has.each
+
+-- where a run began
+abbrev pub start_of : {S : Type 0} → List ℕ → List (List (List ℕ)) → S → Option (List ℕ) → List ℕ
+    → Option (List ℕ) → Start S
+start_of first groups service held begun unread = record {
+  first = first;
+  groups = groups;
+  service = service;
+  held = held;
+  begun = begun;
+  unread = unread;
+}
 
 module _ {S : Type 0} (steps : S → List ℕ → List ℕ → Bool → S → Type 0) (start : Start S) where
   -- nothing was answered yet
@@ -212,10 +224,11 @@ module _ {S : Type 0} (steps : S → List ℕ → List ℕ → Bool → S → Ty
   -- the lines that were answered are the first ones of what was read
   pub ends_so : (outcomes : List ℕ → Type 0) (contents left : Option (List ℕ))
       (lines : List (List ℕ)) (line rest : List ℕ)
-      → Breaks steps start outcomes contents lines → Reads start.unread left lines line rest
+      → Breaks steps start outcomes contents lines
+      → Reads start.begun start.unread left lines line rest
       → Ends steps start outcomes contents left
   ends_so outcomes contents left lines line rest b r =
-      let later = heard_first start.unread left lines line rest r in record {
+      let later = heard_first start.begun start.unread left lines line rest r in record {
         trace = b.trace;
         to = b.to;
         goes = b.goes;
@@ -233,9 +246,10 @@ module _ {S : Type 0} (steps : S → List ℕ → List ℕ → Bool → S → Ty
       (outcomes : List ℕ → Type 0) (last : List ℕ) (end : ℕ) (pending out : List ℕ)
       (contents left : Option (List ℕ)) (lines : List (List ℕ))
       → Serves steps start to text outcomes last end pending out contents lines → pending ≡ []
-      → out ≡ [] → (read : List ℕ) → Consumes start.unread left read → lines ≡ lines_of_text read
-      → Rests steps lines_of_text start.first start.groups start.service to start.held start.unread
-      text outcomes last end contents left
+      → out ≡ [] → (read : List ℕ) → Consumes start.unread left read
+      → lines ≡ lines_of_text (start.begun ++ read)
+      → Rests steps lines_of_text start.first start.groups start.service to start.held start.begun
+      start.unread text outcomes last end contents left
   rests_so lines_of_text to text outcomes last end pending out contents left lines s none empty read
       consumes is =
       let kept_all = no_lines (accepted s.waiting) (sym s.waits ∙ none) in
@@ -284,7 +298,8 @@ module _ {S : Type 0} (steps : S → List ℕ → List ℕ → Bool → S → Ty
         lines = r.lines ++ longer_line line front ∷ [];
         serves = serves_line from to text outcomes last end pending out waits said contents r.lines
             (longer_line line front) reply changes r.serves step replied keeps;
-        reads = reads_line start.unread left r.lines line front later r.reads whole next none;
+        reads = reads_line start.begun start.unread left r.lines line front later r.reads whole next
+            none;
       }
 
   -- what waited is settled
@@ -323,7 +338,8 @@ module _ {S : Type 0} (steps : S → List ℕ → List ℕ → Bool → S → Ty
 
   -- all of what was read was answered, and it was being settled
   pub ends_whole : (outcomes : List ℕ → Type 0) (contents left : Option (List ℕ)) (read : List ℕ)
-      → Consumes start.unread left read → Breaks steps start outcomes contents (heard read)
+      → Consumes start.unread left read
+      → Breaks steps start outcomes contents (heard (start.begun ++ read))
       → Ends steps start outcomes contents left
   ends_whole outcomes contents left read consumes b = record {
     trace = b.trace;
@@ -347,7 +363,7 @@ module _ {S : Type 0} (steps : S → List ℕ → List ℕ → Bool → S → Ty
   runs_rest to text outcomes last end pending out contents left line rest other r same = record {
     lines = r.lines;
     serves = r.serves;
-    reads = subst (λ (t : List ℕ). Reads start.unread left r.lines line t) same r.reads;
+    reads = subst (λ (t : List ℕ). Reads start.begun start.unread left r.lines line t) same r.reads;
   }
 
   -- a line goes on
@@ -360,7 +376,7 @@ module _ {S : Type 0} (steps : S → List ℕ → List ℕ → Bool → S → Ty
       record {
         lines = r.lines;
         serves = r.serves;
-        reads = reads_piece start.unread left r.lines line rest r.reads whole next is;
+        reads = reads_piece start.begun start.unread left r.lines line rest r.reads whole next is;
       }
 
   -- no line goes on: all lines were answered
@@ -369,12 +385,13 @@ module _ {S : Type 0} (steps : S → List ℕ → List ℕ → Bool → S → Ty
       → Runs steps start to text outcomes last end pending out contents left line []
       → line ≡ []
       → (read : List ℕ) × Consumes start.unread left read
-      × Serves steps start to text outcomes last end pending out contents (heard read)
+      × Serves steps start to text outcomes last end pending out contents
+      (heard (start.begun ++ read))
   all_served to text outcomes last end pending out contents left line r none = (
     r.reads.read,
     r.reads.consumes,
     subst (λ (ls : List (List ℕ)). Serves steps start to text outcomes last end pending out contents
-        ls) (heard_all start.unread left r.lines line r.reads none) r.serves,
+        ls) (heard_all start.begun start.unread left r.lines line r.reads none) r.serves,
   )
 
   -- the line that goes on is the last one
@@ -385,13 +402,14 @@ module _ {S : Type 0} (steps : S → List ℕ → List ℕ → Bool → S → Ty
       → (line ≡ [] → ⊥) → steps from line reply changes to → said ≡ out ++ reply
       → KeepsLine changes line pending waits
       → (read : List ℕ) × Consumes start.unread left read
-      × Serves steps start to text outcomes last end waits said contents (heard read)
+      × Serves steps start to text outcomes last end waits said contents
+      (heard (start.begun ++ read))
   last_served from to text outcomes last end pending out waits said contents left line reply changes
       r some step replied keeps = (
         r.reads.read,
         r.reads.consumes,
         subst (λ (ls : List (List ℕ)). Serves steps start to text outcomes last end waits said
-            contents ls) (heard_last start.unread left r.lines line r.reads some)
+            contents ls) (heard_last start.begun start.unread left r.lines line r.reads some)
             (serves_line from to text outcomes last end pending out waits said contents r.lines line
             reply changes r.serves step replied keeps),
       )
@@ -405,7 +423,7 @@ module _ {S : Type 0} (steps : S → List ℕ → List ℕ → Bool → S → Ty
   runs_more to text outcomes last end pending out contents now left line bytes r next = record {
     lines = r.lines;
     serves = r.serves;
-    reads = reads_more start.unread now left r.lines line bytes r.reads next;
+    reads = reads_more start.begun start.unread now left r.lines line bytes r.reads next;
   }
 
   -- no bytes were read
@@ -417,20 +435,23 @@ module _ {S : Type 0} (steps : S → List ℕ → List ℕ → Bool → S → Ty
   runs_still to text outcomes last end pending out contents now left line r same = record {
     lines = r.lines;
     serves = r.serves;
-    reads = reads_still start.unread now left r.lines line [] r.reads same;
+    reads = reads_still start.begun start.unread now left r.lines line [] r.reads same;
   }
 
-  -- between two blocks each whole line is settled
-  pub rests_whole : (to : S) (text : List ℕ) (outcomes : List ℕ → Type 0) (last : List ℕ)
+  -- between two blocks each whole line is settled, and the piece of the next one is kept
+  pub pauses_so : (to : S) (text : List ℕ) (outcomes : List ℕ → Type 0) (last : List ℕ)
       (end : ℕ) (pending out : List ℕ) (contents left : Option (List ℕ)) (line : List ℕ)
       → Runs steps start to text outcomes last end pending out contents left line []
       → pending ≡ [] → out ≡ []
-      → Rests steps heard_whole start.first start.groups start.service to start.held start.unread
-      text outcomes last end contents left
-  rests_whole to text outcomes last end pending out contents left line r none empty =
-      rests_so heard_whole to text outcomes last end pending out contents left r.lines r.serves none
-      empty r.reads.read r.reads.consumes
-      (heard_whole_are start.unread left r.lines line r.reads)
+      → Pauses steps start.first start.groups start.service to start.held start.begun start.unread
+      text outcomes last end contents line left
+  unfolding rests_so
+  pauses_so to text outcomes last end pending out contents left line r none empty = record {
+    rests = rests_so heard_whole to text outcomes last end pending out contents left r.lines
+        r.serves none empty r.reads.read r.reads.consumes
+        (heard_whole_are start.begun start.unread left r.lines line r.reads);
+    next = next_is start.begun start.unread left r.lines line r.reads;
+  }
 
   -- there is more room, or as much as before
   pub runs_room : (to same : S) (text : List ℕ) (outcomes : List ℕ → Type 0) (last : List ℕ)
@@ -460,7 +481,8 @@ module _ {S : Type 0} (steps : S → List ℕ → List ℕ → Bool → S → Ty
           waits = two ∙ r.serves.waits;
           replied = three ∙ r.serves.replied;
         };
-        reads = subst (λ (l : List ℕ). Reads start.unread left r.lines l rest) (sym four) r.reads;
+        reads = subst (λ (l : List ℕ). Reads start.begun start.unread left r.lines l rest)
+            (sym four) r.reads;
       }
 
   -- each crash leaves a file that is read as before
@@ -492,20 +514,13 @@ module _ {S : Type 0} (steps : S → List ℕ → List ℕ → Bool → S → Ty
       }) r.reads
 
   -- nothing was read yet
-  pub runs_none : (text : List ℕ) (outcomes : List ℕ → Type 0) (last : List ℕ) (end : ℕ)
-      (pending out line : List ℕ) → HasGroups text outcomes last end start.first start.groups
-      → pending ≡ [] → out ≡ [] → line ≡ []
+  pub runs_begun : (text : List ℕ) (outcomes : List ℕ → Type 0) (last : List ℕ) (end : ℕ)
+      (pending out : List ℕ) → HasGroups text outcomes last end start.first start.groups
+      → pending ≡ [] → out ≡ [] → IsPiece start.begun
       → Runs steps start start.service text outcomes last end pending out start.held start.unread
-      line []
-  runs_none text outcomes last end pending out line has none empty blank = record {
+      start.begun []
+  runs_begun text outcomes last end pending out has none empty piece = record {
     lines = [];
     serves = serves_none start.service refl text outcomes last end pending out has none empty;
-    reads = reads_none start.unread line blank;
+    reads = reads_begun start.begun start.unread start.begun piece refl;
   }
-
-  pub ends_none : (text : List ℕ) (outcomes : List ℕ → Type 0) (last : List ℕ) (end : ℕ)
-      → HasGroups text outcomes last end start.first start.groups
-      → Ends steps start outcomes start.held start.unread
-  ends_none text outcomes last end has =
-      ends_still start.service text outcomes last end [] [] start.held start.unread [] []
-      (runs_none text outcomes last end [] [] [] has refl refl refl)

@@ -1,11 +1,13 @@
 -- On the lines that a run hears.
-use Rattle.std.proofs.Common.{◌≡◌, ◌∙◌, ap, sym, refl, ℕ, zero, suc, ◌-◌, ◌<◌, List, [], ◌∷◌, ◌++◌, length, take, map, Bool, true, false, ◌==◌, append_assoc, Option, Some, None, arith}
+use Rattle.std.proofs.Common.{◌≡◌, ◌∙◌, ap, sym, refl, subst, ℕ, zero, suc, ◌+◌, ◌-◌, ◌<◌, ◌≤◌, List, [], ◌∷◌, ◌++◌, length, take, map, Bool, true, ◌==◌, append_assoc, Option, Some, None, arith}
 use Rattle.std.proofs.lemmas.Bool.{eqb-true}
-use Rattle.std.proofs.lemmas.List.{append-nil, map-append}
+use Rattle.std.proofs.lemmas.List.{append-nil, length-append, length-take-le, map-append, take_all}
 use Rattle.std.specs.Io.KnownBytes.{Consumes, Keeps}
+use Rattle.std.specs.List.{list_any}
 use Rattle.journal.specs.Reading.{whole_lines, last_piece}
-use Rattle.journal.proofs.TextLines.{HasNoFeed, none_of_both, whole_lines-line, last_piece-line, whole_lines-none, last_piece-none}
-use Rattle.kept_run.specs.Reads.{cut_long, longer_line, last_line, heard, heard_whole, Reads}
+use Rattle.journal.specs.Text.{is_line_feed}
+use Rattle.journal.proofs.TextLines.{HasNoFeed, or_false, none_of_both, whole_lines-line, last_piece-line, whole_lines-none, last_piece-none}
+use Rattle.kept_run.specs.Reads.{cut_long, longer_line, last_line, heard, heard_whole, next_piece, IsPiece, Reads}
 
 pub Consumes-none : (left : Option (List ℕ)) → Consumes left left []
 Consumes-none None = tt
@@ -51,37 +53,59 @@ regroup piece front later more =
     ap (λ (t : List ℕ). piece ++ t) (append_assoc front (10 ∷ later) more)
     ∙ sym (append_assoc piece front (10 ∷ (later ++ more)))
 
+cut_short : (n : ℕ) (piece : List ℕ) → length piece ≤ n → piece ≡ take n piece
+cut_short n piece short = sym (take_all n piece short)
+
 -- nothing was read
-pub reads_none : (unread : Option (List ℕ)) (line : List ℕ) → line ≡ []
-    → Reads unread unread [] line []
-reads_none unread line none = record {
+pub reads_begun : (begun : List ℕ) (unread : Option (List ℕ)) (line : List ℕ) → IsPiece begun
+    → line ≡ begun → Reads begun unread unread [] line []
+reads_begun begun unread line of same = record {
   read = [];
   consumes = Consumes-none unread;
-  piece = [];
-  open_ended = refl;
-  is = none;
-  asks = λ more. refl;
-  ends = λ more. refl;
+  piece = begun;
+  open_ended = of.open_ended;
+  is = same ∙ cut_short 65537 begun of.short;
+  asks = λ more. ap (λ (t : List ℕ). heard_whole (t ++ more)) (append-nil begun);
+  ends = λ more. ap (λ (t : List ℕ). last_piece (t ++ more)) (append-nil begun);
 }
 
+read_on : (begun read bytes more : List ℕ)
+    → (begun ++ (read ++ bytes)) ++ more ≡ (begun ++ read) ++ (bytes ++ more)
+read_on begun read bytes more =
+    ap (λ (t : List ℕ). t ++ more) (sym (append_assoc begun read bytes))
+    ∙ append_assoc (begun ++ read) bytes more
+
 -- the next bytes were read
-pub reads_more : (unread now left : Option (List ℕ)) (lines : List (List ℕ)) (line bytes : List ℕ)
-    → Reads unread now lines line [] → Consumes now left bytes
-    → Reads unread left lines line bytes
-reads_more unread now left lines line bytes r next = record {
+pub reads_more : (begun : List ℕ) (unread now left : Option (List ℕ)) (lines : List (List ℕ))
+    (line bytes : List ℕ)
+    → Reads begun unread now lines line [] → Consumes now left bytes
+    → Reads begun unread left lines line bytes
+reads_more begun unread now left lines line bytes r next = record {
   read = r.read ++ bytes;
   consumes = Consumes-append unread now left r.read bytes r.consumes next;
   piece = r.piece;
   open_ended = r.open_ended;
   is = r.is;
-  asks = λ more. ap heard_whole (append_assoc r.read bytes more) ∙ r.asks (bytes ++ more);
-  ends = λ more. ap last_piece (append_assoc r.read bytes more) ∙ r.ends (bytes ++ more);
+  asks = λ more. ap heard_whole (read_on begun r.read bytes more) ∙ r.asks (bytes ++ more);
+  ends = λ more. ap last_piece (read_on begun r.read bytes more) ∙ r.ends (bytes ++ more);
 }
 
+-- bytes that were read are more than none
+pub some_more : (read block : List ℕ) (count : ℕ) → count ≤ length block → (count ≡ 0 → ⊥)
+    → 0 < length (read ++ take count block)
+some_more read block count bound other =
+    let both : length (read ++ take count block) ≡ length read + length (take count block) =
+    length-append read (take count block) in
+    let all : length (take count block) ≡ count = length-take-le count block bound in
+    let some : 0 < count = omega (arith, other) in
+    omega (arith, both, all, some)
+
 -- what is left is known as before
-pub reads_still : (unread now left : Option (List ℕ)) (lines : List (List ℕ)) (line rest : List ℕ)
-    → Reads unread now lines line rest → Keeps now left → Reads unread left lines line rest
-reads_still unread now left lines line rest r same = record {
+pub reads_still : (begun : List ℕ) (unread now left : Option (List ℕ)) (lines : List (List ℕ))
+    (line rest : List ℕ)
+    → Reads begun unread now lines line rest → Keeps now left
+    → Reads begun unread left lines line rest
+reads_still begun unread now left lines line rest r same = record {
   read = r.read;
   consumes = Consumes-Keeps unread now left r.read r.consumes same;
   piece = r.piece;
@@ -92,11 +116,12 @@ reads_still unread now left lines line rest r same = record {
 }
 
 -- a line ends
-pub reads_line : (unread left : Option (List ℕ)) (lines : List (List ℕ)) (line front later : List ℕ)
-    → Reads unread left lines line (front ++ 10 ∷ later) → HasNoFeed front
+pub reads_line : (begun : List ℕ) (unread left : Option (List ℕ)) (lines : List (List ℕ))
+    (line front later : List ℕ)
+    → Reads begun unread left lines line (front ++ 10 ∷ later) → HasNoFeed front
     → (next : List ℕ) → next ≡ []
-    → Reads unread left (lines ++ longer_line line front ∷ []) next later
-reads_line unread left lines line front later r whole next none =
+    → Reads begun unread left (lines ++ longer_line line front ∷ []) next later
+reads_line begun unread left lines line front later r whole next none =
     let none_there = none_of_both r.piece front r.open_ended whole in record {
       read = r.read;
       consumes = r.consumes;
@@ -115,10 +140,11 @@ reads_line unread left lines line front later r whole next none =
     }
 
 -- a line goes on
-pub reads_piece : (unread left : Option (List ℕ)) (lines : List (List ℕ)) (line rest : List ℕ)
-    → Reads unread left lines line rest → HasNoFeed rest
-    → (next : List ℕ) → next ≡ longer_line line rest → Reads unread left lines next []
-reads_piece unread left lines line rest r whole next is = record {
+pub reads_piece : (begun : List ℕ) (unread left : Option (List ℕ)) (lines : List (List ℕ))
+    (line rest : List ℕ)
+    → Reads begun unread left lines line rest → HasNoFeed rest
+    → (next : List ℕ) → next ≡ longer_line line rest → Reads begun unread left lines next []
+reads_piece begun unread left lines line rest r whole next is = record {
   read = r.read;
   consumes = r.consumes;
   piece = r.piece ++ rest;
@@ -129,52 +155,96 @@ reads_piece unread left lines line rest r whole next is = record {
   ends = λ more. r.ends more ∙ ap last_piece (sym (append_assoc r.piece rest more));
 }
 
+-- ---- a piece that is kept
+
+pub none_in_front : (n : ℕ) (text : List ℕ) → HasNoFeed text → HasNoFeed (take n text)
+none_in_front zero text none = refl
+none_in_front (suc n) [] none = refl
+none_in_front (suc n) (b ∷ text) none =
+    let both = or_false (is_line_feed b) (list_any is_line_feed text) none in
+    rw (both.0, none_in_front n text both.1) refl
+
+take_bound : (n : ℕ) (text : List ℕ) → length (take n text) ≤ n
+take_bound zero text = omega arith
+take_bound (suc n) [] = omega arith
+take_bound (suc n) (b ∷ text) = let less = take_bound n text in omega (arith, less)
+
+pub no_piece : (line : List ℕ) → line ≡ [] → IsPiece line
+no_piece line none = subst IsPiece (sym none) (record { open_ended = refl; short = omega arith })
+
+-- a piece that goes on is one
+pub piece_on : (line rest next : List ℕ) → IsPiece line → HasNoFeed rest
+    → next ≡ longer_line line rest → IsPiece next
+piece_on line rest next of none is =
+    let room = 65537 - length line in
+    let all : length (longer_line line rest) ≡ length line + length (take room rest) =
+    length-append line (take room rest) in
+    let part : length (take room rest) ≤ room = take_bound room rest in
+    let short = of.short in
+    subst IsPiece (sym is) (record {
+      open_ended = none_of_both line (take room rest) of.open_ended
+          (none_in_front room rest none);
+      short = omega (arith, all, part, short);
+    })
+
 -- ---- at an end
 
-heard_parts : (text : List ℕ)
+pub heard_parts : (text : List ℕ)
     → heard text ≡ heard_whole text ++ map cut_long (last_line (last_piece text))
 heard_parts text = map-append cut_long (whole_lines text) (last_line (last_piece text))
 
 -- the lines so far are the first ones
-pub heard_first : (unread left : Option (List ℕ)) (lines : List (List ℕ)) (line rest : List ℕ)
-    → (r : Reads unread left lines line rest)
-    → (later : List (List ℕ)) × (heard r.read ≡ lines ++ later)
-heard_first unread left lines line rest r = (
-  heard_whole (r.piece ++ (rest ++ [])) ++ map cut_long (last_line (last_piece r.read)),
-  heard_parts r.read
-      ∙ ap (λ (ls : List (List ℕ)). ls ++ map cut_long (last_line (last_piece r.read)))
-      (ap heard_whole (sym (append-nil r.read)) ∙ r.asks [])
+pub heard_first : (begun : List ℕ) (unread left : Option (List ℕ)) (lines : List (List ℕ))
+    (line rest : List ℕ)
+    → (r : Reads begun unread left lines line rest)
+    → (later : List (List ℕ)) × (heard (begun ++ r.read) ≡ lines ++ later)
+heard_first begun unread left lines line rest r = (
+  heard_whole (r.piece ++ (rest ++ [])) ++ map cut_long (last_line (last_piece (begun ++ r.read))),
+  heard_parts (begun ++ r.read)
+      ∙ ap (λ (ls : List (List ℕ)). ls ++ map cut_long (last_line (last_piece (begun ++ r.read))))
+      (ap heard_whole (sym (append-nil (begun ++ r.read))) ∙ r.asks [])
       ∙ append_assoc lines (heard_whole (r.piece ++ (rest ++ [])))
-      (map cut_long (last_line (last_piece r.read))),
+      (map cut_long (last_line (last_piece (begun ++ r.read)))),
 )
 
 -- they are all that a line feed ends
-pub heard_whole_are : (unread left : Option (List ℕ)) (lines : List (List ℕ)) (line : List ℕ)
-    → (r : Reads unread left lines line []) → lines ≡ heard_whole r.read
-heard_whole_are unread left lines line r =
-    sym (ap heard_whole (sym (append-nil r.read)) ∙ r.asks []
+pub heard_whole_are : (begun : List ℕ) (unread left : Option (List ℕ)) (lines : List (List ℕ))
+    (line : List ℕ)
+    → (r : Reads begun unread left lines line []) → lines ≡ heard_whole (begun ++ r.read)
+heard_whole_are begun unread left lines line r =
+    sym (ap heard_whole (sym (append-nil (begun ++ r.read))) ∙ r.asks []
     ∙ ap (λ (t : List ℕ). lines ++ heard_whole t) (append-nil r.piece)
     ∙ ap (λ (ls : List (List ℕ)). lines ++ map cut_long ls) (whole_lines-none r.piece r.open_ended)
     ∙ append-nil lines)
 
-last_is : (unread left : Option (List ℕ)) (lines : List (List ℕ)) (line : List ℕ)
-    → (r : Reads unread left lines line []) → last_piece r.read ≡ r.piece
-last_is unread left lines line r = ap last_piece (sym (append-nil r.read)) ∙ r.ends []
+last_is : (begun : List ℕ) (unread left : Option (List ℕ)) (lines : List (List ℕ)) (line : List ℕ)
+    → (r : Reads begun unread left lines line []) → last_piece (begun ++ r.read) ≡ r.piece
+last_is begun unread left lines line r =
+    ap last_piece (sym (append-nil (begun ++ r.read))) ∙ r.ends []
     ∙ ap last_piece (append-nil r.piece) ∙ last_piece-none r.piece r.open_ended
 
-all_heard : (unread left : Option (List ℕ)) (lines : List (List ℕ)) (line : List ℕ)
-    → (r : Reads unread left lines line [])
-    → heard r.read ≡ lines ++ map cut_long (last_line r.piece)
-all_heard unread left lines line r = heard_parts r.read
-    ∙ ap (λ (ls : List (List ℕ)). ls ++ map cut_long (last_line (last_piece r.read)))
-    (sym (heard_whole_are unread left lines line r))
-    ∙ ap (λ (t : List ℕ). lines ++ map cut_long (last_line t)) (last_is unread left lines line r)
+all_heard : (begun : List ℕ) (unread left : Option (List ℕ)) (lines : List (List ℕ)) (line : List ℕ)
+    → (r : Reads begun unread left lines line [])
+    → heard (begun ++ r.read) ≡ lines ++ map cut_long (last_line r.piece)
+all_heard begun unread left lines line r = heard_parts (begun ++ r.read)
+    ∙ ap (λ (ls : List (List ℕ)). ls ++ map cut_long (last_line (last_piece (begun ++ r.read))))
+    (sym (heard_whole_are begun unread left lines line r))
+    ∙ ap (λ (t : List ℕ). lines ++ map cut_long (last_line t))
+    (last_is begun unread left lines line r)
+
+-- the piece of the next line
+pub next_is : (begun : List ℕ) (unread left : Option (List ℕ)) (lines : List (List ℕ))
+    (line : List ℕ)
+    → (r : Reads begun unread left lines line []) → line ≡ next_piece (begun ++ r.read)
+next_is begun unread left lines line r =
+    r.is ∙ ap cut_long (sym (last_is begun unread left lines line r))
 
 -- no line goes on: they are all
-pub heard_all : (unread left : Option (List ℕ)) (lines : List (List ℕ)) (line : List ℕ)
-    → (r : Reads unread left lines line []) → line ≡ [] → lines ≡ heard r.read
-heard_all unread left lines line r none =
-    sym (all_heard unread left lines line r
+pub heard_all : (begun : List ℕ) (unread left : Option (List ℕ)) (lines : List (List ℕ))
+    (line : List ℕ)
+    → (r : Reads begun unread left lines line []) → line ≡ [] → lines ≡ heard (begun ++ r.read)
+heard_all begun unread left lines line r none =
+    sym (all_heard begun unread left lines line r
     ∙ ap (λ (t : List ℕ). lines ++ map cut_long (last_line t))
     (none_cut 65537 r.piece (omega arith) (sym r.is ∙ none))
     ∙ append-nil lines)
@@ -184,10 +254,12 @@ last_some [] some = absurd (some refl)
 last_some (b ∷ piece) some = refl
 
 -- the line that goes on is the last one
-pub heard_last : (unread left : Option (List ℕ)) (lines : List (List ℕ)) (line : List ℕ)
-    → (r : Reads unread left lines line []) → (line ≡ [] → ⊥) → lines ++ line ∷ [] ≡ heard r.read
-heard_last unread left lines line r some =
-    sym (all_heard unread left lines line r
+pub heard_last : (begun : List ℕ) (unread left : Option (List ℕ)) (lines : List (List ℕ))
+    (line : List ℕ)
+    → (r : Reads begun unread left lines line []) → (line ≡ [] → ⊥)
+    → lines ++ line ∷ [] ≡ heard (begun ++ r.read)
+heard_last begun unread left lines line r some =
+    sym (all_heard begun unread left lines line r
     ∙ ap (λ (ls : List (List ℕ)). lines ++ map cut_long ls)
     (last_some r.piece (λ (e : r.piece ≡ []). some (r.is ∙ ap cut_long e)))
     ∙ ap (λ (l : List ℕ). lines ++ l ∷ []) (sym r.is))

@@ -1,10 +1,10 @@
 -- How far a run has come: what its functions keep between themselves.
-use Rattle.std.specs.Prelude.{◌≡◌, ℕ, List, [], ◌++◌, Bool, Option}
+use Rattle.std.specs.Prelude.{◌≡◌, ℕ, List, ◌++◌, Bool, Option}
 use Rattle.std.specs.Io.KnownBytes.{Appends}
 use Rattle.journal.specs.Text.{lines_text, AreLines}
 use Rattle.journal.specs.Groups.{HasGroups}
 use Rattle.kept_run.specs.Reads.{Reads}
-use Rattle.kept_run.specs.Runs.{Entry, asked, replies, accepted, Trace, lines_of, Survives, Kept, Rests}
+use Rattle.kept_run.specs.Runs.{Entry, asked, replies, accepted, Trace, lines_of, Survives, Kept}
 
 -- where a run began: the journal had these groups behind its first sum
 pub record Start (S : Type 0) : Type 0 where
@@ -12,6 +12,7 @@ pub record Start (S : Type 0) : Type 0 where
   pub groups : List (List (List ℕ))
   pub service : S
   pub held : Option (List ℕ)
+  pub begun : List ℕ
   pub unread : Option (List ℕ)
 
 -- These lines were answered. What the first of them left is on the disk, and their replies are
@@ -50,10 +51,11 @@ pub record Runs {S : Type 0} (steps : S → List ℕ → List ℕ → Bool → S
     (pending out : List ℕ) (contents left : Option (List ℕ)) (line rest : List ℕ) : Type 0 where
   pub lines : List (List ℕ)
   pub serves : Serves steps start to text outcomes last end pending out contents lines
-  pub reads : Reads start.unread left lines line rest
+  pub reads : Reads start.begun start.unread left lines line rest
 
 -- The same at an end: what is kept.
 abbrev pub Ends : {S : Type 0} → (S → List ℕ → List ℕ → Bool → S → Type 0) → Start S
     → (List ℕ → Type 0) → Option (List ℕ) → Option (List ℕ) → Type 0
 Ends steps start outcomes contents left =
-    Kept steps start.first start.groups start.service start.held start.unread outcomes contents left
+    Kept steps start.first start.groups start.service start.held start.begun start.unread outcomes
+    contents left

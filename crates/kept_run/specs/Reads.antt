@@ -1,5 +1,5 @@
 -- The lines that a run hears of what it reads.
-use Rattle.std.specs.Prelude.{◌≡◌, ℕ, ◌-◌, List, [], ◌∷◌, ◌++◌, length, take, map, false, Option}
+use Rattle.std.specs.Prelude.{◌≡◌, ◌≤◌, ℕ, ◌-◌, List, [], ◌∷◌, ◌++◌, length, take, map, false, Option}
 use Rattle.std.specs.List.{list_any}
 use Rattle.std.specs.Io.KnownBytes.{Consumes}
 use Rattle.journal.specs.Text.{is_line_feed}
@@ -28,9 +28,23 @@ heard text = map cut_long (whole_lines text ++ last_line (last_piece text))
 abbrev pub heard_whole : List ℕ → List (List ℕ)
 heard_whole text = map cut_long (whole_lines text)
 
--- These lines were taken from what was read. A piece of the next line is kept, and the rest of the
--- bytes follows it.
-pub record Reads (unread left : Option (List ℕ)) (lines : List (List ℕ))
+-- the piece of a line that a text ends with, as it is kept
+abbrev pub next_piece : List ℕ → List ℕ
+next_piece text = cut_long (last_piece text)
+
+-- a piece of a line as it is kept
+pub record IsPiece (piece : List ℕ) : Type 0 where
+  pub open_ended : list_any is_line_feed piece ≡ false
+  pub short : length piece ≤ 65537
+
+-- what is to be read: the piece of a line that was begun, and what the reader has left
+pub record ToRead : Type 0 where
+  pub piece : List ℕ
+  pub unread : Option (List ℕ)
+
+-- These lines were taken from what was begun and what was read. A piece of the next line is kept,
+-- and the rest of the bytes follows it.
+pub record Reads (begun : List ℕ) (unread left : Option (List ℕ)) (lines : List (List ℕ))
     (line rest : List ℕ) : Type 0 where
   pub read : List ℕ
   pub consumes : Consumes unread left read
@@ -38,5 +52,6 @@ pub record Reads (unread left : Option (List ℕ)) (lines : List (List ℕ))
   pub open_ended : list_any is_line_feed piece ≡ false
   pub is : line ≡ cut_long piece
   pub asks : (more : List ℕ)
-      → heard_whole (read ++ more) ≡ lines ++ heard_whole (piece ++ (rest ++ more))
-  pub ends : (more : List ℕ) → last_piece (read ++ more) ≡ last_piece (piece ++ (rest ++ more))
+      → heard_whole ((begun ++ read) ++ more) ≡ lines ++ heard_whole (piece ++ (rest ++ more))
+  pub ends : (more : List ℕ)
+      → last_piece ((begun ++ read) ++ more) ≡ last_piece (piece ++ (rest ++ more))

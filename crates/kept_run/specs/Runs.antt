@@ -4,7 +4,7 @@ use Rattle.std.specs.Io.KnownBytes.{Appends, Consumes}
 use Rattle.journal.specs.Text.{IsLine}
 use Rattle.journal.specs.Reading.{found, sound}
 use Rattle.journal.specs.Groups.{HasGroups}
-use Rattle.kept_run.specs.Reads.{heard}
+use Rattle.kept_run.specs.Reads.{heard, heard_whole, next_piece}
 
 -- a writer took the bytes but for the rest
 abbrev pub WritesFront : Option (List ℕ) → Option (List ℕ) → List ℕ → List ℕ → Type 0
@@ -63,35 +63,46 @@ pub record Survives (first : List ℕ) (old : List (List (List ℕ))) (trace : L
   pub bytes : ℕ
   pub answers : written ≡ take bytes (replies front)
 
--- Some lines of what was read were answered, the first ones, in order, and each crash leaves a file
--- that survives so.
+-- Some lines of what was begun and read were answered, the first ones, in order, and each crash
+-- leaves a file that survives so.
 pub record Kept {S : Type 0} (steps : S → List ℕ → List ℕ → Bool → S → Type 0) (first : List ℕ)
-    (old : List (List (List ℕ))) (from : S) (before unread : Option (List ℕ))
-    (outcomes : List ℕ → Type 0) (contents left : Option (List ℕ)) : Type 0 where
+    (old : List (List (List ℕ))) (from : S) (before : Option (List ℕ)) (begun : List ℕ)
+    (unread : Option (List ℕ)) (outcomes : List ℕ → Type 0) (contents left : Option (List ℕ))
+    : Type 0 where
   pub trace : List Entry
   pub to : S
   pub goes : Trace steps from trace to
   pub read : List ℕ
   pub consumes : Consumes unread left read
   pub later : List (List ℕ)
-  pub asks : heard read ≡ asked trace ++ later
+  pub asks : heard (begun ++ read) ≡ asked trace ++ later
   pub written : List ℕ
   pub wrote : Appends before contents written
   pub crash : (c : List ℕ) → outcomes c → Survives first old trace written c
 
--- Each line of what was read was answered, in order, all that was accepted is on the disk, and all
--- replies are written.
+-- Each line of what was begun and read was answered, in order, all that was accepted is on the
+-- disk, and all replies are written.
 pub record Rests {S : Type 0} (steps : S → List ℕ → List ℕ → Bool → S → Type 0)
     (lines_of_text : List ℕ → List (List ℕ)) (first : List ℕ)
-    (old : List (List (List ℕ))) (from to : S) (before unread : Option (List ℕ))
-    (text : List ℕ) (outcomes : List ℕ → Type 0) (last : List ℕ) (end : ℕ)
-    (contents left : Option (List ℕ)) : Type 0 where
+    (old : List (List (List ℕ))) (from to : S) (before : Option (List ℕ)) (begun : List ℕ)
+    (unread : Option (List ℕ)) (text : List ℕ) (outcomes : List ℕ → Type 0) (last : List ℕ)
+    (end : ℕ) (contents left : Option (List ℕ)) : Type 0 where
   pub trace : List Entry
   pub goes : Trace steps from trace to
   pub read : List ℕ
   pub consumes : Consumes unread left read
-  pub asks : asked trace ≡ lines_of_text read
+  pub asks : asked trace ≡ lines_of_text (begun ++ read)
   pub groups : List (List (List ℕ))
   pub has : HasGroups text outcomes last end first groups
   pub lines : lines_of groups ≡ lines_of old ++ accepted trace
   pub wrote : Appends before contents (replies trace)
+
+-- The same between two blocks: each line that a line feed ends was answered so, and what follows
+-- the last line feed is the piece that is kept.
+pub record Pauses {S : Type 0} (steps : S → List ℕ → List ℕ → Bool → S → Type 0) (first : List ℕ)
+    (old : List (List (List ℕ))) (from to : S) (before : Option (List ℕ)) (begun : List ℕ)
+    (unread : Option (List ℕ)) (text : List ℕ) (outcomes : List ℕ → Type 0) (last : List ℕ)
+    (end : ℕ) (contents : Option (List ℕ)) (piece : List ℕ) (left : Option (List ℕ)) : Type 0 where
+  pub rests : Rests steps heard_whole first old from to before begun unread text outcomes last end
+      contents left
+  pub next : piece ≡ next_piece (begun ++ rests.read)

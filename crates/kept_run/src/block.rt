@@ -3,7 +3,7 @@ ghost use Rattle.std.specs.Prelude.{◌≡◌, ◌++◌, ◌∷◌, [], List, �
 ghost use Rattle.std.specs.List.{list_any};
 ghost use Rattle.std.specs.Io.KnownBytes.{Consumes};
 ghost use Rattle.journal.specs.Text.{is_line_feed};
-ghost use Rattle.kept_run.specs.Reads.{heard};
+ghost use Rattle.kept_run.specs.Reads.{heard, IsPiece};
 ghost use Rattle.kept_run.specs.Progress.{Start, Serves, Runs, Ends};
 
 use crate::line::{end_line, take_line};
@@ -37,6 +37,7 @@ fn answer_piece<T: Threads + Wait + Sync, S: Service, D: Log + Drop, W: Write>(
         → Runs S.steps start service.new (D.text journal.new.log) (D.may_leave journal.new.log)
         journal.new.last journal.new.end journal.new.pending.items waiting.new.replies.items
         (W.contents writer.new) left waiting.new.line.items later) }
+    ensures empty { OnOk result (waiting.new.line.items ≡ []) }
     ensures kept { (start : Start S) (left : Option (List ℕ)) (later : List ℕ) → IsTrue (D.is_clean journal.old.log)
         → list_any is_line_feed piece.now ≡ false
         → Runs S.steps start service.old (D.text journal.old.log) (D.may_leave journal.old.log)
@@ -76,6 +77,8 @@ fn answer_lines<T: Threads + Wait + Sync, S: Service, D: Log + Drop, W: Write>(
         journal.old.last journal.old.end journal.old.pending.items waiting.old.replies.items
         (W.contents writer.old) left waiting.old.line.items bytes.now
         → Ends S.steps start (D.may_leave journal.new.log) (W.contents writer.new) left }
+    ensures begun { OnOk result
+        (IsPiece waiting.old.line.items → IsPiece waiting.new.line.items) }
     ensures calm { D.is_clean journal.new.log ≡ D.is_clean journal.old.log }
     ensures unread { IsErrOf result RunError.ReadFailed → ⊥ }
 {
@@ -113,6 +116,8 @@ pub fn feed<T: Threads + Wait + Sync, S: Service, D: Log + Drop, W: Write>(
         → Ends S.steps start (D.may_leave journal.new.log) (W.contents writer.new) left }
     ensures empty { OnOk result
         ((journal.new.pending.items ≡ []) × (waiting.new.replies.items ≡ [])) }
+    ensures begun { OnOk result
+        (IsPiece waiting.old.line.items → IsPiece waiting.new.line.items) }
     ensures calm { D.is_clean journal.new.log ≡ D.is_clean journal.old.log }
     ensures unread { IsErrOf result RunError.ReadFailed → ⊥ }
 {
@@ -137,13 +142,14 @@ fn end_last_line<T: Threads + Wait + Sync, S: Service, D: Log + Drop>(
         → (read : List ℕ) × Consumes start.unread left read
         × Serves S.steps start service.new (D.text journal.new.log) (D.may_leave journal.new.log)
         journal.new.last journal.new.end journal.new.pending.items waiting.new.replies.items
-        contents (heard read)) }
+        contents (heard (start.begun ++ read))) }
     ensures kept { (start : Start S) (contents left : Option (List ℕ))
         → IsTrue (D.is_clean journal.old.log)
         → Runs S.steps start service.old (D.text journal.old.log) (D.may_leave journal.old.log)
         journal.old.last journal.old.end journal.old.pending.items waiting.old.replies.items
         contents left waiting.old.line.items []
         → Ends S.steps start (D.may_leave journal.new.log) contents left }
+    ensures empty { OnOk result (waiting.new.line.items ≡ []) }
     ensures calm { D.is_clean journal.new.log ≡ D.is_clean journal.old.log }
     ensures unread { IsErrOf result RunError.ReadFailed → ⊥ }
 {
@@ -152,6 +158,7 @@ fn end_last_line<T: Threads + Wait + Sync, S: Service, D: Log + Drop>(
     }
     make_room(service, journal, waiting)?;
     take_line(rt, service, journal, &mut waiting.replies, &waiting.line)?;
+    waiting.line.clear();
     Ok(())
 }
 
@@ -171,14 +178,15 @@ pub fn finish<T: Threads + Wait + Sync, S: Service, D: Log + Drop, W: Write>(
         → (read : List ℕ) × Consumes start.unread left read
         × Serves S.steps start service.new (D.text journal.new.log) (D.may_leave journal.new.log)
         journal.new.last journal.new.end journal.new.pending.items waiting.new.replies.items
-        (W.contents writer.new) (heard read)) }
+        (W.contents writer.new) (heard (start.begun ++ read))) }
     ensures kept { (start : Start S) (left : Option (List ℕ)) → IsTrue (D.is_clean journal.old.log)
         → Runs S.steps start service.old (D.text journal.old.log) (D.may_leave journal.old.log)
         journal.old.last journal.old.end journal.old.pending.items waiting.old.replies.items
         (W.contents writer.old) left waiting.old.line.items []
         → Ends S.steps start (D.may_leave journal.new.log) (W.contents writer.new) left }
     ensures empty { OnOk result
-        ((journal.new.pending.items ≡ []) × (waiting.new.replies.items ≡ [])) }
+        ((journal.new.pending.items ≡ []) × (waiting.new.replies.items ≡ [])
+        × (waiting.new.line.items ≡ [])) }
     ensures calm { D.is_clean journal.new.log ≡ D.is_clean journal.old.log }
     ensures unread { IsErrOf result RunError.ReadFailed → ⊥ }
 {

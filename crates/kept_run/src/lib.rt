@@ -4,14 +4,19 @@
 
 mod block;
 mod error;
+mod input;
+pub mod laws;
 mod line;
 mod room;
 mod run;
 mod settling;
+mod stop;
 mod traits;
 mod waiting;
 mod writing;
 
 pub use error::RunError;
+pub use input::Input;
 pub use run::run_kept;
+pub use stop::Stop;
 pub use traits::Service;

@@ -35,4 +35,8 @@ pub trait Service {
     /// the journal can't grow, or it can again.
     fn refuse_additions(&mut self, are_refused: bool)
         ensures same { self.new ≡ self.old };
+
+    /// Whether the run is to stop here, where all that was answered is on the disk and the journal
+    /// goes this far. A run asks behind each block that it read, and so gets on by one at least.
+    fn is_due(&self, end: usize) -> bool;
 }

@@ -3,7 +3,7 @@ ghost use Rattle.std.specs.Prelude.{◌≡◌, ◌≤◌, ℕ, List, [], length,
 ghost use Rattle.kept_run.specs.Reads.{longer_line};
 
 use crate::RunError;
-use std::alloc::Global;
+use std::alloc::{AllocError, Global};
 
 /// A line that is longer is cut to this length: so much tells that it is too long.
 const LINE_ROOM: usize = 65_537;
@@ -22,10 +22,9 @@ pub struct Waiting {
 
 impl Waiting {
     /// Nothing waits. There is room for the longest line, and for replies.
-    pub fn new(alloc: Global) -> Result<Waiting, RunError>
+    pub fn new(alloc: Global) -> Result<Waiting, AllocError>
         ensures empty { IfOk result (λ waiting. (waiting.line.items ≡ [])
             × (waiting.replies.items ≡ [])) }
-        ensures unread { IsErrOf result RunError.ReadFailed → ⊥ }
     {
         let line = Vec::with_capacity(alloc, LINE_ROOM)?;
         let replies = Vec::with_capacity(alloc, REPLIES_ROOM)?;
@@ -34,6 +33,14 @@ impl Waiting {
             replies,
             refuses_additions: false,
         })
+    }
+
+    /// Forgets the line that was begun, and the replies, since the run failed.
+    pub fn forget(&mut self)
+        ensures { (self.new.line.items ≡ []) × (self.new.replies.items ≡ []) }
+    {
+        self.line.clear();
+        self.replies.clear();
     }
 }
 

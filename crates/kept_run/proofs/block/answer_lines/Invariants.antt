@@ -1,5 +1,6 @@
 use Rattle.std.proofs.Common.{◌≡◌, ℕ, List, length, Option}
 use Rattle.std.specs.Prelude.{IsTrue}
+use Rattle.kept_run.specs.Reads.{IsPiece}
 use Rattle.kept_run.specs.Progress.{Start, Runs}
 use Rattle.kept_run.proofs.block.answer_lines.Given as goal
 
@@ -15,6 +16,7 @@ invariant-loop-piece g l = record {
       (g.D.Log.may_leave l.journal.log) l.journal.last l.journal.end
       l.journal.pending.items l.waiting.replies.items (g.W.Write.contents l.writer) left
       l.waiting.line.items l.rest;
+  begun : IsPiece l.fn.waiting.line.items → IsPiece l.waiting.line.items;
   calm : g.D.Log.is_clean l.journal.log ≡ g.D.Log.is_clean l.fn.journal.log;
 }
 

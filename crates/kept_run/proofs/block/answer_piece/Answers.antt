@@ -1,4 +1,3 @@
-use Rattle.std.proofs.Common.{◌≡◌, ◌∙◌, sym, subst, ℕ, List, ◌++◌, ◌∷◌}
 use Rattle.std.specs.Prelude.{IsTrue}
 use Rattle.kept_run.specs.Runs.{accepted}
 use Rattle.kept_run.specs.Progress.{Runs}

@@ -1,4 +1,3 @@
-use Rattle.std.proofs.Common.{◌≡◌}
 use Rattle.std.specs.Prelude.{IsTrue}
 use Rattle.kept_run.specs.Runs.{accepted}
 use Rattle.kept_run.proofs.Keeping.{runs_room, ends_found, runs_settled, ends_settling}

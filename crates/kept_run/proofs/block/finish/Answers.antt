@@ -1,4 +1,3 @@
-use Rattle.std.proofs.Common.{◌≡◌}
 use Rattle.std.specs.Prelude.{IsTrue}
 use Rattle.kept_run.specs.Runs.{accepted}
 use Rattle.kept_run.proofs.Keeping.{serves_settled, breaks_settling, ends_whole}

@@ -1,8 +1,10 @@
 use Rattle.std.proofs.Common.{◌≡◌, ◌<◌, List, ℕ, [], length}
 use Rattle.std.specs.Prelude.{IsTrue}
+use Rattle.std.specs.Io.KnownBytes.{Consumes}
 use Rattle.journal.specs.Groups.{HasGroups}
-use Rattle.kept_run.specs.Progress.{Start, Runs}
-use Rattle.kept_run.proofs.run.run_kept.Given as goal
+use Rattle.kept_run.specs.Reads.{IsPiece}
+use Rattle.kept_run.specs.Progress.{Runs}
+use Rattle.kept_run.proofs.run.serve.Given as goal
 
 abbrev pub invariant-serving : goal.invariant-serving
 invariant-serving g l = record {
@@ -15,12 +17,17 @@ invariant-serving g l = record {
         groups = groups;
         service = l.fn.service;
         held = g.W.Write.contents l.fn.writer;
-        unread = g.R.Read.remaining l.fn.reader;
+        begun = l.fn.source.waiting.line.items;
+        unread = g.R.Read.remaining l.fn.source.reader;
       }) l.service (g.D.Log.text l.journal.log) (g.D.Log.may_leave l.journal.log) l.journal.last
-      l.journal.end l.journal.pending.items l.waiting.replies.items (g.W.Write.contents l.writer)
-      (g.R.Read.remaining l.reader) l.waiting.line.items [];
+      l.journal.end l.journal.pending.items l.source.waiting.replies.items
+      (g.W.Write.contents l.writer) (g.R.Read.remaining l.source.reader)
+      l.source.waiting.line.items [];
+  goes : (read : List ℕ)
+      × Consumes (g.R.Read.remaining l.fn.source.reader) (g.R.Read.remaining l.source.reader) read;
   calm : g.D.Log.is_clean l.journal.log ≡ g.D.Log.is_clean l.fn.journal.log;
   waits : l.journal.pending.items ≡ [];
-  replies : l.waiting.replies.items ≡ [];
-  room : 0 < length l.block.items;
+  begun : IsPiece l.source.waiting.line.items;
+  replies : l.source.waiting.replies.items ≡ [];
+  room : 0 < length l.source.block.items;
 }
