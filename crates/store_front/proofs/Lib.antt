@@ -2,6 +2,7 @@ pub mod SessionParts
 pub mod SessionCounts
 pub mod Growth
 pub mod Emptied
+pub mod RaisedSound
 pub mod ToldAll
 pub mod Finishing
 pub mod Comparing

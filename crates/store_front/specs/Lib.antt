@@ -6,3 +6,4 @@ pub mod Parts
 pub mod Finish
 pub mod Cursors
 pub mod Questions
+pub mod NextNumber

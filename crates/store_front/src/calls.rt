@@ -7,3 +7,4 @@ pub(crate) mod impact;
 pub(crate) mod in_memory;
 pub(crate) mod plan_copy;
 pub(crate) mod records;
+pub(crate) mod whole;
