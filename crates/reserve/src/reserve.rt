@@ -30,6 +30,10 @@ pub struct Reserve {
 // What a thread takes at most: a stack, and what the C library sets aside for its blocks.
 const THREAD: usize = 142_606_336;
 
+// The block grows by at most this number of bytes beyond what is wanted: a store that ran full and
+// starts again has no more beside its rows than it had.
+const AHEAD: usize = 16_384;
+
 // What the block has where it is given up. It is never freed: a block that is freed makes room for
 // smaller ones, and its place is lost.
 const GIVEN_UP: usize = 4096;
@@ -65,14 +69,14 @@ impl Reserve {
         bytes_of(stored, objects, &beside)
     }
 
-    // Lets the block grow to this size, and an eighth more where that can be had; else it stays as it
-    // is. It holds no byte, so none is copied.
+    // Lets the block grow to this size, and some more where that can be had; else it stays as it is.
+    // It holds no byte.
     fn keep(&mut self, bytes: usize) -> bool {
         if bytes <= self.block.capacity() {
             return true;
         }
         self.block
-            .reserve_exact(bytes.saturating_add(bytes / 8))
+            .reserve_exact(bytes.saturating_add((bytes / 8).min(AHEAD)))
             .is_ok()
             || self.block.reserve_exact(bytes).is_ok()
     }
