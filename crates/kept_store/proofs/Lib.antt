@@ -1,5 +1,9 @@
 mod PassedOn
 mod Moves
+mod Unasked
 mod Stepping
 mod Replayed
 mod Restarts
+mod Drafting
+mod Comparing
+mod NumberTexts

@@ -1,21 +1,25 @@
 -- On stores after lines.
-use Rattle.std.proofs.Common.{◌≡◌, ◌∙◌, ◌≤◌, ◌-◌, ap, refl, sym, ℕ, List, [], ◌∷◌, ◌++◌, take, length, ◌+◌, Bool, true, false, append_assoc, length-append, arith, inl, inr}
+use Rattle.std.proofs.Common.{◌≡◌, ◌∙◌, ◌≤◌, ◌-◌, ap, refl, sym, ℕ, List, [], ◌∷◌, ◌++◌, take, length, ◌+◌, Bool, true, false, append_assoc, length-append, arith, Option, Some, None, inl, inr}
 use Rattle.std.proofs.lemmas.Bool.{cases_Bool}
 use Rattle.std.specs.Prelude.{not, filter}
 use Rattle.std.proofs.lemmas.List.{append-nil}
 use Rattle.std.specs.List.{AllByRecursion}
+use Rattle.std.specs.Option.{option_map_or}
 use Rattle.meta_types.specs.Rows.{State}
 use Rattle.journal.specs.Text.{is_commit, commit_line, group_sum, group_end, lines_from, journal_lines, journal_text, IsLine, AreLines, AreGroups}
 use Rattle.journal.specs.Reading.{whole_lines}
 use Rattle.journal.proofs.TextLines.{HasNoFeed, whole_lines-text, whole_lines-line, whole_lines-none}
 use Rattle.journal.proofs.Groups.{lines_are_whole}
-use Rattle.kept_store.specs.Replays.{after_line, store_after, requests_among, requests_in, LineSteps}
+use Rattle.store_front.specs.NextNumber.{raised}
+use Rattle.kept_store.specs.Numbers.{number_in}
+use Rattle.kept_store.specs.Replays.{after_line, after_kept_line, store_after, requests_among, requests_in, LineSteps}
 use Rattle.kept_run.specs.Runs.{Entry, accepted, Trace, lines_of}
 
 pub store_after-append : (state : State) (lines more : List (List ℕ))
     → store_after state (lines ++ more) ≡ store_after (store_after state lines) more
 store_after-append state [] more = refl
-store_after-append state (line ∷ lines) more = store_after-append (after_line state line) lines more
+store_after-append state (line ∷ lines) more =
+    store_after-append (after_kept_line state line) lines more
 
 abbrev plain : List ℕ → Bool
 plain line = not (is_commit line)
@@ -45,13 +49,28 @@ requests_in-journal first groups all =
     (whole_lines-text (journal_lines first groups) (lines_are_whole first 0 groups all))
     ∙ in_lines first 0 groups all
 
+-- a line that raises no number is done as a request
+pub unraised : (state new : State) (line : List ℕ) → number_in line ≡ None
+    → new ≡ after_line state line → new ≡ after_kept_line state line
+unraised state new line none done =
+    done ∙ ap (λ (found : Option ℕ). option_map_or (λ (number : ℕ). raised number state) found
+    (after_line state line)) (sym none)
+
+-- any other raises the next number
+pub raises : (state : State) (line : List ℕ) (number : ℕ) → number_in line ≡ Some number
+    → raised number state ≡ after_kept_line state line
+raises state line number some =
+    ap (λ (found : Option ℕ). option_map_or (λ (number : ℕ). raised number state) found
+    (after_line state line)) (sym some)
+
 -- the store after a run is the one after its accepted lines
 pub runs_replay : (from to : State) (entries : List Entry) → Trace LineSteps from entries to
     → to ≡ store_after from (accepted entries)
 runs_replay from to [] goes = sym goes
 runs_replay from to (entry ∷ entries) goes = elim (cases_Bool entry.changes) [
   | inl has ↦ rw has (runs_replay goes.0 to entries goes.2
-      ∙ ap (λ (s : State). store_after s (accepted entries)) (goes.1.1 has))
+      ∙ ap (λ (s : State). store_after s (accepted entries))
+      (unraised from goes.0 entry.line (goes.1.1 has).0 (goes.1.1 has).1))
   | inr other ↦ rw other (runs_replay goes.0 to entries goes.2
       ∙ ap (λ (s : State). store_after s (accepted entries)) (goes.1.2 other))
 ]
@@ -73,7 +92,7 @@ commit_only state line commits = rw commits refl
 
 -- any other is one
 pub line_only : (state new : State) (line : List ℕ) → is_commit line ≡ false
-    → new ≡ after_line state line → new ≡ store_after state (requests_among (line ∷ []))
+    → new ≡ after_kept_line state line → new ≡ store_after state (requests_among (line ∷ []))
 line_only state new line other done = rw other done
 
 -- the requests of a text are one line's, and those behind it

@@ -15,6 +15,7 @@ use Rattle.scripts.specs.declared.said.Said.TheVariants.{Text, Report}
 use Rattle.scripts.proofs.LineAnswers.{line_step-answer, line_step-empty, line_step-long, true_at_empty, true_at_long, true_at_memory}
 use Rattle.kept_store.specs.Replays.{after_line, shows_change, is_logged, LineSteps}
 use Rattle.kept_store.proofs.Moves.{line_moves, line_unanswered, report_shows}
+use Rattle.kept_store.proofs.Unasked.{raises_none}
 
 abbrev IsReply : State → List ℕ → Option Said → State → Type 0
 IsReply state line reply new = (supplied : Option Supplied)
@@ -31,13 +32,17 @@ answered_steps state new line None step dry = (
 answered_steps state new line (Some (Text text)) step dry =
     let moves = line_moves state new step.0 line (said_bytes (Text text)) step.1 in (
       step,
-      (λ log. moves.0 log),
+      (λ log. (raises_none state new step.0 line (said_bytes (Text text)) step.1 log, moves.0 log)),
       λ none. moves.1 none,
     )
 answered_steps state new line (Some (Report report)) step dry =
-    let moves = line_moves state new step.0 line (said_bytes (Report report)) step.1 in (
+    let moves = line_moves state new step.0 line (said_bytes (Report report)) step.1 in
+    let shows = report_shows report in (
       step,
-      (λ log. moves.0 (report_shows report)),
+      (λ log. (
+        raises_none state new step.0 line (said_bytes (Report report)) step.1 shows,
+        moves.0 shows,
+      )),
       λ none. dry (not_false report.dry none),
     )
   where

@@ -1,12 +1,14 @@
 -- What holds of journals and stores. Each statement is the contract of a function of the module
 -- `laws`.
-use Rattle.std.specs.Prelude.{◌≡◌, ℕ, List, Bool, true, false, Option}
+use Rattle.std.specs.Prelude.{◌≡◌, ℕ, List, ◌++◌, codes, Bool, true, false, Option, None}
 use Rattle.meta_types.specs.Rows.{State}
 use Rattle.journal.specs.Text.{AreGroups, journal_text}
-use Rattle.kept_run.specs.Runs.{Entry, accepted, Trace, lines_of}
+use Rattle.request_line.specs.Lines.{asked_in}
+use Rattle.kept_run.specs.Runs.{Entry, accepted, Trace, lines_of, Pauses}
 use Rattle.scripts.specs.LineSteps.{Supplied, line_step}
 use Rattle.scripts.specs.Lines.{with_line_feed}
 use Rattle.kept_store.specs.Replays.{after_line, store_after, shows_change, requests_in, LineSteps}
+use Rattle.kept_store.specs.Restarts.{FindsAgain}
 
 -- The lines of a journal's text are those of its groups.
 abbrev pub JournalsReplay : Type 0
@@ -25,3 +27,18 @@ RepliesShowChanges = (state new : State) (supplied : Option Supplied) (line text
 abbrev pub RunsReplay : Type 0
 RunsReplay = (from to : State) (entries : List Entry) → Trace LineSteps from entries to
     → to ≡ store_after from (accepted entries)
+
+-- A line that begins by "number " asks for nothing, so each run refuses it.
+abbrev pub NumbersAskNothing : Type 0
+NumbersAskNothing = (rest : List ℕ) → asked_in (codes "number " ++ rest) ≡ None
+
+-- Of a call that stopped, and of one that goes on from there, over whatever journal: what a next
+-- start finds of the second, it finds of both as of one call.
+abbrev pub RestartsJoin : {L : Type 0} → (L → List ℕ) → (L → List ℕ → Type 0) → Type 0
+RestartsJoin {L} text leaves = (first first2 : List ℕ) (old : List (List (List ℕ)))
+    (from mid : State) (before contents contents2 : Option (List ℕ)) (begun piece : List ℕ)
+    (unread left left2 : Option (List ℕ)) (log : L) (last : List ℕ) (end : ℕ) (file : List ℕ)
+    → Pauses LineSteps first old from mid before begun unread (text log) (leaves log) last end
+    contents piece left
+    → FindsAgain first2 mid contents piece left contents2 left2 file
+    → FindsAgain first2 from before begun unread contents2 left2 file

@@ -1,5 +1,7 @@
 //! What holds of journals and stores.
-ghost use Rattle.kept_store.specs.Laws.{JournalsReplay, RepliesShowChanges, RunsReplay};
+ghost use Rattle.kept_store.specs.Laws.{JournalsReplay, RepliesShowChanges, RestartsJoin, RunsReplay, NumbersAskNothing};
+
+use journal::Log;
 
 /// A reply's text tells whether its line changed the store.
 pub fn replies_show_changes()
@@ -14,4 +16,14 @@ pub fn journals_replay()
 /// Whatever a run was refused, its logged lines give the store that it left.
 pub fn runs_replay()
     ensures runs { RunsReplay }
+{}
+
+/// A line that raises the next backend number is no request.
+pub fn numbers_ask_nothing()
+    ensures numbers { NumbersAskNothing }
+{}
+
+/// What a start finds of a run that stopped and went on, it finds as of one that didn't stop.
+pub fn restarts_join<D: Log>()
+    ensures joined { RestartsJoin D.text D.may_leave }
 {}

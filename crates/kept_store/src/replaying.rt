@@ -1,11 +1,12 @@
 //! Does the lines of a journal again.
 ghost use Rattle.std.specs.Prelude.{◌≡◌, ◌≤◌, ◌<◌, ◌+◌, ◌-◌, ◌++◌, ◌∷◌, ℕ, [], List, length, take, drop, IsTrue, IfOk, OnOk};
 ghost use Rattle.journal.specs.Reading.{whole_lines};
-ghost use Rattle.kept_store.specs.Replays.{after_line, store_after, requests_among, requests_in};
+ghost use Rattle.kept_store.specs.Replays.{after_kept_line, store_after, requests_among, requests_in};
 
 use crate::StartError;
 use crate::error::start_error;
 use crate::logging::is_logged;
+use crate::numbers::number_in;
 use crate::store::{KeptStore, LINE_LIMIT};
 use journal::{Log, cut_line, is_commit, read_lines};
 use meta_types::Fault;
@@ -24,14 +25,19 @@ fn is_for_memory(reply: &Option<Said>) -> bool {
     }
 }
 
-// Does a line again. It was logged once, so it is refused for memory alone, or by another metad.
+// Does a line again: raises the next number, or does a request. That was logged once, so it is
+// refused for memory alone, or by another metad.
 fn redo<L: Ledger, T: Threads + Wait + Sync>(
     store: &mut KeptStore<L>,
     rt: &T,
     line: &[u8],
 ) -> Result<(), StartError>
-    ensures ok { OnOk result (store.new ≡ after_line store.old line.now) }
+    ensures ok { OnOk result (store.new ≡ after_kept_line store.old line.now) }
 {
+    if let Some(number) = number_in(line) {
+        store.raise_next(number);
+        return Ok(());
+    }
     if line.len() > LINE_LIMIT {
         return Err(StartError::Refused);
     }

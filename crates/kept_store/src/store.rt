@@ -6,10 +6,13 @@ ghost use Rattle.meta_types.specs.Rows.{empty_store};
 ghost use Rattle.scripts.specs.DryRuns.{is_dry_run};
 ghost use Rattle.scripts.specs.LineSteps.{Supplied, line_step, IsTrueAt};
 ghost use Rattle.scripts.specs.SaidLines.{reply_bytes};
+ghost use Rattle.store_front.specs.NextNumber.{raised};
 ghost use Rattle.kept_store.specs.Replays.{is_logged, LineSteps};
 
+use crate::due::is_due;
 use crate::logging::is_logged;
 use crate::replies::{has_room, put_line, put_refusal, put_reply, take_room};
+use back_model::{MemBackend, MemBlobs, MemIngests};
 use kept_run::Service;
 use meta_types::Fault;
 use reply_line::{BLOCK_ROOM, refusal_text};
@@ -26,7 +29,7 @@ use store_front::{Locked, MemLocked, Session, Unkept};
 pub(crate) const LINE_LIMIT: usize = 65536;
 
 /// A store in memory with its one session, and how many workers collect. The block has room for the
-/// text of a report while it is written.
+/// text of a report while it is written. A run is due by the size of the last checkpoint.
 #[derive(Drop)]
 pub struct KeptStore<L: Ledger> {
     alloc: Global,
@@ -35,6 +38,7 @@ pub struct KeptStore<L: Ledger> {
     workers: usize,
     memory: LineMemory,
     block: Vec<u8>,
+    checkpoint: Option<usize>,
 }
 
 impl<L: Ledger> Model for KeptStore<L> {
@@ -73,6 +77,7 @@ impl<L: Ledger> KeptStore<L> {
             workers: 1,
             memory,
             block,
+            checkpoint: None,
         })
     }
 
@@ -82,6 +87,28 @@ impl<L: Ledger> KeptStore<L> {
         ensures { self.new ≡ self.old }
     {
         self.workers = workers;
+    }
+
+    /// From now on a run is due for a checkpoint, by the size of the last one in bytes, or 0. Without
+    /// this call it never is.
+    pub fn set_checkpoint(&mut self, bytes: usize)
+        ensures { self.new ≡ self.old }
+    {
+        self.checkpoint = Some(bytes);
+    }
+
+    /// From now on the next backend number is at least this one.
+    pub(crate) fn raise_next(&mut self, number: u64)
+        ensures { self.new ≡ raised number self.old }
+    {
+        self.locked.raise_next(number);
+    }
+
+    /// The store.
+    pub(crate) fn state(&self) -> &State<MemBackend, MemBlobs, MemIngests>
+        ensures { result.now.state ≡ self.now }
+    {
+        self.locked.state()
     }
 
     // The reply to a line that isn't too long, as `answer_line` gives it.
@@ -183,5 +210,12 @@ impl<L: Ledger> Service for KeptStore<L> {
 
     fn refuse_additions(&mut self, are_refused: bool) {
         self.memory.refuse_additions(are_refused);
+    }
+
+    fn is_due(&self, end: usize) -> bool {
+        match self.checkpoint {
+            Some(bytes) => is_due(end, bytes),
+            None => false,
+        }
     }
 }

@@ -1,0 +1,6 @@
+use Rattle.kept_store.proofs.Drafting.{begun}
+use Rattle.kept_store.proofs.draft.begin.Goals as goal
+
+pub returns : goal.returns
+returns g c clean =
+    begun _ _ _ _ (c.requires.blank clean) c.first_sum-last.ensures c.new.ensures.items
