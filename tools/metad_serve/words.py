@@ -24,27 +24,31 @@ def parser() -> argparse.ArgumentParser:
     """What stands before a COMMAND."""
     words = argparse.ArgumentParser(
         prog="metad-serve",
-        usage="metad-serve [--socket PATH] (--dir DIR [--workers N] | -- COMMAND ..)",
+        usage="metad-serve [--socket PATH] "
+        "(--dir DIR [--workers N] [--checkpoint] | -- COMMAND ..)",
         epilog=EPILOG,
         allow_abbrev=False,
     )
     words.add_argument("--socket", metavar="PATH", help="the Unix socket on which clients come")
     words.add_argument("--dir", metavar="DIR", help="the folder of the store")
     words.add_argument("--workers", metavar="N", help="so many threads mark and sweep; 1 without")
+    words.add_argument("--checkpoint", action="store_true", help="the service writes one first")
     return words
 
 
 def command_of(words: argparse.Namespace, command: Optional[List[str]], tool: str) -> List[str]:
     """The program that answers: the COMMAND, or the one that `metad` beside the tools finds."""
     if command is not None:
-        if words.dir is not None or words.workers is not None or not command:
-            raise Refused("a COMMAND stands behind --, and then neither --dir nor --workers")
+        of_a_store = words.dir is not None or words.workers is not None or words.checkpoint
+        if of_a_store or not command:
+            raise Refused("a COMMAND stands behind --, and then no word of the store")
         return command
     if words.dir is None:
         raise Refused("--dir DIR or a COMMAND is wanted (metad-serve --help)")
     top = os.path.dirname(os.path.dirname(tool))
     command = [os.path.join(top, "metad"), "serve", "--dir", words.dir]
-    return command + (["--workers", words.workers] if words.workers is not None else [])
+    command += ["--workers", words.workers] if words.workers is not None else []
+    return command + (["--checkpoint"] if words.checkpoint else [])
 
 
 def most_clients() -> int:

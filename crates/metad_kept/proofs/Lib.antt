@@ -1,1 +1,2 @@
+mod Blanked
 mod Rooms

@@ -16,6 +16,8 @@ pub enum PlainError {
     UnknownFormat,
     /// Its head isn't as it was written.
     Damaged,
+    /// It is missing or empty, and the other file isn't.
+    Missing,
 }
 
 /// A file as it is while it is read, be it that a program writes to it.
@@ -23,6 +25,15 @@ pub enum PlainError {
 pub struct PlainFile {
     file: fs::File,
     size: usize,
+    /// Its head says that the other file counts.
+    pub names_other: bool,
+}
+
+// What a head says: how many steps of its file are believed, and whether the other file counts.
+#[derive(Clone, Copy)]
+struct Said {
+    steps: usize,
+    names_other: bool,
 }
 
 // As many bytes, whatever they are.
@@ -56,7 +67,8 @@ fn read_front(file: &fs::File, block: &mut Vec<u8>, count: usize) -> Result<(), 
     }
 }
 
-// Whether a file never had a whole head, so that nothing of it is believed.
+// Whether a file never had a whole head, so that nothing of it is believed. It is read whole, so its
+// front is looked at before.
 fn is_new(alloc: Global, file: &fs::File) -> Result<bool, PlainError> {
     let size = size_of(file)?;
     let mut text: Vec<u8> = Vec::new(alloc);
@@ -77,16 +89,42 @@ fn steps_of(file: &fs::File, head: &[u8]) -> Result<usize, PlainError>
     }
 }
 
-// How many steps of a file are believed.
-fn read_steps(alloc: Global, file: &fs::File) -> Result<usize, PlainError> {
+// Whether two of the three bytes of a choice are there at least (docs/JOURNAL.md, "The choice").
+fn names_other(head: &[u8]) -> bool {
+    let Some(choice) = head.get(4_091..4_094) else {
+        return false;
+    };
+    choice.iter().filter(|byte| **byte == b'+').count() >= 2
+}
+
+// What the head of a file says. One that never had a whole head says nothing.
+fn read_said(alloc: Global, file: &fs::File) -> Result<Said, PlainError> {
     let count = size_of(file)?.min(HEAD);
     let mut head: Vec<u8> = Vec::new(alloc);
     read_front(file, &mut head, count)?;
-    let steps = steps_of(file, &head);
-    if steps.is_err() && is_new(alloc, file)? {
-        return Ok(0);
+    match steps_of(file, &head) {
+        Ok(steps) => Ok(Said {
+            steps,
+            names_other: names_other(&head),
+        }),
+        Err(error) => {
+            if is_blank(&head) && is_new(alloc, file)? {
+                return Ok(Said {
+                    steps: 0,
+                    names_other: false,
+                });
+            }
+            Err(error)
+        }
     }
-    steps
+}
+
+/// Whether there is a file with this name that isn't empty.
+pub fn has_bytes(rt: &HostRuntime, path: &str) -> bool {
+    match fs::metadata(rt, path) {
+        Ok(data) => data.len() > 0,
+        Err(_) => false,
+    }
 }
 
 impl PlainFile {
@@ -95,9 +133,13 @@ impl PlainFile {
         let Ok(file) = fs::open(rt, path) else {
             return Err(PlainError::ReadFailed);
         };
-        let steps = read_steps(rt.alloc(), &file)?;
-        let size = steps.saturating_mul(STEP);
-        Ok(PlainFile { file, size })
+        let said = read_said(rt.alloc(), &file)?;
+        let size = said.steps.saturating_mul(STEP);
+        Ok(PlainFile {
+            file,
+            size,
+            names_other: said.names_other,
+        })
     }
 }
 

@@ -1,6 +1,7 @@
 //! The lines of a journal, as a script that `metad run` answers.
 
-use journal::{JournalError, Log, cut_line, is_commit, read_lines};
+use crate::finding::FIRST;
+use journal::{JournalError, Log, Reader, Sound, cut_line, is_commit, read_lines};
 use std::alloc::Global;
 use std::io::Write;
 
@@ -8,6 +9,8 @@ use std::io::Write;
 pub enum ScriptError {
     Journal(JournalError),
     WriteFailed,
+    /// What was read isn't what was found before: a program wrote the file anew meanwhile.
+    Renewed,
 }
 
 impl From<JournalError> for ScriptError {
@@ -44,25 +47,51 @@ fn write_lines<W: Write>(writer: &mut W, text: &[u8]) -> Result<(), ScriptError>
     Ok(())
 }
 
-/// Writes the lines that stand before a place.
+// Writes the lines of a block, and reads them as a journal's.
+fn write_block<W: Write>(
+    writer: &mut W,
+    reader: &mut Reader,
+    block: &[u8],
+) -> Result<(), ScriptError> {
+    match reader.read(block) {
+        Ok(()) => {}
+        Err(JournalError::Damaged) => return Err(ScriptError::Renewed),
+        Err(error) => return Err(ScriptError::Journal(error)),
+    }
+    write_lines(writer, block)
+}
+
+// Whether a reader is where a journal was found to end.
+fn is_there(reader: &Reader, sound: &Sound) -> bool {
+    match reader.end() {
+        Ok(end) => end.end == sound.end && end.last == sound.last,
+        Err(_) => false,
+    }
+}
+
+/// Writes the lines that stand before a place, by the last sum that was found there.
 pub fn write_script<D: Log, W: Write>(
     alloc: Global,
     log: &mut D,
-    end: usize,
+    sound: &Sound,
     writer: &mut W,
 ) -> Result<(), ScriptError> {
     let mut block: Vec<u8> = Vec::new(alloc);
+    let mut reader = Reader::new(alloc, &FIRST);
     let mut at = 0usize;
     'writing: for _ in 0..u64::MAX {
-        if at >= end {
+        if at >= sound.end {
             break;
         }
-        let next = read_lines(log, at, end, &mut block)?;
+        let next = read_lines(log, at, sound.end, &mut block)?;
         if next <= at {
-            return Err(ScriptError::Journal(JournalError::DiskFailed));
+            return Err(ScriptError::Renewed);
         }
-        write_lines(writer, &block)?;
+        write_block(writer, &mut reader, &block)?;
         at = next;
+    }
+    if !is_there(&reader, sound) {
+        return Err(ScriptError::Renewed);
     }
     match writer.flush() {
         Ok(()) => Ok(()),

@@ -1,7 +1,9 @@
 //! What the program tells beside its replies.
 
 use crate::finding::Finding;
+use crate::renewing::Why;
 use journal::{JournalError, Sound};
+use kept_store::CheckpointError;
 use meta_types::Fault;
 use std::process::ExitCode;
 use std::str::from_utf8;
@@ -44,6 +46,44 @@ fn digits(sum: &[u8; 64]) -> &str {
 pub fn tell_found(rt: &HostRuntime, path: &str, lines: u64, sound: &Sound) {
     let (end, last) = (sound.end, digits(&sound.last));
     let _told = eprintln!(rt; "metad: {path}: {lines} lines, {end} bytes, last sum {last}");
+}
+
+// Why there is no checkpoint.
+fn text_of(why: Why) -> &'static str {
+    match why {
+        Why::Opening(JournalError::UnknownFormat) => "its first line isn't that of a journal",
+        Why::Opening(JournalError::Damaged) => "damage in its head",
+        Why::Taking(CheckpointError::Full) => "it can't grow",
+        Why::Taking(CheckpointError::Refused) => "a line of it is refused",
+        Why::Taking(CheckpointError::Differs) => "its lines make another store",
+        Why::Opening(JournalError::OutOfMemory) | Why::Taking(CheckpointError::OutOfMemory) => {
+            "memory is refused"
+        }
+        _ => "it can't be read or written",
+    }
+}
+
+/// Tells that a file has a checkpoint, and counts from now on.
+pub fn tell_checkpoint(rt: &HostRuntime, path: &str, bytes: usize) {
+    let _told = eprintln!(rt; "metad: {path}: a checkpoint of {bytes} bytes");
+}
+
+/// Tells that a file took no checkpoint, so the other one goes on.
+pub fn tell_no_checkpoint(rt: &HostRuntime, path: &str, why: Why) {
+    let text = text_of(why);
+    let _told = eprintln!(rt; "metad: {path}: no checkpoint: {text}");
+}
+
+/// Tells that one of the two files isn't there, or is empty, and the other one is.
+pub fn tell_missing(rt: &HostRuntime, path: &str) -> ExitCode {
+    let _told = eprintln!(rt; "metad: {path}: it is missing or empty, and the other file isn't");
+    ExitCode::from(3)
+}
+
+/// Tells that a file was written anew while it was read.
+pub fn tell_renewed(rt: &HostRuntime, path: &str) -> ExitCode {
+    let _told = eprintln!(rt; "metad: {path}: it was written anew meanwhile: ask again");
+    ExitCode::from(1)
 }
 
 /// Says where damage is.

@@ -11,11 +11,20 @@ pub struct Workers {
     ghost allowed: { is_worker_count count ≡ true },
 }
 
+/// A run, as it is wanted.
+#[derive(Clone, Copy)]
+pub struct Serving {
+    /// How many workers collect.
+    pub workers: Workers,
+    /// It begins with a checkpoint.
+    pub has_checkpoint: bool,
+}
+
 /// What the words ask for, in a folder.
 #[derive(Clone, Copy)]
 pub enum Asked {
-    /// A run, and how many workers collect.
-    Serve(Workers),
+    /// A run.
+    Serve(Serving),
     /// What the journal holds.
     Check,
     /// The lines of the journal.
@@ -34,6 +43,7 @@ pub struct Words<'a> {
 struct Options<'a> {
     dir: Option<&'a str>,
     workers: Option<Workers>,
+    has_checkpoint: bool,
 }
 
 // The number of workers that a text is.
@@ -53,20 +63,35 @@ fn with_option<'a>(options: Options<'a>, name: &str, value: &'a str) -> Option<O
         "--dir" if options.dir.is_none() && !value.is_empty() => Some(Options {
             dir: Some(value),
             workers: options.workers,
+            has_checkpoint: options.has_checkpoint,
         }),
         "--workers" if options.workers.is_none() => Some(Options {
             dir: options.dir,
             workers: Some(number(value)?),
+            has_checkpoint: options.has_checkpoint,
         }),
         _ => None,
     }
 }
 
-// Reads the options, each as `--name value` or `--name=value`.
+// The options with a checkpoint, which stands once at most.
+fn with_checkpoint<'a>(options: Options<'a>) -> Option<Options<'a>> {
+    if options.has_checkpoint {
+        return None;
+    }
+    Some(Options {
+        dir: options.dir,
+        workers: options.workers,
+        has_checkpoint: true,
+    })
+}
+
+// Reads the options, each as `--name value` or `--name=value`, but for `--checkpoint`.
 fn read_options<'a>(words: &[&'a str]) -> Option<Options<'a>> {
     let mut options = Options {
         dir: None,
         workers: None,
+        has_checkpoint: false,
     };
     let mut at = 0usize;
     'reading: for _ in 0..u64::MAX {
@@ -74,6 +99,10 @@ fn read_options<'a>(words: &[&'a str]) -> Option<Options<'a>> {
             return Some(options);
         };
         at = at.saturating_add(1);
+        if *word == "--checkpoint" {
+            options = with_checkpoint(options)?;
+            continue;
+        }
         if let Some((name, value)) = word.split_once('=') {
             options = with_option(options, name, value)?;
             continue;
@@ -93,8 +122,11 @@ pub fn read_words<'a>(words: &[&'a str]) -> Option<Words<'a>> {
     let options = read_options(rest)?;
     let dir = options.dir?;
     let asked = match (*command, options.workers) {
-        ("serve", Some(workers)) => Asked::Serve(workers),
-        ("serve", None) => Asked::Serve(Workers { count: 1 }),
+        ("serve", workers) => Asked::Serve(Serving {
+            workers: workers.unwrap_or(Workers { count: 1 }),
+            has_checkpoint: options.has_checkpoint,
+        }),
+        _ if options.has_checkpoint => return None,
         ("check", None) => Asked::Check,
         ("script", None) => Asked::Script,
         _ => return None,

@@ -1,4 +1,4 @@
-use Rattle.metad_kept.proofs.serving.serve_journal.Given as goal
+use Rattle.metad_kept.proofs.serving.serve_disks.Given as goal
 
 -- the ledger is named as the blank is
 abbrev pub ghosts-serve_named : goal.ghosts-serve_named

@@ -1,0 +1,55 @@
+//! The two files of a store: the journal of the one that counts, and the other.
+ghost use Rattle.std.specs.Prelude.{◌≡◌};
+
+use crate::names::Names;
+use crate::telling_file::TellingFile;
+use journal::Journal;
+use sqlite_disk::Disk;
+use zero_file::{This, ZeroFile};
+
+/// The disk of the file that doesn't count.
+#[derive(Drop)]
+pub enum Spare<D: Disk + Drop> {
+    /// The first file, whose head says that the second one counts.
+    First(D),
+    /// The second file.
+    Second(D),
+}
+
+impl<D: Disk + Drop> Spare<D> {
+    /// Whether it is the second file.
+    pub fn is_second(&self) -> bool {
+        match self {
+            Spare::First(_) => false,
+            Spare::Second(_) => true,
+        }
+    }
+}
+
+/// The journal of the file that counts.
+pub type Counting<'a, D> = Journal<TellingFile<'a, ZeroFile<D, This>>>;
+
+/// The journal of the file that counts, and the other file.
+#[derive(Drop)]
+pub struct Files<'a, D: Disk + Drop> {
+    pub rt: &'a HostRuntime,
+    pub names: Names<'a>,
+    pub journal: Counting<'a, D>,
+    pub spare: Spare<D>,
+}
+
+/// A file that counts, and that tells when it can't grow.
+pub fn telling<'a, D: Disk + Drop>(
+    rt: &'a HostRuntime,
+    path: &'a str,
+    log: ZeroFile<D, This>,
+) -> TellingFile<'a, ZeroFile<D, This>>
+    ensures { result.log ≡ log }
+{
+    TellingFile {
+        rt,
+        path,
+        log,
+        is_told: false,
+    }
+}
