@@ -37,9 +37,9 @@ def mixing(at, seed, fails=False, count=None):
     return {**os.environ, **more}
 
 
-def send(folder, blocks, env):
+def send(folder, blocks, env, *words):
     """Sends blocks, each when the one before is answered. How it ends, and the replies."""
-    client, replies = Client(folder, env=env), []
+    client, replies = Client(folder, *words, env=env), []
     for block in blocks:
         got = client.ask(block)
         replies += got
@@ -81,7 +81,7 @@ def recover(folder, seed):
     """Starts that are cut at each of their calls in turn, until one isn't. How many lines they
     tell, and how many runs there were."""
     found = None
-    for at in range(1, 20):
+    for at in range(1, 40):
         done = serve(folder, env=mixing(at, seed + at))
         if done.status == 3 and not any(journal_of(folder)[HEAD:]):
             # the first start was cut in the file's head, and no line was in it (docs/SERVICE.md)
@@ -95,7 +95,7 @@ def recover(folder, seed):
         if done.status == 0:
             return found, at
     wants("a start ends", False)
-    return found, 20
+    return found, 40
 
 
 def judge(folder, script, replies, seed):

@@ -12,6 +12,14 @@ from stores import (
 
 wants = Told.wants
 
+LARGE = 1 << 32  # bytes of a file that isn't a journal
+ROOM = 64 << 20  # bytes that a run has to refuse it
+
+
+def little_room():
+    """What a run does at its start that has this much memory."""
+    resource.setrlimit(resource.RLIMIT_AS, (ROOM, ROOM))
+
 
 def words(folder):
     """What asks for nothing is answered with the usage."""
@@ -72,6 +80,12 @@ def formats(folder):
         for done in (serve(folder), check(folder), run([KEPT, "script", "--dir", folder])):
             wants("another format", done.status == 3 and b"first line" in done.told, text[:9], done)
         wants("it is left alone", journal_of(folder) == text, text[:20])
+    with open(path, "wb") as file:
+        file.write(b"another file")
+        file.truncate(LARGE)
+    for word in ("serve", "check", "script"):
+        done = run([KEPT, word, "--dir", folder], preexec_fn=little_room)
+        wants("a large one isn't read", done.status == 3 and b"first line" in done.told, word, done)
     for text in (b"", bytes(100), bytes(9000)):
         with open(path, "wb") as file:
             file.write(text)

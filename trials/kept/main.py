@@ -3,6 +3,7 @@ import signal
 import sys
 import time
 
+import checkpoints
 import crashes
 import damage
 import disk
@@ -12,7 +13,7 @@ import memory
 from stores import Told
 
 PARTS = {"ends": ends, "damage": damage, "crashes": crashes, "kills": kills, "disk": disk,
-         "memory": memory}
+         "memory": memory, "checkpoints": checkpoints}
 
 
 def main():

@@ -5,18 +5,25 @@ import tempfile
 from concurrent.futures import ThreadPoolExecutor
 
 from stores import (
-    DONE, NO_MEMORY, REFUSE, WHEN, Model, Told, is_logged, journal_of, line_of, lines_told,
+    DONE, NO_MEMORY, REFUSE, WHEN, Client, Model, Told, is_logged, journal_of, line_of, lines_told,
     script_of, serve,
 )
 
 wants = Told.wants
 
+REFILLS = 6  # runs that are filled, one behind the other
+REFUSALS = 20  # refused additions after which a client stops
+
+
+def limit_to(megabytes):
+    """What a run does at its start that has so much memory."""
+    size = megabytes << 20
+    return lambda: resource.setrlimit(resource.RLIMIT_AS, (size, size))
+
 
 def limited(folder, megabytes, script):
     """A run with so much memory."""
-    limit = lambda: resource.setrlimit(  # noqa: E731
-        resource.RLIMIT_AS, (megabytes << 20, megabytes << 20))
-    return serve(folder, script, preexec_fn=limit)
+    return serve(folder, script, preexec_fn=limit_to(megabytes))
 
 
 def full(megabytes):
@@ -36,6 +43,28 @@ def full(megabytes):
         wants("it starts again", (done.status, done.out) == (0, DONE), megabytes, done)
         wants("with all lines", lines_told(done.told) == added, megabytes, done.told, added)
     print("kept: a store of %d rows starts again at %d MiB" % (added, megabytes))
+
+
+def lease(word, number):
+    return line_of(op="lease." + word, ns="x", id="lease-%d" % number)
+
+
+def refilled(megabytes):
+    """It starts again whenever it was filled by a client that waits for each reply."""
+    with tempfile.TemporaryDirectory(prefix="metad-kept-") as folder:
+        number = 6000 * megabytes
+        script = [line_of(op="ns.add", ns="x")] + [lease("add", it) for it in range(number)]
+        limited(folder, megabytes, b"".join(script))
+        for turn in range(REFILLS):
+            done = limited(folder, megabytes, lease("remove", turn))
+            if not wants("it starts", (done.status, done.out) == (0, DONE), megabytes, turn, done):
+                return
+            client, refused = Client(folder, preexec_fn=limit_to(megabytes)), 0
+            while refused < REFUSALS:
+                number += 1
+                refused += client.ask([lease("add", number)]) == [NO_MEMORY]
+            wants("the run ends well", client.ends().status == 0, megabytes, turn)
+    print("kept: it starts again at %d MiB, filled %d times by who waits" % (megabytes, REFILLS))
 
 
 SCRIPT = [
@@ -91,3 +120,4 @@ def all_parts():
     growths()
     for megabytes in (24, 48):
         full(megabytes)
+        refilled(megabytes)

@@ -17,6 +17,8 @@ from stores import KEPT, Client, line_of
 
 METAD = os.environ.get("METAD", "")
 LINES, WAITING, TURNS = 100000, 2000, 5
+ROWS, CHANGES = 10000, 4  # of a store that is written anew: each row was removed so often
+STORES = 100000, 1000000  # rows of stores that are written anew
 
 
 def additions(count):
@@ -25,6 +27,16 @@ def additions(count):
     for number in range(count - 1):
         digest = "sha256:" + hashlib.sha256(b"%d" % number).hexdigest()
         lines.append(line_of(op="content.add", ns="x", digest=digest))
+    return lines
+
+
+def changes():
+    """Rows that come and go, and stay at last."""
+    lines = [line_of(op="ns.add", ns="x")]
+    for number in range(ROWS):
+        id = "lease-%d" % number
+        added = line_of(op="lease.add", ns="x", id=id)
+        lines += [added, line_of(op="lease.remove", ns="x", id=id)] * CHANGES + [added]
     return lines
 
 
@@ -99,6 +111,28 @@ def turn(top, lines, few):
     return (*ahead, *waiting, start)
 
 
+def renewed(top, script):
+    """The seconds of a start of a store that changed a lot, of one that begins with a checkpoint,
+    and of the one after it."""
+    with tempfile.TemporaryDirectory(dir=top) as folder:
+        serve = [KEPT, "serve", "--dir", folder]
+        seconds(serve, script)
+        before = seconds(serve, b"")
+        return before, seconds([*serve, "--checkpoint"], b""), seconds(serve, b"")
+
+
+def waited(top, count):
+    """The seconds for which clients wait for a checkpoint of so many rows, and those of run for
+    their additions."""
+    script = b"".join(additions(count))
+    with tempfile.TemporaryDirectory(dir=top) as folder:
+        serve = [KEPT, "serve", "--dir", folder]
+        run = seconds([METAD, "run"], script)
+        seconds(serve, script)
+        before = seconds(serve, b"")
+        return seconds([*serve, "--checkpoint"], b"") - before, run
+
+
 def main():
     """Prints the medians, and their ratios."""
     top = sys.argv[1] if len(sys.argv) > 1 else "/dev/shm"
@@ -111,6 +145,16 @@ def main():
           % (alone / waiting, waiting / WAITING * 1e6, alone / WAITING * 1e6))
     print("a start takes %.2f processor s a million lines, %.2f of what run takes for them"
           % (start / LINES * 1e6, start / run))
+    script = b"".join(changes())
+    turns = [renewed(top, script) for _ in range(TURNS)]
+    before, taking, after = map(statistics.median, zip(*turns))
+    print("of %d rows that were each removed %d times, a start behind a checkpoint takes %.2f"
+          % (ROWS, CHANGES, after / before))
+    print("the checkpoint itself takes %.2f of the start behind it" % ((taking - before) / after))
+    for count in STORES:
+        taking, run = waited(top, count)
+        print("a checkpoint of %d rows takes %.1f processor s, %.1f of what run takes to add them"
+              % (count, taking, taking / run))
     if shutil.which("sqlite3"):
         turns = [beside_sqlite(top, few) for _ in range(TURNS)]
         ahead, waiting, rows = map(statistics.median, zip(*turns))

@@ -15,7 +15,9 @@ KEPT = os.environ.get("METAD_KEPT", "")
 SHIM = os.environ.get("MIXING", "")
 REFUSE = os.environ.get("REFUSING", "")
 JOURNAL = "metad.journal"
-HEAD = 4096  # where the first line stands in the file
+SECOND = "metad.journal-wal"  # the other file of a store
+HEAD = 4096  # where the first line stands in a file
+CHOICE = 4091  # where the first file's head says in three bytes which one counts
 NAMESPACES = ("x", "y")
 WHEN = "2030-01-01T00:00:00Z"
 DONE = b'{"ok":true}\n'
@@ -60,9 +62,14 @@ def script_of(folder):
     return done.out.splitlines(keepends=True), done.status
 
 
-def journal_of(folder):
-    with open(os.path.join(folder, JOURNAL), "rb") as file:
+def journal_of(folder, name=JOURNAL):
+    with open(os.path.join(folder, name), "rb") as file:
         return file.read()
+
+
+def counting(folder):
+    """The name of the file that counts."""
+    return SECOND if journal_of(folder)[CHOICE : CHOICE + 3].count(b"+") > 1 else JOURNAL
 
 
 def lines_told(told):
@@ -150,10 +157,19 @@ class Model:
     def answers(self, lines):
         return [self.answer(line) for line in lines]
 
+    def answers_of(self, lines):
+        """All replies, as a run writes them."""
+        return b"".join(self.answers(lines))
+
     def takes(self, lines):
-        """These lines, of which each changes the store; itself."""
+        """These lines of a journal, of which each changes the store, or says which number the next
+        object of a backend has at least; itself."""
         for line in lines:
-            Told.wants("a line of a journal changes the store", is_logged(self.answer(line)), line)
+            if line.startswith(b"number "):
+                self.store.used = max(self.store.used, int(line.split()[1]) - 1)
+            else:
+                changes = is_logged(self.answer(line))
+                Told.wants("a line of a journal changes the store", changes, line)
         return self
 
 

@@ -15,7 +15,7 @@ CLIENTS = 8
 AHEAD = 50
 MOST = 400  # lines of a client in a round
 ROUNDS = 100
-SECONDS = 45  # no round begins later
+SECONDS = 80  # no round begins later
 COPIES = 10
 wants = Told.wants
 
