@@ -1,4 +1,5 @@
 """Runs that begin with a checkpoint: both files in turn, cuts, kills, damage and refusals."""
+import hashlib
 import os
 import random
 import resource
@@ -10,8 +11,9 @@ from crashes import ENDED, Script, blocks_of, mixing, recover, send
 from disk import FULL, STEP, lift, limit_files
 from kills import send_for
 from stores import (
-    CHOICE, HEAD, JOURNAL, NO_MEMORY, REFUSE, SECOND, SHIM, Client, Model, Told, any_line, check,
-    counting, is_logged, journal_of, line_of, lines_told, long_line, probes, script_of, serve,
+    CHOICE, DONE, HEAD, JOURNAL, NO_MEMORY, REFUSE, SECOND, SHIM, Client, Model, Told, any_line,
+    check, counting, is_logged, journal_of, line_of, lines_told, long_line, probes, script_of,
+    serve,
 )
 
 wants = Told.wants
@@ -20,6 +22,7 @@ ROUNDS = 12  # runs that begin with a checkpoint, one behind the other
 KILLED = 40  # runs that are killed
 SEEDS = 2  # runs that are cut at the same call
 STORMS = 8  # scripts that are sent to their end through runs that are cut
+ROWS = 620000  # additions of content that take more than 64 MiB of a journal
 TAKEN = b"a checkpoint of"
 NOT_TAKEN = b"no checkpoint"
 
@@ -294,6 +297,18 @@ def refusals(folder):
     same_store(folder, store, "the store is there")
 
 
+def due(folder):
+    """A journal of more than 64 MiB is written anew between two blocks, though nobody asked."""
+    digests = (hashlib.sha256(b"%d" % it).hexdigest() for it in range(ROWS))
+    lines = [line_of(op="ns.add", ns="x")]
+    lines += [line_of(op="content.add", ns="x", digest="sha256:" + it) for it in digests]
+    done = serve(folder, b"".join(lines))
+    wants("each line is answered", (done.status, done.out) == (0, DONE * len(lines)), done.status)
+    wants("a checkpoint was due", done.told.count(TAKEN) == 1, done.told)
+    wants("it counts", counting(folder) == SECOND)
+    wants("all rows are there", lines_told(check(folder).out) >= len(lines))
+
+
 def little_memory(number):
     """A run with a checkpoint of which one growth is refused. How many growths it had."""
     lines = [line_of(op="ns.add", ns="x"), line_of(op="lease.add", ns="x", id="l"),
@@ -323,7 +338,7 @@ def growths():
 
 
 def all_parts():
-    for part in (alternate, damage, missing, refusals):
+    for part in (alternate, damage, missing, refusals, due):
         with tempfile.TemporaryDirectory(prefix="metad-kept-") as folder:
             part(folder)
     growths()
