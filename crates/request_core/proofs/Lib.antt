@@ -1,3 +1,4 @@
+pub mod EmptyStore
 pub mod PairLabels
 pub mod Refusals
 pub mod Undone

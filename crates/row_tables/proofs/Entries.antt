@@ -26,12 +26,7 @@ was_free (Ok u) true h = absurd (cc h)
 was_free (Ok u) false h = refl
 was_free (Err e) there h = tt
 
--- what holds, holds where a call is refused
-pub on_err : {A B : Type 0} (r : Result A B) (P : Type 0) → P → OnErr r P
-on_err (Ok x) P p = tt
-on_err (Err e) P p = p
-
-all_one : {X : Type 0} (P : X → Type 0) (x : X) → P x → All P (x ∷ [])
+pub all_one : {X : Type 0} (P : X → Type 0) (x : X) → P x → All P (x ∷ [])
 all_one P x h zero d lt = h
 all_one P x h (suc i) d lt = absurd (omega arith)
 
@@ -44,7 +39,8 @@ removed_set [] i x = refl
 removed_set (y ∷ xs) zero x = refl
 removed_set (y ∷ xs) (suc i) x = ap (λ ys. y ∷ ys) (removed_set xs i x)
 
-other_there : {X : Type 0} (xs : List X) (i : ℕ) (w : X) (ys : List X) → i < length xs → ys ≡ slice_set xs i w → IsPermutation ys (w ∷ remove xs i)
+pub other_there : {X : Type 0} (xs : List X) (i : ℕ) (w : X) (ys : List X) → i < length xs
+    → ys ≡ slice_set xs i w → IsPermutation ys (w ∷ remove xs i)
 other_there xs i w ys lt is =
     let p : IsPermutation (slice_set xs i w) (w ∷ remove (slice_set xs i w) i) = IsPermutation-remove (slice_set xs i w) i w (omega (arith, length-set xs i w)) (sym (get_or-set_same xs i w w lt)) in
     subst (λ (l : List _). IsPermutation l (w ∷ remove xs i)) (sym is) (subst (λ (l : List _). IsPermutation (slice_set xs i w) (w ∷ l)) (removed_set xs i w) p)
@@ -245,7 +241,8 @@ module _ {K Row : Type 0} (eq : K → K → Bool) (texts_of : K → Key) (name_o
 
 -- ---- copies
 
-at_place : {X : Type 0} (P : X → Type 0) (xs : List X) (i : ℕ) (d : X) → AllByRecursion P xs → i < length xs → P (get_or xs i d)
+pub at_place : {X : Type 0} (P : X → Type 0) (xs : List X) (i : ℕ) (d : X) → AllByRecursion P xs
+    → i < length xs → P (get_or xs i d)
 at_place P [] i d h lt = absurd (omega arith)
 at_place P (x ∷ xs) zero d h lt = h.0
 at_place P (x ∷ xs) (suc i) d h lt = at_place P xs i d h.1 (omega arith)

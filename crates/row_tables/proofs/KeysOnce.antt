@@ -22,7 +22,8 @@ use Rattle.row_tables.proofs.NamespaceLists.{order_of_names}
 use Rattle.row_tables.proofs.NamespaceRows.{IsOwn}
 
 module _ {Row : Type 0} (key_of : Row → Key) where
-  moved_up : (row : Row) (rows : List Row) → IsPermutation (row ∷ rows) (add_row key_of row rows)
+  pub moved_up : (row : Row) (rows : List Row)
+      → IsPermutation (row ∷ rows) (add_row key_of row rows)
   moved_up row [] = IsPermutation-refl (row ∷ [])
   moved_up row (next ∷ rows) = elim (cases_Bool (is_before (key_of row) (key_of next))) [
     | inl t ↦ rw t (IsPermutation-refl (row ∷ next ∷ rows))
@@ -37,7 +38,8 @@ module _ {Row : Type 0} (key_of : Row → Key) where
   other_keys row [] all = tt
   other_keys row (x ∷ rows) all = (not_it (key_of row) (key_of x) (All-head (λ other. is_before (key_of row) (key_of other) ≡ true) x rows all), other_keys row rows (All-tail (λ other. is_before (key_of row) (key_of other) ≡ true) x rows all))
 
-  in_order_apart : (rows : List Row) → are_in_order key_of rows ≡ true → IsDistinct (same_key key_of) rows
+  pub in_order_apart : (rows : List Row) → are_in_order key_of rows ≡ true
+      → IsDistinct (same_key key_of) rows
   unfolding IsDistinct
   in_order_apart [] o = tt
   in_order_apart (row ∷ rows) o =

@@ -1,7 +1,10 @@
+pub mod ApartNamespaces
 pub mod Arrivals
 pub mod ChangedThere
 pub mod Entries
 pub mod FirstPosition
+pub mod HousedListings
+pub mod HousedNamespaces
 pub mod JoinedLists
 pub mod KeptRows
 pub mod KeysOnce
@@ -10,7 +13,7 @@ pub mod Listed
 pub mod ListedNamespaces
 pub mod MappedLists
 pub mod MarkedRows
-pub mod NamespaceListings
+pub mod NamespaceHomes
 pub mod NamespaceLists
 pub mod NamespaceRows
 pub mod NamespaceSpans

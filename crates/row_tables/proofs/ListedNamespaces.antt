@@ -1,11 +1,10 @@
 -- Namespaces with their rows in the order of their names.
-use Rattle.std.proofs.Common.{◌≡◌, ℕ, ◌+◌, zero, suc, cond, List, [], ◌∷◌, get_or, Some, refl, ap, inl, inr}
-use Rattle.std.specs.Prelude.{All, slice_get, slice_set, Contains, not}
-use Rattle.std.specs.List.{position_or_len, insert}
+use Rattle.std.proofs.Common.{◌≡◌, ℕ, zero, suc, List, [], ◌∷◌, get_or, Some, refl, ap, inl, inr}
+use Rattle.std.specs.Prelude.{All, slice_get, slice_set, Contains}
 use Rattle.std.proofs.lemmas.Bool.{cases_Bool}
 use Rattle.std.proofs.lemmas.List.Elements.{All-head, All-tail, All-nil, All-contains}
 use Rattle.meta_types.specs.Text.{Text}
-use Rattle.meta_types.specs.Keys.{Key, is_key, is_before, has_row}
+use Rattle.meta_types.specs.Keys.{Key, is_key, has_row}
 use Rattle.meta_types.proofs.ListSearches.{no_none, some_is}
 use Rattle.meta_types.proofs.KeepsSound.{all_added}
 use Rattle.meta_types.proofs.Members.{here, later}
@@ -22,7 +21,7 @@ module _ {Row : Type 0} (key_of : Row → Key) (P : Row → Type 0) where
   all_in [] all = All-nil P
   all_in (row ∷ rows) all = all_added key_of P row (All-head P row rows all) (sorted key_of rows) (all_in rows (All-tail P row rows all))
 
-  each : (rows : List Row) → ((x : Row) → Contains rows x → P x) → All P rows
+  pub each : (rows : List Row) → ((x : Row) → Contains rows x → P x) → All P rows
   each [] h = All-nil P
   each (row ∷ rows) h = all_cons P row rows (h row (here row rows)) (each rows (λ x c. h x (later row rows x c)))
 
@@ -51,12 +50,3 @@ module _ {Row : Type 0} (own_key : Row → Key) where
     | inl t ↦ rw t refl
     | inr f ↦ rw f (listed_has k gs)
   ]
-
-  pub listed_gap : (ns : Text) (gs : List (Text × List Row)) → position_or_len (λ group. is_before (ns ∷ []) (group_key group)) (listed own_key gs) ≡ position_or_len (λ group. is_before (ns ∷ []) (group_key group)) gs
-  listed_gap ns [] = refl
-  listed_gap ns (g ∷ gs) = ap (λ n. cond (not (is_before (ns ∷ []) (group_key g))) (1 + n) 0) (listed_gap ns gs)
-
-  pub listed_insert : (gs : List (Text × List Row)) (i : ℕ) (g : Text × List Row) → listed own_key (insert gs i g) ≡ insert (listed own_key gs) i (in_names own_key g)
-  listed_insert gs zero g = refl
-  listed_insert [] (suc i) g = refl
-  listed_insert (h ∷ gs) (suc i) g = ap (λ rest. in_names own_key h ∷ rest) (listed_insert gs i g)

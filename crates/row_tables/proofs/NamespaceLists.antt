@@ -1,6 +1,6 @@
 -- Namespaces with their rows, as lists: the place of one, what a search tells, one more.
-use Rattle.std.proofs.Common.{◌≡◌, ℕ, ◌<◌, ◌≤◌, zero, suc, Bool, true, false, List, [], ◌∷◌, ◌++◌, length, get_or, take, map, Some, refl, sym, ap, ◌∙◌, subst, arith, inl, inr}
-use Rattle.std.specs.Prelude.{All, Result, Ok, Err, IfOk, IfErr, is_ok, slice_get, slice_set, bytes_eq, if◌then◌else◌, ◌&&◌}
+use Rattle.std.proofs.Common.{◌≡◌, ℕ, ◌<◌, ◌≤◌, zero, suc, Bool, true, List, [], ◌∷◌, ◌++◌, length, get_or, take, map, Some, refl, sym, ap, ◌∙◌, subst, arith, inl, inr}
+use Rattle.std.specs.Prelude.{All, slice_get, slice_set, bytes_eq, if◌then◌else◌, ◌&&◌}
 use Rattle.std.specs.List.{insert, position, position_or_len, list_all}
 use Rattle.std.specs.Cmp.Lexicographic.{slice_cmp, bytes_decides, pointwise}
 use Rattle.std.specs.Ordering.{is_lt, ordering_then}
@@ -14,7 +14,7 @@ use Rattle.std.proofs.lemmas.List.Sums.{prefix_len-le-length}
 use Rattle.std.proofs.lemmas.Option.{slice_get-get_or}
 use Rattle.std.proofs.Common.{not, append-nil, append_assoc, ◌+◌}
 use Rattle.meta_types.specs.Text.{Text, text_cmp}
-use Rattle.meta_types.specs.Keys.{Key, is_key, is_before, row_at, has_row, add_row, change_row, are_in_order}
+use Rattle.meta_types.specs.Keys.{Key, is_key, is_before, row_at, add_row, change_row, are_in_order}
 use Rattle.meta_types.specs.Rows.{namespace_key}
 use Rattle.meta_types.proofs.ListSearches.{found_is, row_is_found, no_none, some_is}
 use Rattle.meta_types.proofs.KeepsSound.{in_order_changed}
@@ -85,22 +85,15 @@ module _ {X : Type 0} where
   abbrev pub name_key : Text × X → Key
   name_key group = namespace_key group.0
 
-  home_at : (ns : Text) (gs : List (Text × X)) (i : ℕ) → Some i ≡ position (λ group. is_key (namespace_key ns) (name_key group)) gs → (rows : X) × (slice_get gs i ≡ Some (ns, rows))
+  pub home_at : (ns : Text) (gs : List (Text × X)) (i : ℕ)
+      → Some i ≡ position (λ group. is_key (namespace_key ns) (name_key group)) gs
+      → (rows : X) × (slice_get gs i ≡ Some (ns, rows))
   home_at ns [] i at = no_none i (sym at)
   home_at ns (g ∷ gs) i at =
       let found = position-Some (λ (group : Text × X). is_key (namespace_key ns) (name_key group)) (g ∷ gs) i g (sym at) in
       let there = get_or (g ∷ gs) i g in
       let parts = and_parts (bytes_eq ns there.0) true found.1 in
       (there.1, slice_get-get_or (g ∷ gs) i g found.0 ∙ ap (λ m. Some (m, there.1)) (sym ((bytes_decides ns there.0).0 parts.0)))
-
-  pub home_found : (ns : Text) (gs : List (Text × X)) (found : Result ℕ ℕ) → IfOk found (λ place. Some place ≡ position (λ group. is_key (namespace_key ns) (name_key group)) gs)
-      → IfOk found (λ place. (rows : X) × (slice_get gs place ≡ Some (ns, rows)))
-  home_found ns gs (Ok i) at = home_at ns gs i at
-  home_found ns gs (Err i) at = tt
-
-  pub none_found : (key : Key) (gs : List (Text × X)) (found : Result ℕ ℕ) → is_ok found ≡ has_row name_key key gs → IfErr found (λ place. has_row name_key key gs ≡ false)
-  none_found key gs (Ok i) there = tt
-  none_found key gs (Err i) there = sym there
 
 module _ {Row : Type 0} where
   -- ---- lists of groups
@@ -129,16 +122,13 @@ module _ {Row : Type 0} where
   rows_append (g ∷ gs) hs = ap (λ rows. g.1 ++ rows) (rows_append gs hs) ∙ sym (append_assoc g.1 (all_rows gs) (all_rows hs))
 
   -- a test of all rows
-  all_append : (p : Row → Bool) (xs ys : List Row) → list_all p (xs ++ ys) ≡ (list_all p xs && list_all p ys)
+  pub all_append : (p : Row → Bool) (xs ys : List Row)
+      → list_all p (xs ++ ys) ≡ (list_all p xs && list_all p ys)
   all_append p [] ys = refl
   all_append p (x ∷ xs) ys = elim (cases_Bool (p x)) [
     | inl t ↦ rw t (all_append p xs ys)
     | inr f ↦ rw f refl
   ]
-
-  pub all_joined : (p : Row → Bool) (gs : List (Text × List Row)) → list_all (λ group. list_all p group.1) gs ≡ list_all p (all_rows gs)
-  all_joined p [] = refl
-  all_joined p (g ∷ gs) = ap (λ b. list_all p g.1 && b) (all_joined p gs) ∙ sym (all_append p g.1 (all_rows gs))
 
   pub rows_more : (gs : List (Text × List Row)) (i : ℕ) (g : Text × List Row) → i < length gs → g ≡ get_or gs i g → all_rows (take (i + 1) gs) ≡ all_rows (take i gs) ++ g.1
   rows_more gs i g lt is = ap all_rows (take_more gs i g lt) ∙ rows_append (take i gs) (get_or gs i g ∷ [])

@@ -1,7 +1,6 @@
 -- What a call does to the rows of one namespace, it does to all rows.
 use Rattle.std.proofs.Common.{◌≡◌, ℕ, zero, suc, Bool, true, false, List, [], ◌∷◌, ◌++◌, length, get_or, take, drop, map, Some, None, refl, sym, ap, ◌∙◌, subst, arith, inl, inr}
-use Rattle.std.specs.Prelude.{All, Option, Result, Ok, Err, OnOk, OnErr, IfSome, IfNone, is_some, slice_get, slice_set, bytes_eq, ◌&&◌, if◌then◌else◌}
-use Rattle.std.specs.List.{insert, position_or_len}
+use Rattle.std.specs.Prelude.{All, Option, Result, Ok, Err, OnOk, OnErr, IfSome, IfNone, slice_get, slice_set, bytes_eq, ◌&&◌, if◌then◌else◌}
 use Rattle.std.specs.Cmp.{tied_itself}
 use Rattle.std.specs.Cmp.Lexicographic.{slice_cmp, nat_list_eq_equiv, nat_list_cmp_total}
 use Rattle.std.specs.Ordering.{is_lt, ordering_then}
@@ -20,12 +19,11 @@ use Rattle.meta_types.proofs.OneRowPerKey.{before_all}
 use Rattle.meta_types.proofs.ListSearches.{no_none, some_is}
 use Rattle.meta_types.proofs.KeepsSound.{all_removed, all_added, all_changed}
 use Rattle.meta_types.proofs.Ordered.{in_order_added, in_order_removed}
-use Rattle.meta_types.proofs.RowAtPlace.{put_at_place}
 use Rattle.row_tables.specs.Arrived.{by_name, Becomes}
 use Rattle.row_tables.specs.Namespaces.{joined, full_key, group_key, all_rows, AreGroups}
 use Rattle.row_tables.proofs.JoinedLists.{not_it, IsPlace, row_there, removed_there, changed_in_place, added_there}
 use Rattle.row_tables.proofs.MappedLists.{length_map}
-use Rattle.row_tables.proofs.NamespaceLists.{lead_before, at_found, in_order_becomes, list_at, lists_set, names_set, order_of_names, opened_rows}
+use Rattle.row_tables.proofs.NamespaceLists.{lead_before, at_found, in_order_becomes, list_at, lists_set, names_set, order_of_names}
 
 module _ {K Row : Type 0} (texts_of : K → Key) (name_of : Row → K) (ns_of : Row → Text) where
   abbrev pub full : Row → Key
@@ -162,9 +160,6 @@ module _ {K Row : Type 0} (texts_of : K → Key) (name_of : Row → K) (ns_of : 
 
     -- ---- a row more
 
-    has_in : (row : Row) → ns_of row ≡ ns → has_row own (own row) rows ≡ has_row full (full row) (all_rows gs)
-    has_in row e = ap is_some (sym (found_in (own row)) ∙ ap (λ m. row_at full (m ∷ own row) (all_rows gs)) (sym e))
-
     pub added_in : (row : Row) → ns_of row ≡ ns → (new : List Row) → new ≡ add_row own row rows → all_rows (slice_set gs i (ns, new)) ≡ add_row full row (all_rows gs)
     added_in row e new is = after_set new
         ∙ ap (λ (l : List Row). joined (slice_set (map (λ (group : Text × List Row). group.1) gs) i l)) (is ∙ sym (added_own ns row e rows own_rows) ∙ ap (add_row full row) (sym rows_there))
@@ -225,17 +220,10 @@ module _ {K Row : Type 0} (texts_of : K → Key) (name_of : Row → K) (ns_of : 
         add_rows (Ok x) made = ap (λ y. all_rows (slice_set gs i y)) (add_is made) ∙ added_in row e (add_row own row rows) refl
         add_rows (Err x) made = tt
 
-        pub has_there : has_row own (own row) group.1 ≡ has_row full (full row) (all_rows gs)
-        has_there = ap (λ (x : Text × List Row). has_row own (own row) x.1) group_is ∙ has_in row e
-
         -- or refused, where one of its key is there
         pub add_new_groups : {A B : Type 0} (r : Result A B) → OnOk r (has_row full (full row) (all_rows gs) ≡ false) → OnOk r (new ≡ (group.0, add_row own row group.1)) → OnErr r (new ≡ group) → AreGroups full ns_of (slice_set gs i new)
         add_new_groups (Ok x) free made same = subst (λ y. AreGroups full ns_of (slice_set gs i y)) (sym (add_is made)) (added_groups row e free (add_row own row rows) refl)
         add_new_groups (Err x) free made same = subst (AreGroups full ns_of) (sym (same_set new same)) are
-
-        pub add_groups : {A B : Type 0} (r : Result A B) → has_row full (full row) (all_rows gs) ≡ false → OnOk r (new ≡ (group.0, add_row own row group.1)) → OnErr r (new ≡ group) → AreGroups full ns_of (slice_set gs i new)
-        add_groups (Ok x) free made same = subst (λ y. AreGroups full ns_of (slice_set gs i y)) (sym (add_is made)) (added_groups row e free (add_row own row rows) refl)
-        add_groups (Err x) free made same = subst (AreGroups full ns_of) (sym (same_set new same)) are
 
       -- a row of the group becomes another
       module _ (t : Key) (new : Text × List Row) (same : new.0 ≡ group.0) where
@@ -264,33 +252,18 @@ module _ {K Row : Type 0} (texts_of : K → Key) (name_of : Row → K) (ns_of : 
           changed_groups None done kept = subst (AreGroups full ns_of) (sym (same_set new kept)) are
           changed_groups (Some answer) done kept = change_groups done.0 done.1 done.3 (keeps_name done.0 answer done.1 done.2) (keeps_ns done.0 answer done.1 done.2)
 
-  -- ---- a namespace more
-
-  module _ (ns : Text) (i : ℕ) (gs new : List (Text × List Row)) (are : AreGroups full ns_of gs) (none : has_row group_key (ns ∷ []) gs ≡ false)
-      (place : i ≡ position_or_len (λ group. is_before (ns ∷ []) (group_key group)) gs) (is : new ≡ insert gs i (ns, [])) where
-    made : new ≡ add_row group_key (ns, []) gs
-    made = is ∙ ap (λ k. insert gs k (ns, [])) place ∙ sym (put_at_place (λ (a b : Text × List Row). is_before (group_key a) (group_key b)) (ns, []) gs)
-
-    pub same_rows : all_rows new ≡ all_rows gs
-    same_rows = ap all_rows made ∙ opened_rows ns gs
-
-    pub opened_groups : AreGroups full ns_of new
-    opened_groups = record {
-      order = ap (are_in_order group_key) made ∙ in_order_added group_key (ns, []) gs are.order none;
-      own = subst (All IsOwn) (sym made) (all_added group_key IsOwn (ns, []) (All-nil (λ row. ns_of row ≡ ns)) gs are.own);
-      rows = ap (are_in_order full) same_rows ∙ are.rows;
-    }
-
   -- ---- the rows of one namespace among all
 
   module _ (ns : Text) where
-    none_pass : (m : Text) (rows : List Row) → bytes_eq ns m ≡ false → All (λ row. ns_of row ≡ m) rows → filter (λ row. bytes_eq ns (ns_of row)) rows ≡ []
+    pub none_pass : (m : Text) (rows : List Row) → bytes_eq ns m ≡ false
+        → All (λ row. ns_of row ≡ m) rows → filter (λ row. bytes_eq ns (ns_of row)) rows ≡ []
     none_pass m [] other all = refl
     none_pass m (row ∷ rows) other all =
         let apart : bytes_eq ns (ns_of row) ≡ false = ap (bytes_eq ns) (All-head (λ row. ns_of row ≡ m) row rows all) ∙ other in
         rw apart (none_pass m rows other (All-tail (λ row. ns_of row ≡ m) row rows all))
 
-    all_pass : (rows : List Row) → All (λ row. ns_of row ≡ ns) rows → filter (λ row. bytes_eq ns (ns_of row)) rows ≡ rows
+    pub all_pass : (rows : List Row) → All (λ row. ns_of row ≡ ns) rows
+        → filter (λ row. bytes_eq ns (ns_of row)) rows ≡ rows
     all_pass [] all = refl
     all_pass (row ∷ rows) all =
         let same : bytes_eq ns (ns_of row) ≡ true = ap (bytes_eq ns) (All-head (λ row. ns_of row ≡ ns) row rows all) ∙ nat_list_eq_equiv.refl ns in

@@ -1,15 +1,8 @@
 -- Rows as they arrived, by namespace: sorted, they are the namespaces' rows in order, one behind the
 -- other.
-use Rattle.std.proofs.Common.{◌≡◌, ℕ, ◌+◌, suc, Bool, true, false, List, [], ◌∷◌, ◌++◌, length, get_or, take, drop, map, Some, None, refl, sym, ap, ◌∙◌, subst, arith, inl, inr}
-use Rattle.std.specs.Prelude.{All, IfSome, IfNone, Option, Result, Ok, Err, OnOk, OnErr, is_some, slice_get, slice_set, ◌&&◌, bytes_eq}
-use Rattle.std.proofs.lemmas.List.{set-get_or, take-map}
-use Rattle.std.proofs.lemmas.Option.{slice_get_within, get_or_from_slice_get}
-use Rattle.meta_types.proofs.Searched.{not_key}
-use Rattle.meta_types.proofs.RowAtPlace.{put_at_place}
-use Rattle.meta_types.proofs.Ordered.{in_order_added}
-use Rattle.row_tables.proofs.MappedLists.{length_map}
-use Rattle.std.specs.List.{position, position_or_len, insert}
-use Rattle.std.specs.Option.{option_map}
+use Rattle.std.proofs.Common.{◌≡◌, ℕ, ◌+◌, true, false, List, [], ◌∷◌, ◌++◌, get_or, Some, None, refl, sym, ap, ◌∙◌, subst, inl, inr}
+use Rattle.std.specs.Prelude.{All, IfSome, IfNone, Option, Result, Ok, Err, OnOk, OnErr, slice_get, slice_set, ◌&&◌, bytes_eq}
+use Rattle.std.proofs.lemmas.List.{set-get_or}
 use Rattle.std.proofs.lemmas.Bool.{cases_Bool, and_parts}
 use Rattle.std.proofs.lemmas.List.Elements.{All-head, All-tail, All-append, All-nil}
 use Rattle.meta_types.specs.Text.{Text}
@@ -18,13 +11,11 @@ use Rattle.meta_types.proofs.OneRowPerKey.{before_all}
 use Rattle.meta_types.proofs.Members.{later}
 use Rattle.row_tables.specs.Arrived.{Becomes, sorted, kept}
 use Rattle.row_tables.specs.ArrivedNamespaces.{listed, in_names, AreArrived}
-use Rattle.row_tables.specs.Namespaces.{joined, group_key, all_rows, AreGroups, IsHome}
-use Rattle.row_tables.proofs.Entries.{on_err}
-use Rattle.row_tables.proofs.FirstPosition.{skipped, within_first, none_passes}
-use Rattle.row_tables.proofs.ListedNamespaces.{all_in, all_out, listed_at, listed_get, listed_set, listed_has, listed_gap, listed_insert}
-use Rattle.row_tables.proofs.JoinedLists.{joined_at, added_back, not_it, all_cons}
-use Rattle.row_tables.proofs.NamespaceLists.{names_kept, order_of_names, list_at, opened_rows, there_now, place_within}
-use Rattle.row_tables.proofs.NamespaceRows.{full, own, added_own, all_behind, front, behind, key_there, read_in, take_rows, take_groups, add_rows, add_new_groups, none_there, opened_groups, changed_some, changed_groups}
+use Rattle.row_tables.specs.Namespaces.{group_key, all_rows, AreGroups}
+use Rattle.row_tables.proofs.ListedNamespaces.{all_in, all_out, listed_at, listed_get, listed_set, listed_has}
+use Rattle.row_tables.proofs.JoinedLists.{added_back, all_cons}
+use Rattle.row_tables.proofs.NamespaceLists.{names_kept, order_of_names}
+use Rattle.row_tables.proofs.NamespaceRows.{full, own, added_own, all_behind, read_in, take_rows, take_groups, add_rows, add_new_groups, none_there, changed_some, changed_groups}
 
 module _ {K Row : Type 0} (texts_of : K → Key) (name_of : Row → K) (ns_of : Row → Text) where
   abbrev pub key : Row → Key
@@ -67,30 +58,9 @@ module _ {K Row : Type 0} (texts_of : K → Key) (name_of : Row → K) (ns_of : 
     at_listed : slice_get (listed name gs) i ≡ Some (ns, sorted name rows)
     at_listed = listed_at name gs i (ns, rows) at
 
-    -- a row's place is its place in its namespace, behind the rows of those before
-    pub arrived_place : (t : Key)
-        → position (λ row. is_key (ns ∷ t) (key row)) (all_rows gs) ≡ option_map (λ n. length (all_rows (take i gs)) + n) (position (λ row. is_key t (name row)) rows)
-    arrived_place t =
-        let lists = map (λ (group : Text × List Row). group.1) gs in
-        let mine = own_out gs are.listed.own in
-        let there : get_or lists i rows ≡ rows = list_at gs i (ns, rows) rows at in
-        let lt = slice_get_within gs i (ns, rows) at in
-        let test : Row → Bool = λ row. is_key (ns ∷ t) (key row) in
-        let here : All (λ row. ns_of row ≡ ns) rows = subst Own (get_or_from_slice_get gs i (ns, rows) (ns, rows) at) (mine i (ns, rows) lt) in
-        ap (position test) (joined_at lists i rows (omega (arith, lt, length_map (λ (group : Text × List Row). group.1) gs)))
-        ∙ skipped test (joined (take i lists)) (get_or lists i rows ++ joined (drop (suc i) lists)) (λ k d less. not_key (key (get_or (joined (take i lists)) k d)) (ns ∷ t) (front texts_of name_of ns_of ns t gs i rows are.order mine at k d less))
-        ∙ ap (λ l. option_map (λ n. length (joined (take i lists)) + n) (position test (l ++ joined (drop (suc i) lists)))) there
-        ∙ ap (option_map (λ n. length (joined (take i lists)) + n))
-        (within_first test (λ row. is_key t (name row)) rows (joined (drop (suc i) lists)) (λ k d less. key_there texts_of name_of ns_of ns t (get_or rows k d) (here k d less))
-        (λ k d less. not_it (ns ∷ t) (key (get_or (joined (drop (suc i) lists)) k d)) (behind texts_of name_of ns_of ns t gs i rows are.order mine at k d less)))
-        ∙ ap (λ l. option_map (λ n. length (joined l) + n) (position (λ row. is_key t (name row)) rows)) (take-map (λ (group : Text × List Row). group.1) i gs)
-
     module _ (item : Text × List Row) (is : item ≡ get_or gs i item) where
       is_listed : in_names name item ≡ get_or (listed name gs) i (in_names name item)
       is_listed = listed_get name gs i item is
-
-      pub item_is : item ≡ (ns, rows)
-      item_is = is ∙ get_or_from_slice_get gs i (ns, rows) item at
 
       pub arrived_found : (t : Key)
           → row_at name t (sorted name item.1) ≡ row_at key (ns ∷ t) (sorted key (all_rows gs))
@@ -141,21 +111,8 @@ module _ {K Row : Type 0} (texts_of : K → Key) (name_of : Row → K) (ns_of : 
               (subst (λ (l : List Row). IfSome r (λ answer. (row : Row) × (after : Row) × changes row answer after × Becomes key (ns ∷ t) row after (all_rows (listed name gs)) l)) (sym (arrived (slice_set gs i new) (arrived_changed r done kept) ∙ ap all_rows (listed_set name gs i new)))
               (changed_some texts_of name_of ns_of ns i (sorted name rows) (listed name gs) at_listed are.listed (in_names name item) is_listed t (in_names name new) same changes keeps_name keeps_ns r done))
 
-        pub arrived_unchanged : {A : Type 0} (r : Option A) → IfNone r (new.1 ≡ item.1)
-            → IfNone r (all_rows (slice_set gs i new) ≡ all_rows gs)
-        arrived_unchanged None kept = ap all_rows (arrived_same new (λ j. (same j, kept j)))
-        arrived_unchanged (Some answer) kept = tt
-
-        pub arrived_kept : {A B : Type 0} (r : Result A B) → OnErr r (new.1 ≡ item.1)
-            → OnErr r (all_rows (slice_set gs i new) ≡ all_rows gs)
-        arrived_kept (Ok x) kept = tt
-        arrived_kept (Err x) kept = ap all_rows (arrived_same new (λ j. (same j, kept j)))
-
         -- a row is added to it, where none has its key
         module _ (row : Row) (e : ns_of row ≡ ns) where
-          pub arrived_has : has_row name (name row) (sorted name item.1) ≡ has_row key (key row) (sorted key (all_rows gs))
-          arrived_has = ap is_some (arrived_found (name row) ∙ ap (λ m. row_at key (m ∷ name row) (sorted key (all_rows gs))) (sym e))
-
           more : {A B : Type 0} (r : Result A B) → OnOk r (sorted name new.1 ≡ add_row name row (sorted name item.1)) → OnOk r (in_names name new ≡ (item.0, add_row name row (sorted name item.1)))
           more (Ok x) made = λ j. (same j, made j)
           more (Err x) made = tt
@@ -187,7 +144,9 @@ module _ {K Row : Type 0} (texts_of : K → Key) (name_of : Row → K) (ns_of : 
       ap (row_at key (ns ∷ t)) (arrived gs are)
       ∙ none_there texts_of name_of ns_of ns t (listed name gs) (listed_has name (ns ∷ []) gs ∙ none) are.listed.own
 
-  passed_by : (ns : Text) (t : Key) (gs : List (Text × List Row)) → has_row group_key (ns ∷ []) gs ≡ false → All Own gs → All (λ row. is_key (ns ∷ t) (key row) ≡ false) (all_rows gs)
+  pub passed_by : (ns : Text) (t : Key) (gs : List (Text × List Row))
+      → has_row group_key (ns ∷ []) gs ≡ false → All Own gs
+      → All (λ row. is_key (ns ∷ t) (key row) ≡ false) (all_rows gs)
   passed_by ns t [] none mine = All-nil (λ row. is_key (ns ∷ t) (key row) ≡ false)
   passed_by ns t (g ∷ gs) none mine = elim (cases_Bool (bytes_eq ns g.0)) [
     | inl same ↦ absurd (cc (rw same at none))
@@ -195,42 +154,3 @@ module _ {K Row : Type 0} (texts_of : K → Key) (name_of : Row → K) (ns_of : 
         (λ k d less. ap (λ m. bytes_eq ns m && is_key t (name (get_or g.1 k d))) (All-head Own g gs mine k d less) ∙ ap (λ b. b && is_key t (name (get_or g.1 k d))) apart)
         (passed_by ns t gs (rw apart at none) (All-tail Own g gs mine))
   ]
-
-  pub arrived_nowhere : (ns : Text) (t : Key) (gs : List (Text × List Row))
-      → has_row group_key (ns ∷ []) gs ≡ false → AreArrived key name ns_of gs
-      → position (λ row. is_key (ns ∷ t) (key row)) (all_rows gs) ≡ None
-  arrived_nowhere ns t gs none are = none_passes (λ row. is_key (ns ∷ t) (key row)) (all_rows gs) (passed_by ns t gs none (own_out gs are.listed.own))
-
-  pub none_on_err : {A B : Type 0} (ns : Text) {gs seen : List (Text × List Row)}
-      → AreArrived key name ns_of gs → seen ≡ gs → has_row group_key (ns ∷ []) seen ≡ false
-      → (r : Result A B) → OnErr r ((t : Key) → has_row key (ns ∷ t) (sorted key (all_rows gs)) ≡ false)
-  none_on_err ns {gs} are lent none r =
-      on_err r ((t : Key) → has_row key (ns ∷ t) (sorted key (all_rows gs)) ≡ false)
-      (λ t. ap is_some (arrived_none ns t gs (ap (has_row group_key (ns ∷ [])) (sym lent) ∙ none) are))
-
-  -- ---- a namespace more
-
-  -- the namespace stands at the place, and all rows are as they were
-  pub record Opens (ns : Text) (i : ℕ) (gs new : List (Text × List Row)) : Type 0 where
-    pub home : IsHome ns i new
-    pub same : all_rows new ≡ all_rows gs
-    pub groups : AreArrived key name ns_of new
-
-  pub arrived_opened : {ns : Text} {i : ℕ} {gs seen new : List (Text × List Row)} {group : Text × List Row}
-      → AreArrived key name ns_of gs → seen ≡ gs → has_row group_key (ns ∷ []) seen ≡ false
-      → i ≡ position_or_len (λ group. is_before (ns ∷ []) (group_key group)) seen → group ≡ (ns, []) → new ≡ insert gs i group → Opens ns i gs new
-  arrived_opened {ns} {i} {gs} {new = new} are lent absent gap empty put =
-      let is : new ≡ insert gs i (ns, []) = put ∙ ap (insert gs i) empty in
-      let none : has_row group_key (ns ∷ []) gs ≡ false = ap (has_row group_key (ns ∷ [])) (sym lent) ∙ absent in
-      let place : i ≡ position_or_len (λ (group : Text × List Row). is_before (ns ∷ []) (group_key group)) gs = gap ∙ ap (position_or_len (λ (group : Text × List Row). is_before (ns ∷ []) (group_key group))) lent in
-      let made : new ≡ add_row group_key (ns, []) gs = is ∙ ap (λ k. insert gs k (ns, [])) place ∙ sym (put_at_place (λ (a b : Text × List Row). is_before (group_key a) (group_key b)) (ns, []) gs) in
-      let within = place_within (λ (group : Text × List Row). is_before (ns ∷ []) (group_key group)) gs in
-      record {
-        home = ([], ap (λ (l : List (Text × List Row)). slice_get l i) is ∙ there_now gs i (ns, []) (omega (arith, within, place)));
-        same = ap all_rows made ∙ opened_rows ns gs;
-        groups = record {
-          order = ap (are_in_order group_key) made ∙ in_order_added group_key (ns, []) gs are.order none;
-          listed = opened_groups texts_of name_of ns_of ns i (listed name gs) (listed name new) are.listed (listed_has name (ns ∷ []) gs ∙ none)
-              (place ∙ sym (listed_gap name ns gs)) (ap (listed name) is ∙ listed_insert name gs i (ns, []));
-        };
-      }

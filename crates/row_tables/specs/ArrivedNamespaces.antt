@@ -1,8 +1,9 @@
 -- Rows of all namespaces, as they arrived.
-use Rattle.std.specs.Prelude.{◌≡◌, ◌<◌, ◌^◌, ℕ, List, map, IsTrue, length}
+use Rattle.std.specs.Prelude.{◌≡◌, ◌<◌, ◌^◌, ◌==◌, ℕ, Bool, List, All, map, not, IsTrue, length}
+use Rattle.std.specs.List.{IsDistinct}
 use Rattle.meta_types.specs.Text.{Text}
 use Rattle.meta_types.specs.Keys.{Key, are_in_order}
-use Rattle.row_tables.specs.Arrived.{sorted}
+use Rattle.row_tables.specs.Arrived.{sorted, same_key}
 use Rattle.row_tables.specs.Namespaces.{group_key, all_rows, AreGroups}
 
 module _ {Row : Type 0} where
@@ -19,8 +20,23 @@ module _ {Row : Type 0} where
     pub order : IsTrue (are_in_order group_key groups)
     pub listed : AreGroups key_of ns_of (listed own_key groups)
 
-  -- namespaces with their rows, and how many rows these are
-  pub record HaveArrived (key_of own_key : Row → Key) (ns_of : Row → Text) (groups : List (Text × List Row)) (count : ℕ) : Type 0 where
-    pub are : AreArrived key_of own_key ns_of groups
+  -- each namespace stands once, with its own rows, and no key stands twice; they stand in any order
+  pub record AreApart (key_of : Row → Key) (ns_of : Row → Text) (groups : List (Text × List Row)) : Type 0 where
+    pub own : All (λ group. All (λ row. ns_of row ≡ group.0) group.1) groups
+    pub names : IsDistinct (same_key group_key) groups
+    pub each : All (λ group. IsDistinct (same_key key_of) group.1) groups
+
+  -- a namespace has a row
+  abbrev pub has_rows : Text × List Row → Bool
+  has_rows group = not (length group.1 == 0)
+
+  -- no namespace is empty
+  abbrev pub AreFull : List (Text × List Row) → Type 0
+  AreFull groups = All (λ group. IsTrue (has_rows group)) groups
+
+  -- namespaces in any order, none of them empty, and how many rows they have
+  pub record AreHoused (key_of : Row → Key) (ns_of : Row → Text) (groups : List (Text × List Row)) (count : ℕ) : Type 0 where
+    pub are : AreApart key_of ns_of groups
+    pub full : AreFull groups
     pub counted : count ≡ length (all_rows groups)
     pub fits : count < 2 ^ 64

@@ -13,31 +13,31 @@ use crate::namespaces::places::PlacesByNamespace;
 use crate::namespaces::{change, find, keep, list};
 use crate::row::{Change, GroupedRow, RemovedRows, Test};
 use crate::row_table::RowTable;
+use indexmap::IndexMap;
 use meta_types::{Fault, ShortName};
 use std::alloc::Global;
 use std::marker::Model;
 
-/// Rows of all namespaces, as they arrived: those of one namespace stand together, and the namespaces
-/// in the order of their bytes. A row's place is its number. Where one goes, the last of its
-/// namespace takes its place.
+/// Rows of all namespaces, as they arrived: those of one namespace stand together. A row's place is
+/// its number. Where one goes, the last of its namespace takes its place. A namespace comes with its
+/// first row, and goes with its last; then the last namespace takes its place.
 #[derive(Drop)]
 pub struct ArrivedByNamespace<K: Named, R: GroupedRow<K>> {
-    groups: Vec<(ShortName, RowTable<K, R>)>,
+    groups: IndexMap<ShortName, RowTable<K, R>>,
     count: usize,
 }
 
 impl<K: Named, R: GroupedRow<K>> Model for ArrivedByNamespace<K, R> {
     ghost use Rattle.std.specs.Prelude.{List};
-    ghost use Rattle.row_tables.specs.Arrived.{by_name};
     ghost use Rattle.row_tables.specs.Namespaces.{full_key, all_rows};
-    ghost use Rattle.row_tables.specs.ArrivedNamespaces.{HaveArrived};
+    ghost use Rattle.row_tables.specs.ArrivedNamespaces.{AreHoused};
 
     ghost Value = { List R };
 
-    ghost view = { λ t. all_rows t.groups.items };
+    ghost view = { λ t. all_rows t.groups.entries };
 
-    ghost invariant = { λ t. HaveArrived (full_key K.texts_of R.name_of R.group_of)
-        (by_name K.texts_of R.name_of) R.group_of t.groups.items t.count };
+    ghost invariant = { λ t. AreHoused (full_key K.texts_of R.name_of R.group_of) R.group_of
+        t.groups.entries t.count };
 }
 
 impl<K: Named, R: GroupedRow<K>> ArrivedByNamespace<K, R> {
@@ -46,7 +46,7 @@ impl<K: Named, R: GroupedRow<K>> ArrivedByNamespace<K, R> {
         ensures { result ≡ [] }
     {
         ArrivedByNamespace {
-            groups: Vec::new(alloc),
+            groups: IndexMap::new(alloc),
             count: 0,
         }
     }
@@ -131,7 +131,8 @@ impl<K: Named, R: GroupedRow<K>> ArrivedByNamespace<K, R> {
         }
     }
 
-    /// Takes out the row of a namespace and a name; the last row of its namespace takes its place.
+    /// Takes out the row of a namespace and a name; the last row of its namespace takes its place. A
+    /// namespace without a row goes, and the last namespace takes its place.
     pub fn take(&mut self, ns: &ShortName, name: &K) -> Option<R>
         ensures row { result ≡ row_at (full_key K.texts_of R.name_of R.group_of)
             (ns.now ∷ K.texts_of name.now)
@@ -173,7 +174,7 @@ impl<K: Named, R: GroupedRow<K>> ArrivedByNamespace<K, R> {
         ensures { result ≡ list_all (T.passes test.now)
             (sorted (full_key K.texts_of R.name_of R.group_of) self.now) }
     {
-        find::all_pass(&self.groups, test)
+        find::all_pass(self.groups.values().as_slice(), test)
     }
 
     /// Whether some row is in the namespace.
@@ -200,7 +201,7 @@ impl<K: Named, R: GroupedRow<K>> ArrivedByNamespace<K, R> {
         ensures ok { IfOk result (λ list. map (λ row. row.now) list.items
             ≡ sorted (full_key K.texts_of R.name_of R.group_of) self.now) }
     {
-        list::rows(&self.groups, alloc)
+        list::rows(self.groups.values().as_slice(), alloc)
     }
 
     /// The rows, in the order of their places.
@@ -208,7 +209,7 @@ impl<K: Named, R: GroupedRow<K>> ArrivedByNamespace<K, R> {
         ensures fault { Refuses result None }
         ensures ok { IfOk result (λ list. map (λ row. row.now) list.items ≡ self.now) }
     {
-        list::rows_arrived(&self.groups, alloc)
+        list::rows_arrived(self.groups.values().as_slice(), alloc)
     }
 
     /// A copy, with the rows at the same places, which shares their texts.
@@ -228,7 +229,7 @@ impl<K: Named, R: GroupedRow<K>> ArrivedByNamespace<K, R> {
         requires { length marks.now ≡ length self.now }
         ensures { visitor.new ≡ all_visited P.after_visit (gone marks.now self.now) visitor.old }
     {
-        keep::visit_removed_rows(&self.groups, marks, visitor);
+        keep::visit_removed_rows(self.groups.values().as_slice(), marks, visitor);
     }
 
     /// Keeps the rows whose mark is set, in the order in which they stand.

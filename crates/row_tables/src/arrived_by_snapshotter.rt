@@ -13,30 +13,32 @@ use crate::named::Named;
 use crate::row::{Change, RemovedRows, SnapshotterRow, Test};
 use crate::snapshotters::places::PlacesBySnapshotter;
 use crate::snapshotters::{change, find, keep, list};
+use indexmap::IndexMap;
 use meta_types::{Fault, ShortName};
 use std::alloc::Global;
 use std::marker::Model;
 
 /// Rows of all namespaces, by snapshotter, as they arrived: those of one snapshotter in a namespace
-/// stand together, in the order of the bytes of both. A row's place is its number. Where one goes,
-/// the last of its snapshotter and namespace takes its place.
+/// stand together. A row's place is its number. Where one goes, the last of its snapshotter and
+/// namespace takes its place. A namespace and a snapshotter in it come with their first row, and go
+/// with their last.
 #[derive(Drop)]
 pub struct ArrivedBySnapshotter<K: Named, R: SnapshotterRow<K>> {
-    groups: Vec<(ShortName, ArrivedByNamespace<K, R>)>,
+    groups: IndexMap<ShortName, ArrivedByNamespace<K, R>>,
     count: usize,
 }
 
 impl<K: Named, R: SnapshotterRow<K>> Model for ArrivedBySnapshotter<K, R> {
     ghost use Rattle.std.specs.Prelude.{List};
-    ghost use Rattle.row_tables.specs.Namespaces.{full_key, layered_key, all_rows};
-    ghost use Rattle.row_tables.specs.ArrivedNamespaces.{HaveArrived};
+    ghost use Rattle.row_tables.specs.Namespaces.{layered_key, all_rows};
+    ghost use Rattle.row_tables.specs.ArrivedNamespaces.{AreHoused};
 
     ghost Value = { List R };
 
-    ghost view = { λ t. all_rows t.groups.items };
+    ghost view = { λ t. all_rows t.groups.entries };
 
-    ghost invariant = { λ t. HaveArrived (layered_key K.texts_of R.name_of R.group_of R.ns_of)
-        (full_key K.texts_of R.name_of R.group_of) R.ns_of t.groups.items t.count };
+    ghost invariant = { λ t. AreHoused (layered_key K.texts_of R.name_of R.group_of R.ns_of) R.ns_of
+        t.groups.entries t.count };
 }
 
 impl<K: Named, R: SnapshotterRow<K>> ArrivedBySnapshotter<K, R> {
@@ -45,7 +47,7 @@ impl<K: Named, R: SnapshotterRow<K>> ArrivedBySnapshotter<K, R> {
         ensures { result ≡ [] }
     {
         ArrivedBySnapshotter {
-            groups: Vec::new(alloc),
+            groups: IndexMap::new(alloc),
             count: 0,
         }
     }
@@ -138,7 +140,8 @@ impl<K: Named, R: SnapshotterRow<K>> ArrivedBySnapshotter<K, R> {
     }
 
     /// Takes out the row of a namespace, a snapshotter and a name; the last row of its snapshotter
-    /// takes its place.
+    /// takes its place. A snapshotter and a namespace without a row go, and the last of them takes
+    /// the place.
     pub fn take(&mut self, ns: &ShortName, snapshotter: &ShortName, name: &K) -> Option<R>
         ensures row { result ≡ row_at (layered_key K.texts_of R.name_of R.group_of R.ns_of)
             (ns.now ∷ snapshotter.now ∷ K.texts_of name.now)
@@ -186,7 +189,7 @@ impl<K: Named, R: SnapshotterRow<K>> ArrivedBySnapshotter<K, R> {
         ensures { result ≡ list_all (T.passes test.now)
             (sorted (layered_key K.texts_of R.name_of R.group_of R.ns_of) self.now) }
     {
-        find::all_pass(&self.groups, test)
+        find::all_pass(self.groups.values().as_slice(), test)
     }
 
     /// Whether some row is in the namespace.
@@ -228,7 +231,7 @@ impl<K: Named, R: SnapshotterRow<K>> ArrivedBySnapshotter<K, R> {
         ensures ok { IfOk result (λ list. map (λ row. row.now) list.items
             ≡ sorted (layered_key K.texts_of R.name_of R.group_of R.ns_of) self.now) }
     {
-        list::rows(&self.groups, alloc)
+        list::rows(self.groups.values().as_slice(), alloc)
     }
 
     /// The rows, in the order of their places.
@@ -236,7 +239,7 @@ impl<K: Named, R: SnapshotterRow<K>> ArrivedBySnapshotter<K, R> {
         ensures fault { Refuses result None }
         ensures ok { IfOk result (λ list. map (λ row. row.now) list.items ≡ self.now) }
     {
-        list::rows_arrived(&self.groups, alloc)
+        list::rows_arrived(self.groups.values().as_slice(), alloc)
     }
 
     /// A copy, with the rows at the same places, which shares their texts.
@@ -256,7 +259,7 @@ impl<K: Named, R: SnapshotterRow<K>> ArrivedBySnapshotter<K, R> {
         requires { length marks.now ≡ length self.now }
         ensures { visitor.new ≡ all_visited P.after_visit (gone marks.now self.now) visitor.old }
     {
-        keep::visit_removed_rows(&self.groups, marks, visitor);
+        keep::visit_removed_rows(self.groups.values().as_slice(), marks, visitor);
     }
 
     /// Keeps the rows whose mark is set, in the order in which they stand.

@@ -16,6 +16,7 @@ use indexmap::IndexMap;
 use indexmap::map::Entry;
 use meta_types::Fault;
 use std::alloc::{AllocFailed, Global};
+use std::hash::Hash;
 use std::marker::Model;
 
 /// Rows in the order in which they arrived, each found by its name. Where one goes, the last takes its
@@ -273,7 +274,7 @@ fn retain_rows<K: Named, R: NamedRow<K>>(rows: &mut IndexMap<K, R>, marks: &[boo
 }
 
 // Takes out a row by its place; the last takes it.
-fn take_at<K: Named, R: NamedRow<K>>(rows: &mut IndexMap<K, R>, place: usize) -> Option<(K, R)>
+pub(crate) fn take_at<K: Eq + Hash, V>(rows: &mut IndexMap<K, V>, place: usize) -> Option<(K, V)>
     ensures entry { result ≡ slice_get rows.old.entries place }
     ensures entries { IfSome result (λ entry. rows.new.entries
         ≡ swap_remove rows.old.entries place entry) }
@@ -286,7 +287,7 @@ fn take_at<K: Named, R: NamedRow<K>>(rows: &mut IndexMap<K, R>, place: usize) ->
 
 // Gives back memory where less than a quarter of it is in use: half of what is left stays free, so
 // that tables which grow and shrink by turns rarely move.
-fn give_back<K: Named, R: NamedRow<K>>(rows: &mut IndexMap<K, R>)
+pub(crate) fn give_back<K: Eq + Hash, V>(rows: &mut IndexMap<K, V>)
     ensures entries { rows.new.entries ≡ rows.old.entries }
 {
     let len = rows.len();

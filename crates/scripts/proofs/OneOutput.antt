@@ -19,7 +19,8 @@ use Rattle.reply_line.specs.Explained.{line_answer_text}
 use Rattle.scripts.specs.Output.{Supplies, first_supplied, output_from, AreTrue}
 use Rattle.scripts.specs.OneOutput.{refused_with, EachScriptHasOneOutput}
 use Rattle.scripts.proofs.OneExplanation.{each_explanation_is_one, each_impact_is_one}
-use Rattle.scripts.proofs.WholeScripts.{full_step, step_sound, empty_is_sound}
+use Rattle.request_core.proofs.EmptyStore.{empty_is_sound}
+use Rattle.scripts.proofs.WholeScripts.{full_step, step_sound}
 
 -- ---- a question has one answer
 

@@ -20,6 +20,7 @@ use Rattle.request_core.proofs.HistoriesSound.{event_sound, removal_sound}
 use Rattle.request_line.specs.Lines.{asked_in}
 use Rattle.request_line.specs.declared.asked.Asked.{Asked}
 use Rattle.request_line.specs.declared.asked.Asked.TheVariants as A
+use Rattle.request_core.proofs.EmptyStore.{empty_is_sound}
 use Rattle.scripts.specs.EventSteps.{collection_report, event_step, collects, plans}
 use Rattle.scripts.specs.LineSteps.{Supplied, out_of_memory, no_worker, gives, supplied_answer, event_for, line_step_of, question_step, asked_step, line_answer, answer_step, line_step, IsLineAnswer, IsTrueOf, IsTrueAt}
 use Rattle.scripts.specs.Lines.{short_request, asks_collection, with_line_feed, lines_of, whole_lines}
@@ -271,38 +272,6 @@ lines_kept state supplies (line ∷ lines) s right =
       refl,
       lines_kept new (drop 1 supplies) lines (step_sound state supplied line s) right.1,
     )
-
--- the empty store is sound
-pub empty_is_sound : IsSound empty_store
-empty_is_sound = record {
-  tables = record {
-    namespaces = refl;
-    images = record { in_order = refl; named = λ i d lt. absurd (omega (arith, lt)) };
-    containers = record { in_order = refl; named = λ i d lt. absurd (omega (arith, lt)) };
-    content = record { in_order = refl; named = λ i d lt. absurd (omega (arith, lt)) };
-    ingests = record { in_order = refl; named = λ i d lt. absurd (omega (arith, lt)) };
-    snapshots = record { in_order = refl; named = λ i d lt. absurd (omega (arith, lt)) };
-    numbered = record {
-      parents = λ i d lt. absurd (omega (arith, lt));
-      snapshots_apart = λ i j d before lt. absurd (omega (arith, lt));
-      ingests_apart = λ i j d before lt. absurd (omega (arith, lt));
-      apart = λ i d lt. absurd (omega (arith, lt));
-    };
-  };
-  leases = record { in_order = refl; named = λ i d lt. absurd (omega (arith, lt)) };
-  stored = record { held = λ i d lt. absurd (omega (arith, lt)); in_order = refl };
-  backed = record {
-    snapshots_below = λ i d lt. absurd (omega (arith, lt));
-    ingests_below = λ i d lt. absurd (omega (arith, lt));
-    objects_below = λ i d lt. absurd (omega (arith, lt));
-    begun_below = λ i d lt. absurd (omega (arith, lt));
-    ingests_begun = λ i d lt. absurd (omega (arith, lt));
-    objects = λ i d lt. absurd (omega (arith, lt));
-    back_parents = λ i d lt. absurd (omega (arith, lt));
-    objects_in_order = λ i j d before lt. absurd (omega (arith, lt));
-    begun_in_order = λ i j d before lt. absurd (omega (arith, lt));
-  };
-}
 
 kept : (supplies : Supplies) (script bytes : List ℕ) → bytes ≡ output_of supplies script
     → AreTrue empty_store supplies (lines_of script) → AnswersScript script bytes

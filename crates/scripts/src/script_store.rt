@@ -64,7 +64,9 @@ impl<L: Ledger> ScriptStore<L> {
         let block = Vec::with_capacity(alloc, BLOCK_ROOM)?;
         let memory = LineMemory::open(alloc)?;
         let mut locked = Locked::open_unkept(alloc, blank, State::empty(alloc));
-        let session = locked.session(alloc)?;
+        let Ok(session) = locked.session(alloc) else {
+            unreachable!()
+        };
         Ok(ScriptStore {
             locked,
             session,

@@ -1,6 +1,6 @@
 -- What refuses a finish, from the fields to the value.
 use Rattle.std.proofs.Common.{◌≡◌, ℕ, List, refl, sym, ap, subst}
-use Rattle.std.specs.Prelude.{Result, Ok, Err, IfOk, OnOk, All}
+use Rattle.std.specs.Prelude.{Result, Ok, Err, IfOk, IfErr, OnOk, All}
 use Rattle.std.specs.Result.{IsErrAnd}
 use Rattle.meta_types.specs.Histories.{Entry, IsLegal}
 use Rattle.meta_types.specs.declared.fault.Fault.{Fault}
@@ -52,6 +52,18 @@ own_as log other now seats l s h = subst (λ (x : List Entry). All (IsPart x) se
 pub each_as : (inside opened : ℕ) (now seats : List Seat) → inside ≡ opened → now ≡ seats
     → AreEach inside now → AreEach opened seats
 each_as inside opened now seats o s h = subst (λ (k : ℕ). AreEach k seats) o (subst (λ (y : List Seat). AreEach inside y) s h)
+
+-- what the check refuses, of the value
+pub refused_as : (r : Result Course Fault) (fault : Fault) (inside opened : ℕ)
+    (log other : List Entry) (now seats : List Seat)
+    → IsErrAnd r (λ answer. answer ≡ fault) → inside ≡ opened → log ≡ other → now ≡ seats
+    → FinishFails fault inside log now → IfErr r (λ f. FinishFails f opened other seats)
+refused_as (Ok h) fault inside opened log other now seats same o l s fails = absurd same
+refused_as (Err answer) fault inside opened log other now seats same o l s fails =
+    subst (λ (f : Fault). FinishFails f opened other seats) (sym same)
+    (subst (λ (k : ℕ). FinishFails fault k other seats) o
+    (subst (λ (x : List Entry). FinishFails fault inside x seats) l
+    (subst (λ (y : List Seat). FinishFails fault inside log y) s fails)))
 
 -- what a finish gives, outside the lock
 pub outside : (f : Front) (seats : List Seat) (r : Result Course Fault) → IfOk r (λ h. h ≡ record { base = f.base; log = f.log }) → IfOk r (λ h. IsLegal h.base h.log f.store.state × AreOpened f.opened h.log)

@@ -6,5 +6,6 @@ pub mod RaisedSound
 pub mod ToldAll
 pub mod Finishing
 pub mod Comparing
+pub mod PassedOn
 pub mod PlanFaults
 pub mod QuestionFaults

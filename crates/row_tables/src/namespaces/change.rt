@@ -1,166 +1,185 @@
-//! A row more in its namespace, a row less, and a row that becomes another.
-ghost use Rattle.std.specs.Prelude.{◌≡◌, ◌∷◌, [], false, None, IfOk, OnOk, OnErr, IfSome, IfNone};
+//! A row more in its namespace, a row less, and a row that becomes another. A namespace comes with
+//! its first row, and goes with its last.
+ghost use Rattle.std.specs.Prelude.{◌≡◌, List, ◌∷◌, ◌<◌, [], false, None, Some, IfOk, OnOk, OnErr, IfSome, IfNone, length, slice_get, if◌then◌else◌};
+ghost use Rattle.std.specs.List.{swap_remove};
 ghost use Rattle.meta_types.specs.Keys.{Key, row_at, has_row, add_row, remove_row};
+ghost use Rattle.meta_types.specs.Text.{Text};
 ghost use Rattle.meta_types.specs.Faults.{Refuses, least_of};
 ghost use Rattle.row_tables.specs.Arrived.{sorted, by_name, Becomes};
-ghost use Rattle.row_tables.specs.Namespaces.{full_key, all_rows, IsHome};
-ghost use Rattle.row_tables.specs.ArrivedNamespaces.{AreArrived};
+ghost use Rattle.row_tables.specs.Namespaces.{full_key, all_rows, group_key, IsHome};
+ghost use Rattle.row_tables.specs.ArrivedNamespaces.{AreApart, AreFull, has_rows};
 
 use crate::named::Named;
-use crate::namespaces::homes::search;
+use crate::namespaces::homes::{home, name_at};
 use crate::row::{Change, GroupedRow};
-use crate::row_table::RowTable;
+use crate::row_table::{RowTable, take_at};
+use indexmap::IndexMap;
 use meta_types::{Fault, ShortName};
 use std::alloc::Global;
 
-// The place of a namespace, which is put there where it isn't.
-fn home_of<K: Named, R: GroupedRow<K>>(
-    groups: &mut Vec<(ShortName, RowTable<K, R>)>,
-    alloc: Global,
-    ns: &ShortName,
-) -> Result<usize, Fault>
-    requires { AreArrived (full_key K.texts_of R.name_of R.group_of) (by_name K.texts_of R.name_of)
-        R.group_of groups.old.items }
-    ensures fault { Refuses result None }
-    ensures home { IfOk result (λ place. IsHome ns.now place groups.new.items) }
-    ensures absent { OnErr result ((name : Key) → has_row (full_key K.texts_of R.name_of R.group_of)
-        (ns.now ∷ name)
-        (sorted (full_key K.texts_of R.name_of R.group_of) (all_rows groups.old.items)) ≡ false) }
-    ensures same { all_rows groups.new.items ≡ all_rows groups.old.items }
-    ensures groups { AreArrived (full_key K.texts_of R.name_of R.group_of)
-        (by_name K.texts_of R.name_of) R.group_of groups.new.items }
-{
-    match search(groups, ns) {
-        Ok(place) => Ok(place),
-        Err(place) => {
-            let ns = ns.copy()?;
-            groups.insert(place, (ns, RowTable::new(alloc)))?;
-            Ok(place)
-        }
-    }
-}
-
-// The row takes the namespace's own text, where that may be shared once more.
-fn add_there<K: Named, R: GroupedRow<K>>(
-    home: &mut (ShortName, RowTable<K, R>),
-    mut row: R,
-) -> Result<(), Fault>
-    requires { R.group_of row ≡ home.old.0 }
-    ensures fault { Refuses result (least_of false false (has_row (by_name K.texts_of R.name_of)
-        (K.texts_of (R.name_of row)) (sorted (by_name K.texts_of R.name_of) home.old.1)) false) }
-    ensures ok { OnOk result (sorted (by_name K.texts_of R.name_of) home.new.1 ≡ add_row
-        (by_name K.texts_of R.name_of) row (sorted (by_name K.texts_of R.name_of) home.old.1)) }
-    ensures err { OnErr result (home.new.1 ≡ home.old.1) }
-    ensures ns { home.new.0 ≡ home.old.0 }
-{
-    if let Ok(ns) = home.0.copy() {
-        row.share_group(ns);
-    }
-    home.1.add_new(row)
-}
-
 /// Adds a row where none has its key; one look in its namespace finds whether one has.
 pub(crate) fn add_new_row<K: Named, R: GroupedRow<K>>(
-    groups: &mut Vec<(ShortName, RowTable<K, R>)>,
+    groups: &mut IndexMap<ShortName, RowTable<K, R>>,
     alloc: Global,
     row: R,
 ) -> Result<(), Fault>
-    requires { AreArrived (full_key K.texts_of R.name_of R.group_of) (by_name K.texts_of R.name_of)
-        R.group_of groups.old.items }
+    requires { AreApart (full_key K.texts_of R.name_of R.group_of) R.group_of groups.old.entries }
     ensures fault { Refuses result (least_of false false
         (has_row (full_key K.texts_of R.name_of R.group_of)
         (full_key K.texts_of R.name_of R.group_of row)
-        (sorted (full_key K.texts_of R.name_of R.group_of) (all_rows groups.old.items))) false) }
+        (sorted (full_key K.texts_of R.name_of R.group_of) (all_rows groups.old.entries))) false) }
     ensures ok { OnOk result (sorted (full_key K.texts_of R.name_of R.group_of)
-        (all_rows groups.new.items) ≡ add_row (full_key K.texts_of R.name_of R.group_of) row
-        (sorted (full_key K.texts_of R.name_of R.group_of) (all_rows groups.old.items))) }
-    ensures err { OnErr result (all_rows groups.new.items ≡ all_rows groups.old.items) }
-    ensures groups { AreArrived (full_key K.texts_of R.name_of R.group_of)
-        (by_name K.texts_of R.name_of) R.group_of groups.new.items }
+        (all_rows groups.new.entries) ≡ add_row (full_key K.texts_of R.name_of R.group_of) row
+        (sorted (full_key K.texts_of R.name_of R.group_of) (all_rows groups.old.entries))) }
+    ensures err { OnErr result (all_rows groups.new.entries ≡ all_rows groups.old.entries) }
+    ensures groups { AreApart (full_key K.texts_of R.name_of R.group_of) R.group_of
+        groups.new.entries }
+    ensures full { AreFull groups.old.entries → AreFull groups.new.entries }
 {
-    let home = home_of(groups, alloc, row.group())?;
-    add_there(&mut groups[home], row)
-}
-
-/// Takes out the row of a namespace and a name; the last row of its namespace takes its place.
-pub(crate) fn take_row<K: Named, R: GroupedRow<K>>(
-    groups: &mut Vec<(ShortName, RowTable<K, R>)>,
-    ns: &ShortName,
-    name: &K,
-) -> Option<R>
-    requires { AreArrived (full_key K.texts_of R.name_of R.group_of) (by_name K.texts_of R.name_of)
-        R.group_of groups.old.items }
-    ensures row { result ≡ row_at (full_key K.texts_of R.name_of R.group_of)
-        (ns.now ∷ K.texts_of name.now)
-        (sorted (full_key K.texts_of R.name_of R.group_of) (all_rows groups.old.items)) }
-    ensures left { sorted (full_key K.texts_of R.name_of R.group_of) (all_rows groups.new.items)
-        ≡ remove_row (full_key K.texts_of R.name_of R.group_of) (ns.now ∷ K.texts_of name.now)
-        (sorted (full_key K.texts_of R.name_of R.group_of) (all_rows groups.old.items)) }
-    ensures groups { AreArrived (full_key K.texts_of R.name_of R.group_of)
-        (by_name K.texts_of R.name_of) R.group_of groups.new.items }
-{
-    match search(groups, ns) {
-        Ok(home) => take_there(&mut groups[home], name),
-        Err(_) => None,
+    match home(groups, row.group()) {
+        Some(home) => add_there(groups, home, row),
+        None => open(groups, alloc, row),
     }
 }
 
-fn take_there<K: Named, R: GroupedRow<K>>(
-    home: &mut (ShortName, RowTable<K, R>),
+fn add_there<K: Named, R: GroupedRow<K>>(
+    groups: &mut IndexMap<ShortName, RowTable<K, R>>,
+    home: usize,
+    row: R,
+) -> Result<(), Fault>
+    requires are { AreApart (full_key K.texts_of R.name_of R.group_of) R.group_of
+        groups.old.entries }
+    requires home { IsHome (R.group_of row) home groups.old.entries }
+    requires within { home < length groups.old.entries }
+    ensures fault { Refuses result (least_of false false
+        (has_row (full_key K.texts_of R.name_of R.group_of)
+        (full_key K.texts_of R.name_of R.group_of row)
+        (sorted (full_key K.texts_of R.name_of R.group_of) (all_rows groups.old.entries))) false) }
+    ensures ok { OnOk result (sorted (full_key K.texts_of R.name_of R.group_of)
+        (all_rows groups.new.entries) ≡ add_row (full_key K.texts_of R.name_of R.group_of) row
+        (sorted (full_key K.texts_of R.name_of R.group_of) (all_rows groups.old.entries))) }
+    ensures err { OnErr result (all_rows groups.new.entries ≡ all_rows groups.old.entries) }
+    ensures groups { AreApart (full_key K.texts_of R.name_of R.group_of) R.group_of
+        groups.new.entries }
+    ensures full { AreFull groups.old.entries → AreFull groups.new.entries }
+{
+    let row = with_text(name_at(groups, home), row);
+    groups[home].add_new(row)
+}
+
+// The row takes the namespace's own text, where that may be shared once more.
+fn with_text<K: Named, R: GroupedRow<K>>(ns: &ShortName, mut row: R) -> R
+    requires { ns.now ≡ R.group_of row }
+    ensures { result ≡ row }
+{
+    if let Ok(ns) = ns.copy() {
+        row.share_group(ns);
+    }
+    row
+}
+
+// The namespace comes with its first row.
+fn open<K: Named, R: GroupedRow<K>>(
+    groups: &mut IndexMap<ShortName, RowTable<K, R>>,
+    alloc: Global,
+    row: R,
+) -> Result<(), Fault>
+    requires are { AreApart (full_key K.texts_of R.name_of R.group_of) R.group_of
+        groups.old.entries }
+    requires none { has_row group_key (R.group_of row ∷ []) groups.old.entries ≡ false }
+    ensures fault { Refuses result None }
+    ensures ok { OnOk result (sorted (full_key K.texts_of R.name_of R.group_of)
+        (all_rows groups.new.entries) ≡ add_row (full_key K.texts_of R.name_of R.group_of) row
+        (sorted (full_key K.texts_of R.name_of R.group_of) (all_rows groups.old.entries))) }
+    ensures err { OnErr result (groups.new.entries ≡ groups.old.entries) }
+    ensures groups { AreApart (full_key K.texts_of R.name_of R.group_of) R.group_of
+        groups.new.entries }
+    ensures full { AreFull groups.old.entries → AreFull groups.new.entries }
+{
+    let ns = row.group().copy()?;
+    let rows = only(alloc, row)?;
+    match groups.insert(ns, rows) {
+        Ok(_) => Ok(()),
+        Err(_) => Err(Fault::OutOfMemory),
+    }
+}
+
+// A table of one row.
+fn only<K: Named, R: GroupedRow<K>>(alloc: Global, row: R) -> Result<RowTable<K, R>, Fault>
+    ensures fault { Refuses result None }
+    ensures ok { IfOk result (λ rows. rows ≡ row ∷ []) }
+{
+    let mut rows = RowTable::new(alloc);
+    rows.add(row)?;
+    Ok(rows)
+}
+
+/// Takes out the row of a namespace and a name; the last row of its namespace takes its place. With
+/// its last row a namespace goes, and the last namespace takes its place.
+pub(crate) fn take_row<K: Named, R: GroupedRow<K>>(
+    groups: &mut IndexMap<ShortName, RowTable<K, R>>,
+    ns: &ShortName,
     name: &K,
 ) -> Option<R>
-    ensures row { result ≡ row_at (by_name K.texts_of R.name_of) (K.texts_of name.now) (sorted
-        (by_name K.texts_of R.name_of) home.old.1) }
-    ensures left { sorted (by_name K.texts_of R.name_of) home.new.1 ≡ remove_row
-        (by_name K.texts_of R.name_of) (K.texts_of name.now) (sorted
-        (by_name K.texts_of R.name_of) home.old.1) }
-    ensures ns { home.new.0 ≡ home.old.0 }
+    requires { AreApart (full_key K.texts_of R.name_of R.group_of) R.group_of groups.old.entries }
+    ensures row { result ≡ row_at (full_key K.texts_of R.name_of R.group_of)
+        (ns.now ∷ K.texts_of name.now)
+        (sorted (full_key K.texts_of R.name_of R.group_of) (all_rows groups.old.entries)) }
+    ensures left { sorted (full_key K.texts_of R.name_of R.group_of) (all_rows groups.new.entries)
+        ≡ remove_row (full_key K.texts_of R.name_of R.group_of) (ns.now ∷ K.texts_of name.now)
+        (sorted (full_key K.texts_of R.name_of R.group_of) (all_rows groups.old.entries)) }
+    ensures groups { AreApart (full_key K.texts_of R.name_of R.group_of) R.group_of
+        groups.new.entries }
+    ensures full { AreFull groups.old.entries → AreFull groups.new.entries }
 {
-    home.1.take(name)
+    match home(groups, ns) {
+        Some(home) => {
+            let row = groups[home].take(name);
+            close(groups, home);
+            row
+        }
+        None => None,
+    }
+}
+
+// A namespace that has no row goes.
+fn close<K: Named, R: GroupedRow<K>>(groups: &mut IndexMap<ShortName, RowTable<K, R>>, home: usize)
+    requires { home < length groups.old.entries }
+    ensures { (group : Text × List R) → slice_get groups.old.entries home ≡ Some group
+        → groups.new.entries ≡ (if has_rows group then groups.old.entries
+        else swap_remove groups.old.entries home group) }
+{
+    if groups[home].len() == 0 {
+        let _gone = take_at(groups, home);
+    }
 }
 
 /// Changes the row of a namespace and a name in its place.
 pub(crate) fn change_row<K: Named, R: GroupedRow<K>, A, C: Change<K, R, A>>(
-    groups: &mut Vec<(ShortName, RowTable<K, R>)>,
+    groups: &mut IndexMap<ShortName, RowTable<K, R>>,
     ns: &ShortName,
     name: &K,
     change: C,
 ) -> Option<A>
-    requires groups { AreArrived (full_key K.texts_of R.name_of R.group_of)
-        (by_name K.texts_of R.name_of) R.group_of groups.old.items }
+    requires groups { AreApart (full_key K.texts_of R.name_of R.group_of) R.group_of
+        groups.old.entries }
     requires keeps_ns { (row : R) (answer : A) (after : R) → C.changes change row answer after
         → R.group_of after ≡ R.group_of row }
     ensures absent { IfNone result (has_row (full_key K.texts_of R.name_of R.group_of)
         (ns.now ∷ K.texts_of name.now)
-        (sorted (full_key K.texts_of R.name_of R.group_of) (all_rows groups.old.items)) ≡ false) }
-    ensures same { IfNone result (all_rows groups.new.items ≡ all_rows groups.old.items) }
+        (sorted (full_key K.texts_of R.name_of R.group_of) (all_rows groups.old.entries)) ≡ false) }
+    ensures same { IfNone result (all_rows groups.new.entries ≡ all_rows groups.old.entries) }
     ensures changed { IfSome result (λ answer. (row : R) × (after : R)
         × C.changes change row answer after × Becomes (full_key K.texts_of R.name_of R.group_of)
         (ns.now ∷ K.texts_of name.now) row after
-        (sorted (full_key K.texts_of R.name_of R.group_of) (all_rows groups.old.items))
-        (sorted (full_key K.texts_of R.name_of R.group_of) (all_rows groups.new.items))) }
-    ensures groups { AreArrived (full_key K.texts_of R.name_of R.group_of)
-        (by_name K.texts_of R.name_of) R.group_of groups.new.items }
+        (sorted (full_key K.texts_of R.name_of R.group_of) (all_rows groups.old.entries))
+        (sorted (full_key K.texts_of R.name_of R.group_of) (all_rows groups.new.entries))) }
+    ensures groups { AreApart (full_key K.texts_of R.name_of R.group_of) R.group_of
+        groups.new.entries }
+    ensures full { AreFull groups.old.entries → AreFull groups.new.entries }
 {
-    match search(groups, ns) {
-        Ok(home) => change_there(&mut groups[home], name, change),
-        Err(_) => None,
+    match home(groups, ns) {
+        Some(home) => groups[home].change(name, change),
+        None => None,
     }
-}
-
-fn change_there<K: Named, R: GroupedRow<K>, A, C: Change<K, R, A>>(
-    home: &mut (ShortName, RowTable<K, R>),
-    name: &K,
-    change: C,
-) -> Option<A>
-    ensures absent { IfNone result (has_row (by_name K.texts_of R.name_of)
-        (K.texts_of name.now) (sorted (by_name K.texts_of R.name_of) home.old.1) ≡ false) }
-    ensures same { IfNone result (home.new.1 ≡ home.old.1) }
-    ensures changed { IfSome result (λ answer. (row : R) × (after : R)
-        × C.changes change row answer after × Becomes (by_name K.texts_of R.name_of)
-        (K.texts_of name.now) row after (sorted (by_name K.texts_of R.name_of) home.old.1)
-        (sorted (by_name K.texts_of R.name_of) home.new.1)) }
-    ensures ns { home.new.0 ≡ home.old.0 }
-{
-    home.1.change(name, change)
 }

@@ -5,156 +5,159 @@ ghost use Rattle.meta_types.specs.Faults.{Refuses};
 ghost use Rattle.meta_types.specs.Keys.{is_key, row_at, has_row};
 ghost use Rattle.row_tables.specs.Arrived.{sorted, by_name};
 ghost use Rattle.row_tables.specs.Namespaces.{full_key, all_rows};
-ghost use Rattle.row_tables.specs.ArrivedNamespaces.{AreArrived};
+ghost use Rattle.row_tables.specs.ArrivedNamespaces.{AreApart, AreFull};
 ghost use Rattle.row_tables.specs.Starts.{AreStarts};
 
 use crate::named::Named;
-use crate::namespaces::homes::search;
+use crate::namespaces::homes::home;
 use crate::row::{GroupedRow, Test};
 use crate::row_table::RowTable;
+use indexmap::IndexMap;
 use meta_types::{Fault, ShortName};
 use std::alloc::Global;
 
 /// Where the rows of each namespace begin.
 pub(crate) fn starts_of<K: Named, R: GroupedRow<K>>(
-    groups: &[(ShortName, RowTable<K, R>)],
+    groups: &IndexMap<ShortName, RowTable<K, R>>,
     alloc: Global,
 ) -> Result<Vec<usize>, Fault>
-    requires { length (all_rows groups.now) < 2 ^ 64 }
+    requires { length (all_rows groups.now.entries) < 2 ^ 64 }
     ensures fault { Refuses result None }
-    ensures ok { IfOk result (λ starts. AreStarts starts.items groups.now) }
+    ensures ok { IfOk result (λ starts. AreStarts starts.items groups.now.entries) }
 {
     let mut starts = Vec::new(alloc);
     let mut first = 0;
     for at in 0..groups.len() {
         starts.push(first)?;
-        first += groups[at].1.len();
+        first += groups[at].len();
     }
     Ok(starts)
 }
 
 /// The place of the row of a namespace and a name.
 pub(crate) fn place_of<K: Named, R: GroupedRow<K>>(
-    groups: &[(ShortName, RowTable<K, R>)],
+    groups: &IndexMap<ShortName, RowTable<K, R>>,
     starts: &[usize],
     ns: &ShortName,
     name: &K,
 ) -> Option<usize>
-    requires are { AreArrived (full_key K.texts_of R.name_of R.group_of) (by_name K.texts_of R.name_of)
-        R.group_of groups.now }
-    requires fits { length (all_rows groups.now) < 2 ^ 64 }
-    requires starts { AreStarts starts.now groups.now }
+    requires are { AreApart (full_key K.texts_of R.name_of R.group_of)
+        R.group_of groups.now.entries }
+    requires fits { length (all_rows groups.now.entries) < 2 ^ 64 }
+    requires starts { AreStarts starts.now groups.now.entries }
     ensures { result ≡ position (λ row. is_key (ns.now ∷ K.texts_of name.now)
-        (full_key K.texts_of R.name_of R.group_of row)) (all_rows groups.now) }
+        (full_key K.texts_of R.name_of R.group_of row)) (all_rows groups.now.entries) }
 {
-    match search(groups, ns) {
-        Ok(home) => match groups[home].1.place(name) {
+    match home(groups, ns) {
+        Some(home) => match groups[home].place(name) {
             Some(place) => Some(starts[home] + place),
             None => None,
         },
-        Err(_) => None,
+        None => None,
     }
 }
 
 /// The row of a namespace and a name.
 pub(crate) fn row_in<'a, K: Named, R: GroupedRow<K>>(
-    groups: &'a [(ShortName, RowTable<K, R>)],
+    groups: &'a IndexMap<ShortName, RowTable<K, R>>,
     ns: &ShortName,
     name: &K,
 ) -> Option<&'a R>
-    requires { AreArrived (full_key K.texts_of R.name_of R.group_of) (by_name K.texts_of R.name_of)
-        R.group_of groups.now }
+    requires { AreApart (full_key K.texts_of R.name_of R.group_of)
+        R.group_of groups.now.entries }
     ensures { option_copied result ≡ row_at (full_key K.texts_of R.name_of R.group_of)
         (ns.now ∷ K.texts_of name.now)
-        (sorted (full_key K.texts_of R.name_of R.group_of) (all_rows groups.now)) }
+        (sorted (full_key K.texts_of R.name_of R.group_of) (all_rows groups.now.entries)) }
 {
-    match search(groups, ns) {
-        Ok(home) => groups[home].1.get(name),
-        Err(_) => None,
+    match home(groups, ns) {
+        Some(home) => groups[home].get(name),
+        None => None,
     }
 }
 
 /// Whether the row is there.
 pub(crate) fn has_row<K: Named, R: GroupedRow<K>>(
-    groups: &[(ShortName, RowTable<K, R>)],
+    groups: &IndexMap<ShortName, RowTable<K, R>>,
     ns: &ShortName,
     name: &K,
 ) -> bool
-    requires { AreArrived (full_key K.texts_of R.name_of R.group_of) (by_name K.texts_of R.name_of)
-        R.group_of groups.now }
+    requires { AreApart (full_key K.texts_of R.name_of R.group_of)
+        R.group_of groups.now.entries }
     ensures { result ≡ has_row (full_key K.texts_of R.name_of R.group_of)
         (ns.now ∷ K.texts_of name.now)
-        (sorted (full_key K.texts_of R.name_of R.group_of) (all_rows groups.now)) }
+        (sorted (full_key K.texts_of R.name_of R.group_of) (all_rows groups.now.entries)) }
 {
-    match search(groups, ns) {
-        Ok(home) => groups[home].1.has(name),
-        Err(_) => false,
+    match home(groups, ns) {
+        Some(home) => groups[home].has(name),
+        None => false,
     }
 }
 
 /// The rows of a namespace as they arrived.
 pub(crate) fn rows_of<'a, K: Named, R: GroupedRow<K>>(
-    groups: &'a [(ShortName, RowTable<K, R>)],
+    groups: &'a IndexMap<ShortName, RowTable<K, R>>,
     ns: &ShortName,
 ) -> Option<&'a [R]>
-    requires { AreArrived (full_key K.texts_of R.name_of R.group_of) (by_name K.texts_of R.name_of)
-        R.group_of groups.now }
+    requires { AreApart (full_key K.texts_of R.name_of R.group_of)
+        R.group_of groups.now.entries }
     ensures rows { IfSome result (λ rows. rows.now
-        ≡ filter (λ row. bytes_eq ns.now (R.group_of row)) (all_rows groups.now)) }
+        ≡ filter (λ row. bytes_eq ns.now (R.group_of row)) (all_rows groups.now.entries)) }
     ensures none { IfNone result (filter (λ row. bytes_eq ns.now (R.group_of row))
-        (all_rows groups.now) ≡ []) }
+        (all_rows groups.now.entries) ≡ []) }
 {
-    match search(groups, ns) {
-        Ok(home) => Some(groups[home].1.rows()),
-        Err(_) => None,
+    match home(groups, ns) {
+        Some(home) => Some(groups[home].rows()),
+        None => None,
     }
 }
 
 /// The place of the first row of a namespace.
 pub(crate) fn first_in<K: Named, R: GroupedRow<K>>(
-    groups: &[(ShortName, RowTable<K, R>)],
+    groups: &IndexMap<ShortName, RowTable<K, R>>,
     starts: &[usize],
     ns: &ShortName,
 ) -> Option<usize>
-    requires are { AreArrived (full_key K.texts_of R.name_of R.group_of) (by_name K.texts_of R.name_of)
-        R.group_of groups.now }
-    requires starts { AreStarts starts.now groups.now }
+    requires are { AreApart (full_key K.texts_of R.name_of R.group_of)
+        R.group_of groups.now.entries }
+    requires starts { AreStarts starts.now groups.now.entries }
     ensures first { IfSome result (λ first.
-        take (length (filter (λ row. bytes_eq ns.now (R.group_of row)) (all_rows groups.now)))
-        (drop first (all_rows groups.now))
-        ≡ filter (λ row. bytes_eq ns.now (R.group_of row)) (all_rows groups.now)) }
+        take (length
+        (filter (λ row. bytes_eq ns.now (R.group_of row)) (all_rows groups.now.entries)))
+        (drop first (all_rows groups.now.entries))
+        ≡ filter (λ row. bytes_eq ns.now (R.group_of row)) (all_rows groups.now.entries)) }
     ensures none { IfNone result (filter (λ row. bytes_eq ns.now (R.group_of row))
-        (all_rows groups.now) ≡ []) }
+        (all_rows groups.now.entries) ≡ []) }
 {
-    match search(groups, ns) {
-        Ok(home) => Some(starts[home]),
-        Err(_) => None,
+    match home(groups, ns) {
+        Some(home) => Some(starts[home]),
+        None => None,
     }
 }
 
 /// Whether some row is in the namespace.
 pub(crate) fn any_in<K: Named, R: GroupedRow<K>>(
-    groups: &[(ShortName, RowTable<K, R>)],
+    groups: &IndexMap<ShortName, RowTable<K, R>>,
     ns: &ShortName,
 ) -> bool
-    requires { AreArrived (full_key K.texts_of R.name_of R.group_of) (by_name K.texts_of R.name_of)
-        R.group_of groups.now }
+    requires are { AreApart (full_key K.texts_of R.name_of R.group_of) R.group_of
+        groups.now.entries }
+    requires full { AreFull groups.now.entries }
     ensures { result ≡ list_any (λ row. bytes_eq ns.now (R.group_of row)) (sorted
-        (full_key K.texts_of R.name_of R.group_of) (all_rows groups.now)) }
+        (full_key K.texts_of R.name_of R.group_of) (all_rows groups.now.entries)) }
 {
-    match search(groups, ns) {
-        Ok(home) => groups[home].1.len() != 0,
-        Err(_) => false,
+    match home(groups, ns) {
+        Some(_home) => true,
+        None => false,
     }
 }
 
 /// Whether the rows of all namespaces pass the test.
 pub(crate) fn all_pass<K: Named, R: GroupedRow<K>, T: Test<R>>(
-    groups: &[(ShortName, RowTable<K, R>)],
+    tables: &[RowTable<K, R>],
     test: &T,
 ) -> bool
-    ensures { result ≡ list_all (λ group. list_all (T.passes test.now) (sorted
-        (by_name K.texts_of R.name_of) group.1)) groups.now }
+    ensures { result ≡ list_all (λ rows. list_all (T.passes test.now) (sorted
+        (by_name K.texts_of R.name_of) rows)) tables.now }
 {
-    groups.iter().all(|group| group.1.all(test))
+    tables.iter().all(|rows| rows.all(test))
 }

@@ -1,63 +1,79 @@
-//! A sweep of all namespaces: keeps the marked rows, and shows a visitor the others.
-ghost use Rattle.std.specs.Prelude.{◌≡◌, length};
-ghost use Rattle.row_tables.specs.Arrived.{by_name, kept};
+//! A sweep of all namespaces: keeps the marked rows, and shows a visitor the others. A namespace
+//! goes with its last row.
+ghost use Rattle.std.specs.Prelude.{◌≡◌, ◌==◌, not, filter, length};
+ghost use Rattle.row_tables.specs.Arrived.{kept};
 ghost use Rattle.row_tables.specs.Visiting.{gone, all_visited};
-ghost use Rattle.row_tables.specs.Namespaces.{full_key, all_rows};
-ghost use Rattle.row_tables.specs.ArrivedNamespaces.{AreArrived};
+ghost use Rattle.row_tables.specs.Namespaces.{full_key, all_rows, joined};
+ghost use Rattle.row_tables.specs.ArrivedNamespaces.{AreApart, AreFull, has_rows};
 
 use crate::named::Named;
 use crate::row::{GroupedRow, RemovedRows};
-use crate::row_table::RowTable;
+use crate::row_table::{RowTable, give_back};
+use indexmap::IndexMap;
 use meta_types::ShortName;
 
 /// Keeps the rows whose mark is set.
 pub(crate) fn retain_all<K: Named, R: GroupedRow<K>>(
-    groups: &mut Vec<(ShortName, RowTable<K, R>)>,
+    groups: &mut IndexMap<ShortName, RowTable<K, R>>,
     marks: &[bool],
 )
-    requires groups { AreArrived (full_key K.texts_of R.name_of R.group_of)
-        (by_name K.texts_of R.name_of) R.group_of groups.old.items }
-    requires length { length marks.now ≡ length (all_rows groups.old.items) }
-    ensures rows { all_rows groups.new.items ≡ kept marks.now (all_rows groups.old.items) }
-    ensures groups { AreArrived (full_key K.texts_of R.name_of R.group_of)
-        (by_name K.texts_of R.name_of) R.group_of groups.new.items }
+    requires groups { AreApart (full_key K.texts_of R.name_of R.group_of) R.group_of
+        groups.old.entries }
+    requires length { length marks.now ≡ length (all_rows groups.old.entries) }
+    ensures rows { all_rows groups.new.entries ≡ kept marks.now (all_rows groups.old.entries) }
+    ensures groups { AreApart (full_key K.texts_of R.name_of R.group_of) R.group_of
+        groups.new.entries }
+    ensures full { AreFull groups.new.entries }
 {
     retain_rows(groups, marks);
+    close_all(groups);
 }
 
 fn retain_rows<K: Named, R: GroupedRow<K>>(
-    groups: &mut [(ShortName, RowTable<K, R>)],
+    groups: &mut IndexMap<ShortName, RowTable<K, R>>,
     marks: &[bool],
 )
-    requires groups { AreArrived (full_key K.texts_of R.name_of R.group_of)
-        (by_name K.texts_of R.name_of) R.group_of groups.old }
-    requires length { length marks.now ≡ length (all_rows groups.old) }
-    ensures rows { all_rows groups.new ≡ kept marks.now (all_rows groups.old) }
-    ensures groups { AreArrived (full_key K.texts_of R.name_of R.group_of)
-        (by_name K.texts_of R.name_of) R.group_of groups.new }
+    requires groups { AreApart (full_key K.texts_of R.name_of R.group_of) R.group_of
+        groups.old.entries }
+    requires length { length marks.now ≡ length (all_rows groups.old.entries) }
+    ensures rows { all_rows groups.new.entries ≡ kept marks.now (all_rows groups.old.entries) }
+    ensures groups { AreApart (full_key K.texts_of R.name_of R.group_of) R.group_of
+        groups.new.entries }
 {
     let mut rest = marks;
-    for group in groups.iter_mut() {
-        let (own, later) = rest.split_at(group.1.len());
-        group.1.retain(own);
+    for at in 0..groups.len() {
+        let (own, later) = rest.split_at(groups[at].len());
+        groups[at].retain(own);
         rest = later;
     }
 }
 
+// The namespaces that have no row go.
+fn close_all<K: Named, R: GroupedRow<K>>(groups: &mut IndexMap<ShortName, RowTable<K, R>>)
+    ensures { groups.new.entries ≡ filter has_rows groups.old.entries }
+{
+    groups.retain(
+        |_ns: &ShortName, rows: &mut RowTable<K, R>| -> bool
+            ensures { (result ≡ not (length rows.old == 0)) × (rows.new ≡ rows.old) }
+        { rows.len() != 0 },
+    );
+    give_back(groups);
+}
+
 /// Shows the visitor each row whose mark is unset, from the first to the last.
 pub(crate) fn visit_removed_rows<K: Named, R: GroupedRow<K>, P: RemovedRows<R>>(
-    groups: &[(ShortName, RowTable<K, R>)],
+    tables: &[RowTable<K, R>],
     marks: &[bool],
     visitor: &mut P,
 )
-    requires { length marks.now ≡ length (all_rows groups.now) }
+    requires { length marks.now ≡ length (joined tables.now) }
     ensures { visitor.new
-        ≡ all_visited P.after_visit (gone marks.now (all_rows groups.now)) visitor.old }
+        ≡ all_visited P.after_visit (gone marks.now (joined tables.now)) visitor.old }
 {
     let mut rest = marks;
-    for group in groups {
-        let (own, later) = rest.split_at(group.1.len());
-        group.1.visit_removed(own, visitor);
+    for table in tables {
+        let (own, later) = rest.split_at(table.len());
+        table.visit_removed(own, visitor);
         rest = later;
     }
 }

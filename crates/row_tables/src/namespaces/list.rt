@@ -1,65 +1,95 @@
 //! Rows of all namespaces, lent and copied.
-ghost use Rattle.std.specs.Prelude.{◌≡◌, map, None, IfOk, filter, bytes_eq};
+ghost use Rattle.std.specs.Prelude.{◌≡◌, ◌<◌, map, None, IsTrue, OnOk, Some, slice_get, IfOk, filter, bytes_eq};
+ghost use Rattle.std.specs.List.{IsDistinct};
+ghost use Rattle.std.specs.Cmp.Lexicographic.{slice_cmp};
+ghost use Rattle.std.specs.List.Sorted.{IsPermutation};
+ghost use Rattle.meta_types.specs.Keys.{are_in_order};
+ghost use Rattle.meta_types.specs.Text.{text_cmp};
 ghost use Rattle.meta_types.specs.Faults.{Refuses};
-ghost use Rattle.row_tables.specs.Arrived.{sorted, by_name};
-ghost use Rattle.row_tables.specs.Namespaces.{full_key, all_rows};
-ghost use Rattle.row_tables.specs.ArrivedNamespaces.{AreArrived, listed};
+ghost use Rattle.row_tables.specs.Arrived.{sorted, same_key};
+ghost use Rattle.row_tables.specs.Namespaces.{full_key, all_rows, joined};
+ghost use Rattle.row_tables.specs.ArrivedNamespaces.{AreApart};
 
 use crate::listing::{borrow_rows, in_key_order};
 use crate::named::Named;
-use crate::namespaces::homes::search;
+use crate::namespaces::homes::{home, name_at};
 use crate::row::GroupedRow;
 use crate::row_table::RowTable;
+use indexmap::IndexMap;
 use meta_types::{Fault, ShortName};
 use std::alloc::Global;
+use std::cmp::Ordering;
 
 /// The rows of a namespace, in the order of their names.
 pub(crate) fn rows_in<'a, K: Named, R: GroupedRow<K>>(
-    groups: &'a [(ShortName, RowTable<K, R>)],
+    groups: &'a IndexMap<ShortName, RowTable<K, R>>,
     alloc: Global,
     ns: &ShortName,
 ) -> Result<Vec<&'a R>, Fault>
-    requires { AreArrived (full_key K.texts_of R.name_of R.group_of) (by_name K.texts_of R.name_of)
-        R.group_of groups.now }
+    requires { AreApart (full_key K.texts_of R.name_of R.group_of)
+        R.group_of groups.now.entries }
     ensures fault { Refuses result None }
     ensures ok { IfOk result (λ list. map (λ row. row.now) list.items
         ≡ filter (λ row. bytes_eq ns.now (R.group_of row)) (sorted
-        (full_key K.texts_of R.name_of R.group_of) (all_rows groups.now))) }
+        (full_key K.texts_of R.name_of R.group_of) (all_rows groups.now.entries))) }
 {
-    match search(groups, ns) {
-        Ok(home) => in_key_order(alloc, &groups[home].1),
-        Err(_) => Ok(Vec::new(alloc)),
+    match home(groups, ns) {
+        Some(home) => in_key_order(alloc, &groups[home]),
+        None => Ok(Vec::new(alloc)),
     }
 }
 
-/// All rows, those of each namespace in the order of their names.
+/// All rows, in the order of their keys.
 pub(crate) fn rows<'a, K: Named, R: GroupedRow<K>>(
-    groups: &'a [(ShortName, RowTable<K, R>)],
+    tables: &'a [RowTable<K, R>],
     alloc: Global,
 ) -> Result<Vec<&'a R>, Fault>
+    requires { IsDistinct (same_key (full_key K.texts_of R.name_of R.group_of))
+        (joined tables.now) }
     ensures fault { Refuses result None }
     ensures ok { IfOk result (λ list. map (λ row. row.now) list.items
-        ≡ all_rows (listed (by_name K.texts_of R.name_of) groups.now)) }
+        ≡ sorted (full_key K.texts_of R.name_of R.group_of) (joined tables.now)) }
 {
-    let mut list = Vec::new(alloc);
-    for group in groups {
-        let mut rows = in_key_order(alloc, &group.1)?;
-        list.append(&mut rows)?;
-    }
+    let mut list = rows_arrived(tables, alloc)?;
+    sort_rows(&mut list)?;
     Ok(list)
+}
+
+/// Where a row stands to another, by the bytes of its namespace and of its name.
+pub(crate) fn order<K: Named, R: GroupedRow<K>>(a: &R, b: &R) -> Ordering
+    ensures { result ≡ slice_cmp text_cmp (full_key K.texts_of R.name_of R.group_of a.now)
+        (full_key K.texts_of R.name_of R.group_of b.now) }
+{
+    match a.group().text().cmp(b.group().text()) {
+        Ordering::Less => Ordering::Less,
+        Ordering::Equal => a.name().order(b.name()),
+        Ordering::Greater => Ordering::Greater,
+    }
+}
+
+fn sort_rows<'a, K: Named, R: GroupedRow<K>>(list: &mut Vec<&'a R>) -> Result<(), Fault>
+    requires { IsDistinct (same_key (full_key K.texts_of R.name_of R.group_of))
+        (map (λ row. row.now) list.old.items) }
+    ensures fault { Refuses result None }
+    ensures same { IsPermutation list.old.items list.new.items }
+    ensures order { OnOk result (IsTrue (are_in_order (full_key K.texts_of R.name_of R.group_of)
+        (map (λ row. row.now) list.new.items))) }
+{
+    list.sort_by(|a, b| order(*a, *b))?;
+    Ok(())
 }
 
 /// All rows, in the order of their places.
 pub(crate) fn rows_arrived<'a, K: Named, R: GroupedRow<K>>(
-    groups: &'a [(ShortName, RowTable<K, R>)],
+    tables: &'a [RowTable<K, R>],
     alloc: Global,
 ) -> Result<Vec<&'a R>, Fault>
     ensures fault { Refuses result None }
-    ensures ok { IfOk result (λ list. map (λ row. row.now) list.items ≡ all_rows groups.now) }
+    ensures ok { IfOk result (λ list. map (λ row. row.now) list.items ≡ joined tables.now) }
 {
     let mut list = Vec::new(alloc);
-    for group in groups {
-        let mut rows = borrow_rows(alloc, group.1.rows())?;
+    for table in tables {
+        let mut rows = borrow_rows(alloc, table.rows())?;
         list.append(&mut rows)?;
     }
     Ok(list)
@@ -67,28 +97,18 @@ pub(crate) fn rows_arrived<'a, K: Named, R: GroupedRow<K>>(
 
 /// A copy of the namespaces and of their rows, which shares their texts.
 pub(crate) fn copy_groups<K: Named, R: GroupedRow<K>>(
-    groups: &[(ShortName, RowTable<K, R>)],
+    groups: &IndexMap<ShortName, RowTable<K, R>>,
     alloc: Global,
-) -> Result<Vec<(ShortName, RowTable<K, R>)>, Fault>
+) -> Result<IndexMap<ShortName, RowTable<K, R>>, Fault>
+    requires { AreApart (full_key K.texts_of R.name_of R.group_of) R.group_of groups.now.entries }
     ensures fault { Refuses result None }
-    ensures ok { IfOk result (λ copies. copies.items ≡ groups.now) }
+    ensures ok { IfOk result (λ copies. copies.entries ≡ groups.now.entries) }
 {
-    let mut copies = Vec::new(alloc);
-    for group in groups {
-        let copy = copy_group(group, alloc)?;
-        copies.push(copy)?;
+    let mut copies = IndexMap::with_capacity(alloc, groups.len())?;
+    for at in 0..groups.len() {
+        let ns = name_at(groups, at).copy()?;
+        let rows = groups[at].copy(alloc)?;
+        copies.insert(ns, rows)?;
     }
     Ok(copies)
-}
-
-fn copy_group<K: Named, R: GroupedRow<K>>(
-    group: &(ShortName, RowTable<K, R>),
-    alloc: Global,
-) -> Result<(ShortName, RowTable<K, R>), Fault>
-    ensures fault { Refuses result None }
-    ensures ok { IfOk result (λ copy. copy ≡ group.now) }
-{
-    let ns = group.0.copy()?;
-    let rows = group.1.copy(alloc)?;
-    Ok((ns, rows))
 }

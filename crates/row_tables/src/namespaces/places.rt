@@ -3,14 +3,15 @@ ghost use Rattle.std.specs.Prelude.{◌≡◌, ◌∷◌, [], None, IfOk, IfSome
 ghost use Rattle.std.specs.List.{position, IsDistinct};
 ghost use Rattle.meta_types.specs.Keys.{is_key};
 ghost use Rattle.meta_types.specs.Faults.{Refuses};
-ghost use Rattle.row_tables.specs.Arrived.{by_name, same_key};
+ghost use Rattle.row_tables.specs.Arrived.{same_key};
 ghost use Rattle.row_tables.specs.Namespaces.{full_key, all_rows};
-ghost use Rattle.row_tables.specs.ArrivedNamespaces.{HaveArrived};
+ghost use Rattle.row_tables.specs.ArrivedNamespaces.{AreHoused};
 
 use crate::named::Named;
 use crate::namespaces::find;
 use crate::row::GroupedRow;
 use crate::row_table::RowTable;
+use indexmap::IndexMap;
 use meta_types::{Fault, ShortName};
 use std::alloc::Global;
 use std::marker::Model;
@@ -19,38 +20,37 @@ use std::marker::Model;
 /// look-up takes the same time in the last one as in the first.
 #[derive(Drop)]
 pub struct PlacesByNamespace<'a, K: Named, R: GroupedRow<K>> {
-    groups: &'a [(ShortName, RowTable<K, R>)],
+    groups: &'a IndexMap<ShortName, RowTable<K, R>>,
     starts: Vec<usize>,
     count: usize,
 }
 
 impl<'a, K: Named, R: GroupedRow<K>> Model for PlacesByNamespace<'a, K, R> {
     ghost use Rattle.std.specs.Prelude.{List};
-    ghost use Rattle.row_tables.specs.Arrived.{by_name};
     ghost use Rattle.row_tables.specs.Namespaces.{full_key, all_rows};
-    ghost use Rattle.row_tables.specs.ArrivedNamespaces.{HaveArrived};
+    ghost use Rattle.row_tables.specs.ArrivedNamespaces.{AreHoused};
     ghost use Rattle.row_tables.specs.Starts.{AreStarts};
 
     ghost Value = { List R };
 
-    ghost view = { λ p. all_rows p.groups.now };
+    ghost view = { λ p. all_rows p.groups.now.entries };
 
-    ghost invariant = { λ p. HaveArrived (full_key K.texts_of R.name_of R.group_of)
-        (by_name K.texts_of R.name_of) R.group_of p.groups.now p.count
-        × AreStarts p.starts.items p.groups.now };
+    ghost invariant = { λ p. AreHoused (full_key K.texts_of R.name_of R.group_of) R.group_of
+        p.groups.now.entries p.count
+        × AreStarts p.starts.items p.groups.now.entries };
 }
 
 impl<'a, K: Named, R: GroupedRow<K>> PlacesByNamespace<'a, K, R> {
     /// The places of the rows of all namespaces.
     pub(crate) fn new(
-        groups: &'a [(ShortName, RowTable<K, R>)],
+        groups: &'a IndexMap<ShortName, RowTable<K, R>>,
         count: usize,
         alloc: Global,
     ) -> Result<PlacesByNamespace<'a, K, R>, Fault>
-        requires { HaveArrived (full_key K.texts_of R.name_of R.group_of)
-            (by_name K.texts_of R.name_of) R.group_of groups.now count }
+        requires { AreHoused (full_key K.texts_of R.name_of R.group_of) R.group_of
+            groups.now.entries count }
         ensures fault { Refuses result None }
-        ensures ok { IfOk result (λ places. places ≡ all_rows groups.now) }
+        ensures ok { IfOk result (λ places. places ≡ all_rows groups.now.entries) }
     {
         let starts = find::starts_of(groups, alloc)?;
         Ok(PlacesByNamespace {

@@ -4,14 +4,15 @@ ghost use Rattle.std.specs.List.{position, IsDistinct};
 ghost use Rattle.meta_types.specs.Keys.{is_key};
 ghost use Rattle.meta_types.specs.Faults.{Refuses};
 ghost use Rattle.row_tables.specs.Arrived.{same_key};
-ghost use Rattle.row_tables.specs.Namespaces.{full_key, layered_key, all_rows};
-ghost use Rattle.row_tables.specs.ArrivedNamespaces.{HaveArrived};
+ghost use Rattle.row_tables.specs.Namespaces.{layered_key, all_rows};
+ghost use Rattle.row_tables.specs.ArrivedNamespaces.{AreHoused};
 
 use crate::arrived_by_namespace::ArrivedByNamespace;
 use crate::named::Named;
 use crate::namespaces::places::PlacesByNamespace;
 use crate::row::SnapshotterRow;
 use crate::snapshotters::find;
+use indexmap::IndexMap;
 use meta_types::{Fault, ShortName};
 use std::alloc::Global;
 use std::marker::Model;
@@ -20,7 +21,7 @@ use std::marker::Model;
 /// snapshotter, begins.
 #[derive(Drop)]
 pub struct PlacesBySnapshotter<'a, K: Named, R: SnapshotterRow<K>> {
-    groups: &'a [(ShortName, ArrivedByNamespace<K, R>)],
+    groups: &'a IndexMap<ShortName, ArrivedByNamespace<K, R>>,
     starts: Vec<usize>,
     each: Vec<PlacesByNamespace<'a, K, R>>,
     count: usize,
@@ -28,34 +29,34 @@ pub struct PlacesBySnapshotter<'a, K: Named, R: SnapshotterRow<K>> {
 
 impl<'a, K: Named, R: SnapshotterRow<K>> Model for PlacesBySnapshotter<'a, K, R> {
     ghost use Rattle.std.specs.Prelude.{◌≡◌, List, map};
-    ghost use Rattle.row_tables.specs.Namespaces.{full_key, layered_key, all_rows};
-    ghost use Rattle.row_tables.specs.ArrivedNamespaces.{HaveArrived};
+    ghost use Rattle.row_tables.specs.Namespaces.{layered_key, all_rows};
+    ghost use Rattle.row_tables.specs.ArrivedNamespaces.{AreHoused};
     ghost use Rattle.row_tables.specs.Starts.{AreStarts};
 
     ghost Value = { List R };
 
-    ghost view = { λ p. all_rows p.groups.now };
+    ghost view = { λ p. all_rows p.groups.now.entries };
 
-    ghost invariant = { λ p. HaveArrived (layered_key K.texts_of R.name_of R.group_of R.ns_of)
-        (full_key K.texts_of R.name_of R.group_of) R.ns_of p.groups.now p.count
-        × AreStarts p.starts.items p.groups.now
-        × (p.each.items ≡ map (λ group. group.1) p.groups.now) };
+    ghost invariant = { λ p. AreHoused (layered_key K.texts_of R.name_of R.group_of R.ns_of) R.ns_of
+        p.groups.now.entries p.count
+        × AreStarts p.starts.items p.groups.now.entries
+        × (p.each.items ≡ map (λ group. group.1) p.groups.now.entries) };
 }
 
 impl<'a, K: Named, R: SnapshotterRow<K>> PlacesBySnapshotter<'a, K, R> {
     /// The places of the rows of all namespaces.
     pub(crate) fn new(
-        groups: &'a [(ShortName, ArrivedByNamespace<K, R>)],
+        groups: &'a IndexMap<ShortName, ArrivedByNamespace<K, R>>,
         count: usize,
         alloc: Global,
     ) -> Result<PlacesBySnapshotter<'a, K, R>, Fault>
-        requires { HaveArrived (layered_key K.texts_of R.name_of R.group_of R.ns_of)
-            (full_key K.texts_of R.name_of R.group_of) R.ns_of groups.now count }
+        requires { AreHoused (layered_key K.texts_of R.name_of R.group_of R.ns_of) R.ns_of
+            groups.now.entries count }
         ensures fault { Refuses result None }
-        ensures ok { IfOk result (λ places. places ≡ all_rows groups.now) }
+        ensures ok { IfOk result (λ places. places ≡ all_rows groups.now.entries) }
     {
         let starts = find::starts_of(groups, alloc)?;
-        let each = find::places_in_each(groups, alloc)?;
+        let each = find::places_in_each(groups.values().as_slice(), alloc)?;
         Ok(PlacesBySnapshotter {
             groups,
             starts,

@@ -1,4 +1,9 @@
 use Rattle.std.proofs.Common.{◌≡◌, ◌∙◌, ap, subst}
+use Rattle.std.specs.Prelude.{Result, Ok, Err, None}
+use Rattle.std.specs.Result.{IsErrAnd}
+use Rattle.meta_types.specs.Faults.{Refuses}
+use Rattle.meta_types.specs.declared.fault.Fault.{Fault}
+use Rattle.meta_types.specs.declared.fault.Fault.TheVariants.{OutOfMemory}
 use Rattle.meta_types.specs.Limits.{is_too_large}
 use Rattle.meta_types.specs.Rows.{Records, BackLists, State}
 use Rattle.meta_types.specs.Reports.{Plans}
@@ -21,6 +26,17 @@ dry_alone-requires-2-after_bounds g c κs within =
     let is : records_in c.remove.new.records ≡ less_row kept row =
     c.remove.ensures ∙ (λ i. less_row (records_in (c.in_ok-left.ensures.ok i)) row) in
     ap is_too_large is ∙ few_without kept row c.requires.few
+
+memory_fails : {T : Type 0} (result : Result T Fault) (fault : Fault)
+    → IsErrAnd result (λ other. other ≡ fault) → fault ≡ OutOfMemory → Refuses result None
+memory_fails (Ok x) fault same h = absurd same
+memory_fails (Err other) fault same h = same ∙ h
+
+-- memory alone refuses the second plan
+pub returns-in_err-then-clause-fault : goal.returns-in_err-then-clause-fault
+returns-in_err-then-clause-fault g c =
+    let passed = c.from_residual-in_err-then in
+    memory_fails passed.result _ passed.ensures.1 c.in_err-then.ensures.fault
 
 -- what is left are the records without the row
 pub returns-clause-ok : goal.returns-clause-ok

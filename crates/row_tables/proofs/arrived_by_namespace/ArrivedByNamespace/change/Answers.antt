@@ -10,7 +10,9 @@ invariant_of-self g c =
     let key_of = key g.K.Named.texts_of g.R.NamedRow.name_of g.R.GroupedRow.group_of in
     record {
       are = c.change_row.ensures.groups;
+      full = c.change_row.ensures.full c.self.invariant.full;
       counted = c.self.invariant.counted
-          ∙ sym (length_changed_rows key_of (c.args.ns.now ∷ g.K.Named.texts_of c.args.name.now) (g.C.Change.changes c.args.change) (all_rows c.self.inside.groups.items) (all_rows c.change_row.new.groups.items) c.change_row.result c.change_row.ensures.same c.change_row.ensures.changed);
+          ∙ sym
+          (length_changed_rows key_of (c.args.ns.now ∷ g.K.Named.texts_of c.args.name.now) (g.C.Change.changes c.args.change) (all_rows c.self.inside.groups.entries) (all_rows c.change_row.new.groups.entries) c.change_row.result c.change_row.ensures.same c.change_row.ensures.changed);
       fits = c.self.invariant.fits;
     }

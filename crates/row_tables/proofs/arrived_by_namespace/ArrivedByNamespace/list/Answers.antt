@@ -1,17 +1,15 @@
-use Rattle.std.proofs.Common.{◌≡◌, List, map, sym, ap, ◌∙◌, subst}
-use Rattle.std.specs.Prelude.{IfOk}
-use Rattle.meta_types.specs.Text.{Text}
-use Rattle.row_tables.specs.Arrived.{sorted}
-use Rattle.row_tables.specs.ArrivedNamespaces.{listed}
-use Rattle.row_tables.specs.Namespaces.{all_rows}
-use Rattle.row_tables.proofs.NamespacesArrived.{key, name, arrived}
+use Rattle.std.proofs.Common.{List, sym, subst, ◌∙◌}
+use Rattle.std.specs.List.{IsDistinct}
+use Rattle.row_tables.specs.Arrived.{same_key}
+use Rattle.row_tables.specs.Namespaces.{joined}
+use Rattle.row_tables.proofs.ApartNamespaces.{rows_distinct}
+use Rattle.row_tables.proofs.NamespacesArrived.{key}
 use Rattle.row_tables.proofs.arrived_by_namespace.ArrivedByNamespace.list.Goals as goal
 
--- the namespaces in order are all rows in order
-pub returns-clause-ok : goal.returns-clause-ok
-returns-clause-ok g c =
-    subst (λ (rows : List g.row.R.Denot). IfOk c.rows.result (λ list. map (λ row. row.now) list.items ≡ rows))
-    (ap (λ (l : List (Text × List g.row.R.Denot)). all_rows (listed (name g.K.Named.texts_of g.R.NamedRow.name_of g.R.GroupedRow.group_of) l)) c.deref.ensures.value
-    ∙ sym (arrived g.K.Named.texts_of g.R.NamedRow.name_of g.R.GroupedRow.group_of c.self.inside.groups.items c.self.invariant.are)
-    ∙ ap (sorted (key g.K.Named.texts_of g.R.NamedRow.name_of g.R.GroupedRow.group_of)) c.self.view_is)
-    c.rows.ensures.ok
+-- no key stands twice
+pub rows-requires : goal.rows-requires
+rows-requires g c =
+    subst
+    (λ (l : List (List g.row.R.Denot)). IsDistinct (same_key (key g.K.Named.texts_of g.R.NamedRow.name_of g.R.GroupedRow.group_of)) (joined l))
+    (sym (c.as_slice.ensures ∙ c.values.ensures.rest))
+    (rows_distinct g.K.Named.texts_of g.R.NamedRow.name_of g.R.GroupedRow.group_of c.self.inside.groups.entries c.self.invariant.are)

@@ -14,10 +14,12 @@ invariant_of-self g c =
     let key_of = key g.K.Named.texts_of g.R.NamedRow.name_of g.R.GroupedRow.group_of in
     record {
       are = c.take_row.ensures.groups;
+      full = c.take_row.ensures.full c.self.invariant.full;
       counted = c.self.invariant.counted
-          ∙ sym (length_sorted key_of (all_rows c.self.inside.groups.items))
-          ∙ ap length (sym (c.take_row.ensures.left ∙ remove_absent key_of (c.args.ns.now ∷ g.K.Named.texts_of c.args.name.now) (sorted key_of (all_rows c.self.inside.groups.items)) (ap is_some (sym c.in_err-row.ensures.row))))
-          ∙ length_sorted key_of (all_rows c.take_row.new.groups.items);
+          ∙ sym (length_sorted key_of (all_rows c.self.inside.groups.entries))
+          ∙ ap length
+          (sym (c.take_row.ensures.left ∙ remove_absent key_of (c.args.ns.now ∷ g.K.Named.texts_of c.args.name.now) (sorted key_of (all_rows c.self.inside.groups.entries)) (ap is_some (sym c.in_err-row.ensures.row))))
+          ∙ length_sorted key_of (all_rows c.take_row.new.groups.entries);
       fits = c.self.invariant.fits;
     }
 
@@ -27,8 +29,9 @@ invariant_of-self-2 g c =
     let key_of = key g.K.Named.texts_of g.R.NamedRow.name_of g.R.GroupedRow.group_of in
     record {
       are = c.take_row.ensures.groups;
+      full = c.take_row.ensures.full c.self.invariant.full;
       counted =
-          let less = length_less key_of (c.args.ns.now ∷ g.K.Named.texts_of c.args.name.now) (sorted key_of (all_rows c.self.inside.groups.items)) c.in_ok-row.row (sym c.in_ok-row.ensures.row) in
-          omega (arith, less, c.self.invariant.counted, ap length c.take_row.ensures.left, length_sorted key_of (all_rows c.self.inside.groups.items), length_sorted key_of (all_rows c.take_row.new.groups.items));
+          let less = length_less key_of (c.args.ns.now ∷ g.K.Named.texts_of c.args.name.now) (sorted key_of (all_rows c.self.inside.groups.entries)) c.in_ok-row.row (sym c.in_ok-row.ensures.row) in
+          omega (arith, less, c.self.invariant.counted, ap length c.take_row.ensures.left, length_sorted key_of (all_rows c.self.inside.groups.entries), length_sorted key_of (all_rows c.take_row.new.groups.entries));
       fits = omega (arith, c.self.invariant.fits);
     }

@@ -1,6 +1,6 @@
+use Rattle.row_tables.specs.Namespaces.{full_key, own_texts, all_rows}
 use Rattle.std.proofs.Common.{length, ap, arith}
 use Rattle.row_tables.specs.Arrived.{sorted}
-use Rattle.row_tables.specs.Namespaces.{own_texts, full_key, all_rows}
 use Rattle.row_tables.proofs.Arrivals.{length_sorted}
 use Rattle.row_tables.proofs.RowCounts.{length_more}
 use Rattle.row_tables.proofs.NamespacesArrived.{key}
@@ -12,8 +12,9 @@ invariant_of-self-2 g c =
     let key_of = key own_texts (full_key g.K.Named.texts_of g.R.NamedRow.name_of g.R.GroupedRow.group_of) g.R.SnapshotterRow.ns_of in
     record {
       are = c.add_new_row.ensures.groups;
+      full = c.add_new_row.ensures.full c.self.invariant.full;
       counted =
-          let more = length_more key_of c.args.row (sorted key_of (all_rows c.self.inside.groups.items)) in
-          omega (arith, more, c.self.invariant.counted, ap length c.in_ok-add_new_row.ensures.ok, length_sorted key_of (all_rows c.self.inside.groups.items), length_sorted key_of (all_rows c.add_new_row.new.groups.items));
+          let more = length_more key_of c.args.row (sorted key_of (all_rows c.self.inside.groups.entries)) in
+          omega (arith, more, c.self.invariant.counted, ap length c.in_ok-add_new_row.ensures.ok, length_sorted key_of (all_rows c.self.inside.groups.entries), length_sorted key_of (all_rows c.add_new_row.new.groups.entries));
       fits = omega (arith, c.if-self.false, c.self.invariant.fits);
     }

@@ -1,40 +1,53 @@
-use Rattle.std.proofs.Common.{◌≡◌, ◌∷◌, [], false, ap, ◌∙◌, sym, subst}
-use Rattle.std.specs.Prelude.{is_some, IfNone}
-use Rattle.meta_types.specs.Keys.{has_row}
-use Rattle.row_tables.specs.Namespaces.{own_texts, full_key, group_key, IsHome}
 use Rattle.row_tables.proofs.SnapshotterRows.{same_keys}
-use Rattle.row_tables.proofs.NamespacesArrived.{arrived_found, arrived_changed, arrived_changed_rows, arrived_unchanged, arrived_none}
+use Rattle.row_tables.proofs.RowCounts.{length_changed_rows}
+use Rattle.row_tables.specs.Namespaces.{full_key, own_texts}
+use Rattle.std.specs.Prelude.{◌∷◌, is_some, slice_get, IfNone}
+use Rattle.std.proofs.Common.{◌≡◌, Some, false, ap, subst}
+use Rattle.row_tables.proofs.HousedNamespaces.{found_at, changed_apart, changed_sorted, unchanged_at, changed_full, none_at}
+use Rattle.row_tables.proofs.NamespaceHomes.{at_given}
 use Rattle.row_tables.proofs.snapshotters.change.change_row.Goals as goal
 
-home : (g : _) (c : goal.After-groups-1 g) → IsHome c.args.ns.now c.in-Ok.home c.args.groups.now.items
-home g c = subst (IsHome c.args.ns.now c.in-Ok.home) c.deref.ensures.value c.in-Ok.ensures.found
+at : (g : _) (c : goal.After-groups-1 g)
+    → slice_get c.args.groups.now.entries c.in-Some.home ≡ Some (c.args.ns.now, c.index_mut.result.now)
+at g c =
+    at_given c.args.groups.now.entries c.in-Some.home c.args.ns.now c.in-Some.ensures.found.0
+    c.index_mut.result.now c.in-Some.ensures.found.1 c.index_mut.ensures.value
 
-pub returns-in-Ok-clause-absent : goal.returns-in-Ok-clause-absent
-returns-in-Ok-clause-absent g c =
-    let at = home g c in
-    subst (λ b. IfNone c.change_there.result (b ≡ false))
-    (ap is_some (arrived_found own_texts (full_key g.K.Named.texts_of g.R.NamedRow.name_of g.R.GroupedRow.group_of) g.R.SnapshotterRow.ns_of c.args.ns.now c.in-Ok.home at.0 c.args.groups.now.items at.1 c.requires.groups c.index_mut.result.now c.index_mut.ensures.value (c.args.snapshotter.now ∷ g.K.Named.texts_of c.args.name.now)))
-    c.change_there.ensures.absent
+pub returns-in-Some-clause-absent : goal.returns-in-Some-clause-absent
+returns-in-Some-clause-absent g c =
+    subst (λ b. IfNone c.change.result (b ≡ false))
+    (ap is_some (found_at own_texts (full_key g.K.Named.texts_of g.R.NamedRow.name_of g.R.GroupedRow.group_of) g.R.SnapshotterRow.ns_of c.args.ns.now c.in-Some.home c.index_mut.result.now c.args.groups.now.entries (at g c) c.requires.groups (c.args.snapshotter.now ∷ g.K.Named.texts_of c.args.name.now)))
+    c.change.ensures.absent
 
-pub returns-in-Ok-clause-same : goal.returns-in-Ok-clause-same
-returns-in-Ok-clause-same g c =
-    let at = home g c in
-    arrived_unchanged own_texts (full_key g.K.Named.texts_of g.R.NamedRow.name_of g.R.GroupedRow.group_of) g.R.SnapshotterRow.ns_of c.args.ns.now c.in-Ok.home at.0 c.args.groups.now.items at.1 c.requires.groups c.index_mut.result.now c.index_mut.ensures.value c.change_there.new.home c.change_there.ensures.ns
-    c.change_there.result c.change_there.ensures.same
+pub returns-in-Some-clause-same : goal.returns-in-Some-clause-same
+returns-in-Some-clause-same g c =
+    unchanged_at own_texts
+    (full_key g.K.Named.texts_of g.R.NamedRow.name_of g.R.GroupedRow.group_of) g.R.SnapshotterRow.ns_of c.args.ns.now c.in-Some.home c.index_mut.result.now c.args.groups.now.entries
+    (at g c) c.requires.groups c.change.new.self c.change.result c.change.ensures.same
 
-pub returns-in-Ok-clause-changed : goal.returns-in-Ok-clause-changed
-returns-in-Ok-clause-changed g c =
-    let at = home g c in
-    arrived_changed_rows own_texts (full_key g.K.Named.texts_of g.R.NamedRow.name_of g.R.GroupedRow.group_of) g.R.SnapshotterRow.ns_of c.args.ns.now c.in-Ok.home at.0 c.args.groups.now.items at.1 c.requires.groups c.index_mut.result.now c.index_mut.ensures.value c.change_there.new.home c.change_there.ensures.ns
-    (c.args.snapshotter.now ∷ g.K.Named.texts_of c.args.name.now) (g.C.Change.changes c.args.change) (same_keys g.K.Named.texts_of g.R.NamedRow.name_of g.R.GroupedRow.group_of (g.C.Change.changes c.args.change) (g.met.C.Change.keeps_name c.args.change) c.requires.keeps_group) c.requires.keeps_ns c.change_there.result c.change_there.ensures.changed c.change_there.ensures.same
+pub returns-in-Some-clause-changed : goal.returns-in-Some-clause-changed
+returns-in-Some-clause-changed g c =
+    changed_sorted own_texts
+    (full_key g.K.Named.texts_of g.R.NamedRow.name_of g.R.GroupedRow.group_of) g.R.SnapshotterRow.ns_of c.args.ns.now c.in-Some.home c.index_mut.result.now c.args.groups.now.entries
+    (at g c) c.requires.groups c.change.new.self
+    (c.args.snapshotter.now ∷ g.K.Named.texts_of c.args.name.now) (g.C.Change.changes c.args.change) (same_keys g.K.Named.texts_of g.R.NamedRow.name_of g.R.GroupedRow.group_of (g.C.Change.changes c.args.change) (g.met.C.Change.keeps_name c.args.change) c.requires.keeps_group) c.requires.keeps_ns c.change.result c.change.ensures.changed c.change.ensures.same
 
-pub returns-in-Ok-clause-groups : goal.returns-in-Ok-clause-groups
-returns-in-Ok-clause-groups g c =
-    let at = home g c in
-    arrived_changed own_texts (full_key g.K.Named.texts_of g.R.NamedRow.name_of g.R.GroupedRow.group_of) g.R.SnapshotterRow.ns_of c.args.ns.now c.in-Ok.home at.0 c.args.groups.now.items at.1 c.requires.groups c.index_mut.result.now c.index_mut.ensures.value c.change_there.new.home c.change_there.ensures.ns
-    (c.args.snapshotter.now ∷ g.K.Named.texts_of c.args.name.now) (g.C.Change.changes c.args.change) (same_keys g.K.Named.texts_of g.R.NamedRow.name_of g.R.GroupedRow.group_of (g.C.Change.changes c.args.change) (g.met.C.Change.keeps_name c.args.change) c.requires.keeps_group) c.requires.keeps_ns c.change_there.result c.change_there.ensures.changed c.change_there.ensures.same
+pub returns-in-Some-clause-groups : goal.returns-in-Some-clause-groups
+returns-in-Some-clause-groups g c =
+    changed_apart own_texts
+    (full_key g.K.Named.texts_of g.R.NamedRow.name_of g.R.GroupedRow.group_of) g.R.SnapshotterRow.ns_of c.args.ns.now c.in-Some.home c.index_mut.result.now c.args.groups.now.entries
+    (at g c) c.requires.groups c.change.new.self
+    (c.args.snapshotter.now ∷ g.K.Named.texts_of c.args.name.now) (g.C.Change.changes c.args.change) (same_keys g.K.Named.texts_of g.R.NamedRow.name_of g.R.GroupedRow.group_of (g.C.Change.changes c.args.change) (g.met.C.Change.keeps_name c.args.change) c.requires.keeps_group) c.requires.keeps_ns c.change.result c.change.ensures.changed c.change.ensures.same
+
+pub returns-in-Some-clause-full : goal.returns-in-Some-clause-full
+returns-in-Some-clause-full g c all =
+    changed_full own_texts
+    (full_key g.K.Named.texts_of g.R.NamedRow.name_of g.R.GroupedRow.group_of) g.R.SnapshotterRow.ns_of c.args.ns.now c.in-Some.home c.index_mut.result.now c.args.groups.now.entries
+    (at g c) c.requires.groups c.change.new.self
+    (length_changed_rows (full_key g.K.Named.texts_of g.R.NamedRow.name_of g.R.GroupedRow.group_of) (c.args.snapshotter.now ∷ g.K.Named.texts_of c.args.name.now) (g.C.Change.changes c.args.change) c.index_mut.result.now c.change.new.self c.change.result c.change.ensures.same c.change.ensures.changed) all
 
 -- no row is in a namespace that isn't there
-pub returns-in-Err-clause-absent : goal.returns-in-Err-clause-absent
-returns-in-Err-clause-absent g c =
-    ap is_some (arrived_none own_texts (full_key g.K.Named.texts_of g.R.NamedRow.name_of g.R.GroupedRow.group_of) g.R.SnapshotterRow.ns_of c.args.ns.now (c.args.snapshotter.now ∷ g.K.Named.texts_of c.args.name.now) c.args.groups.now.items (ap (has_row group_key (c.args.ns.now ∷ [])) (sym c.deref.ensures.value) ∙ c.in-Err.ensures.none) c.requires.groups)
+pub returns-in-None-clause-absent : goal.returns-in-None-clause-absent
+returns-in-None-clause-absent g c =
+    ap is_some
+    (none_at own_texts (full_key g.K.Named.texts_of g.R.NamedRow.name_of g.R.GroupedRow.group_of) g.R.SnapshotterRow.ns_of c.args.ns.now (c.args.snapshotter.now ∷ g.K.Named.texts_of c.args.name.now) c.args.groups.now.entries c.in-None.ensures.none c.requires.groups)

@@ -1,24 +1,22 @@
 use Rattle.std.proofs.Common.{◌≡◌, ◌∷◌, ◌+◌, Bool, get_or, Some, List, length, take, sym, ap, ◌∙◌, arith}
 use Rattle.std.specs.List.{position}
 use Rattle.std.specs.Option.{option_map}
-use Rattle.std.proofs.lemmas.Option.{slice_get_within, get_or_from_slice_get}
 use Rattle.meta_types.specs.Keys.{is_key}
 use Rattle.row_tables.specs.Namespaces.{own_texts, full_key, all_rows}
-use Rattle.row_tables.proofs.NamespacesArrived.{name, arrived_place, arrived_nowhere}
-use Rattle.row_tables.proofs.NamespaceLists.{list_at}
 use Rattle.row_tables.proofs.FirstPosition.{position_within}
-use Rattle.row_tables.proofs.NamespaceSpans.{first_fits}
+use Rattle.row_tables.proofs.HousedNamespaces.{place_at, place_nowhere}
+use Rattle.row_tables.proofs.HousedListings.{fits_there}
+use Rattle.row_tables.proofs.NamespaceLists.{list_at}
+use Rattle.row_tables.proofs.NamespacesArrived.{name}
 use Rattle.row_tables.proofs.snapshotters.find.place_of.Goals as goal
 
 pub overflow_add-result : goal.overflow_add-result
 overflow_add-result g c =
-    let home = c.in-Ok.ensures.found in
-    let at = c.in-Ok.home in
-    let gs = c.args.groups.now in
+    let home = c.in-Some.ensures.found in
+    let at = c.in-Some.home in
+    let gs = c.args.groups.now.entries in
     let lent = c.index-each-home.result in
-    let there = slice_get_within gs at (c.args.ns.now, home.0) home.1 in
-    let is = get_or_from_slice_get gs at (c.args.ns.now, home.0) (c.args.ns.now, home.0) home.1 in
-    let fits = first_fits gs at (c.args.ns.now, home.0) there (sym is) in
+    let fits = fits_there gs at (c.args.ns.now, home.0) home.1 in
     let own_key = full_key g.K.Named.texts_of g.R.NamedRow.name_of g.R.GroupedRow.group_of in
     let passes : g.row.R.Denot → Bool =
     λ row. is_key (c.args.snapshotter.now ∷ g.K.Named.texts_of c.args.name.now)
@@ -26,17 +24,17 @@ overflow_add-result g c =
     let own : lent ≡ home.0 =
     c.index-each-home.is ∙ ap (λ lists. get_or lists at lent) c.requires.each
     ∙ list_at gs at (c.args.ns.now, home.0) lent home.1 in
-    let within = position_within passes lent c.in-Some.place c.in-Some.ensures in
-    let start = c.requires.starts.each at there in
+    let within = position_within passes lent c.in-Some-place.place c.in-Some-place.ensures in
+    let start = c.requires.starts.each at c.in-Some.ensures.within in
     omega (arith, fits, start, within, ap length own, c.requires.fits)
 
 -- a row's place is its place in its namespace, behind the rows of those before
-pub returns-in-Some : goal.returns-in-Some
-returns-in-Some g c =
-    let home = c.in-Ok.ensures.found in
-    let at = c.in-Ok.home in
+pub returns-in-Some-place : goal.returns-in-Some-place
+returns-in-Some-place g c =
+    let home = c.in-Some.ensures.found in
+    let at = c.in-Some.home in
     let ns = c.args.ns.now in
-    let gs = c.args.groups.now in
+    let gs = c.args.groups.now.entries in
     let lent = c.index-each-home.result in
     let before = length (all_rows (take at gs)) in
     let t = c.args.snapshotter.now ∷ g.K.Named.texts_of c.args.name.now in
@@ -45,35 +43,34 @@ returns-in-Some g c =
     let own : lent ≡ home.0 =
     c.index-each-home.is ∙ ap (λ lists. get_or lists at lent) c.requires.each
     ∙ list_at gs at (ns, home.0) lent home.1 in
-    let start = c.requires.starts.each at (slice_get_within gs at (ns, home.0) home.1) in
-    ap (λ n. Some (n + c.in-Some.place)) start
-    ∙ ap (option_map (λ n. before + n)) (c.in-Some.ensures
+    ap (λ n. Some (n + c.in-Some-place.place)) (c.requires.starts.each at c.in-Some.ensures.within)
+    ∙ ap (option_map (λ n. before + n)) (c.in-Some-place.ensures
     ∙ ap (λ (rows : List g.row.R.Denot). position (λ row. is_key t (key_of row)) rows) own)
-    ∙ sym (arrived_place own_texts own_key g.R.SnapshotterRow.ns_of ns at home.0 gs home.1
+    ∙ sym (place_at own_texts own_key g.R.SnapshotterRow.ns_of ns at home.0 gs home.1
+    c.requires.are t)
+
+pub returns-in-None-place : goal.returns-in-None-place
+returns-in-None-place g c =
+    let home = c.in-Some.ensures.found in
+    let at = c.in-Some.home in
+    let ns = c.args.ns.now in
+    let gs = c.args.groups.now.entries in
+    let lent = c.index-each-home.result in
+    let before = length (all_rows (take at gs)) in
+    let t = c.args.snapshotter.now ∷ g.K.Named.texts_of c.args.name.now in
+    let own_key = full_key g.K.Named.texts_of g.R.NamedRow.name_of g.R.GroupedRow.group_of in
+    let key_of = name own_texts own_key g.R.SnapshotterRow.ns_of in
+    let own : lent ≡ home.0 =
+    c.index-each-home.is ∙ ap (λ lists. get_or lists at lent) c.requires.each
+    ∙ list_at gs at (ns, home.0) lent home.1 in
+    ap (option_map (λ n. before + n)) (c.in-None-place.ensures
+    ∙ ap (λ (rows : List g.row.R.Denot). position (λ row. is_key t (key_of row)) rows) own)
+    ∙ sym (place_at own_texts own_key g.R.SnapshotterRow.ns_of ns at home.0 gs home.1
     c.requires.are t)
 
 pub returns-in-None : goal.returns-in-None
 returns-in-None g c =
-    let home = c.in-Ok.ensures.found in
-    let at = c.in-Ok.home in
-    let ns = c.args.ns.now in
-    let gs = c.args.groups.now in
-    let lent = c.index-each-home.result in
-    let before = length (all_rows (take at gs)) in
-    let t = c.args.snapshotter.now ∷ g.K.Named.texts_of c.args.name.now in
     let own_key = full_key g.K.Named.texts_of g.R.NamedRow.name_of g.R.GroupedRow.group_of in
-    let key_of = name own_texts own_key g.R.SnapshotterRow.ns_of in
-    let own : lent ≡ home.0 =
-    c.index-each-home.is ∙ ap (λ lists. get_or lists at lent) c.requires.each
-    ∙ list_at gs at (ns, home.0) lent home.1 in
-    ap (option_map (λ n. before + n)) (c.in-None.ensures
-    ∙ ap (λ (rows : List g.row.R.Denot). position (λ row. is_key t (key_of row)) rows) own)
-    ∙ sym (arrived_place own_texts own_key g.R.SnapshotterRow.ns_of ns at home.0 gs home.1
-    c.requires.are t)
-
-pub returns-in-Err : goal.returns-in-Err
-returns-in-Err g c =
-    let own_key = full_key g.K.Named.texts_of g.R.NamedRow.name_of g.R.GroupedRow.group_of in
-    sym (arrived_nowhere own_texts own_key g.R.SnapshotterRow.ns_of c.args.ns.now
-    (c.args.snapshotter.now ∷ g.K.Named.texts_of c.args.name.now) c.args.groups.now
-    c.in-Err.ensures.none c.requires.are)
+    sym (place_nowhere own_texts own_key g.R.SnapshotterRow.ns_of c.args.ns.now
+    (c.args.snapshotter.now ∷ g.K.Named.texts_of c.args.name.now) c.args.groups.now.entries
+    c.in-None.ensures.none c.requires.are)

@@ -1,16 +1,20 @@
-use Rattle.std.proofs.Common.{◌∷◌, sym, ap, ◌∙◌}
-use Rattle.meta_types.specs.Keys.{row_at}
-use Rattle.row_tables.specs.Arrived.{sorted}
-use Rattle.row_tables.proofs.NamespacesArrived.{name, arrived_found, arrived_none}
-use Rattle.row_tables.specs.Namespaces.{own_texts, full_key}
+use Rattle.row_tables.specs.Namespaces.{full_key, own_texts}
+use Rattle.std.specs.Prelude.{◌∷◌}
+use Rattle.std.proofs.Common.{sym, ◌∙◌}
+use Rattle.row_tables.proofs.HousedNamespaces.{found_at, none_at}
+use Rattle.row_tables.proofs.NamespaceHomes.{at_given}
 use Rattle.row_tables.proofs.snapshotters.find.row_in.Goals as goal
 
 -- the row is among those of its namespace
-pub returns-in-Ok : goal.returns-in-Ok
-returns-in-Ok g c =
+pub returns-in-Some : goal.returns-in-Some
+returns-in-Some g c =
     c.get.ensures
-    ∙ ap (λ x. row_at (name own_texts (full_key g.K.Named.texts_of g.R.NamedRow.name_of g.R.GroupedRow.group_of) g.R.SnapshotterRow.ns_of) (c.args.snapshotter.now ∷ g.K.Named.texts_of c.args.name.now) (sorted (name own_texts (full_key g.K.Named.texts_of g.R.NamedRow.name_of g.R.GroupedRow.group_of) g.R.SnapshotterRow.ns_of) x.1)) (sym c.index-groups-home.is)
-    ∙ arrived_found own_texts (full_key g.K.Named.texts_of g.R.NamedRow.name_of g.R.GroupedRow.group_of) g.R.SnapshotterRow.ns_of c.args.ns.now c.in-Ok.home c.in-Ok.ensures.found.0 c.args.groups.now c.in-Ok.ensures.found.1 c.requires c.index-groups-home.result c.index-groups-home.is (c.args.snapshotter.now ∷ g.K.Named.texts_of c.args.name.now)
+    ∙ found_at own_texts (full_key g.K.Named.texts_of g.R.NamedRow.name_of g.R.GroupedRow.group_of)
+    g.R.SnapshotterRow.ns_of c.args.ns.now c.in-Some.home c.index.result.now
+    c.args.groups.now.entries
+    (at_given c.args.groups.now.entries c.in-Some.home c.args.ns.now c.in-Some.ensures.found.0 c.index.result.now c.in-Some.ensures.found.1 c.index.ensures) c.requires (c.args.snapshotter.now ∷ g.K.Named.texts_of c.args.name.now)
 
-pub returns-in-Err : goal.returns-in-Err
-returns-in-Err g c = sym (arrived_none own_texts (full_key g.K.Named.texts_of g.R.NamedRow.name_of g.R.GroupedRow.group_of) g.R.SnapshotterRow.ns_of c.args.ns.now (c.args.snapshotter.now ∷ g.K.Named.texts_of c.args.name.now) c.args.groups.now c.in-Err.ensures.none c.requires)
+pub returns-in-None : goal.returns-in-None
+returns-in-None g c =
+    sym
+    (none_at own_texts (full_key g.K.Named.texts_of g.R.NamedRow.name_of g.R.GroupedRow.group_of) g.R.SnapshotterRow.ns_of c.args.ns.now (c.args.snapshotter.now ∷ g.K.Named.texts_of c.args.name.now) c.args.groups.now.entries c.in-None.ensures.none c.requires)

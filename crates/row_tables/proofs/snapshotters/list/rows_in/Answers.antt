@@ -1,21 +1,20 @@
-use Rattle.std.proofs.Common.{◌≡◌, List, map, sym, ap, ◌∙◌, subst}
+use Rattle.row_tables.specs.Namespaces.{full_key, own_texts}
 use Rattle.std.specs.Prelude.{IfOk}
-use Rattle.meta_types.specs.Text.{Text}
-use Rattle.row_tables.specs.Arrived.{sorted}
-use Rattle.row_tables.proofs.NamespacesArrived.{name, item_is}
-use Rattle.row_tables.proofs.NamespaceListings.{listed_rows_in, listed_none_in}
-use Rattle.row_tables.specs.Namespaces.{own_texts, full_key}
+use Rattle.std.proofs.Common.{◌≡◌, List, map, sym, ap, ◌∙◌, subst}
+use Rattle.row_tables.proofs.HousedListings.{sorted_at, none_sorted}
+use Rattle.row_tables.proofs.NamespaceHomes.{at_given}
 use Rattle.row_tables.proofs.snapshotters.list.rows_in.Goals as goal
 
 -- the namespace has its rows, and no other has one of them
-pub returns-in-Ok-clause-ok : goal.returns-in-Ok-clause-ok
-returns-in-Ok-clause-ok g c =
-    let home = c.in-Ok.ensures.found in
+pub returns-in-Some-clause-ok : goal.returns-in-Some-clause-ok
+returns-in-Some-clause-ok g c =
     subst (λ (rows : List g.row.R.Denot). IfOk c.list.result (λ list. map (λ row. row.now) list.items ≡ rows))
-    (ap (λ (x : Text × List g.row.R.Denot). sorted (name own_texts (full_key g.K.Named.texts_of g.R.NamedRow.name_of g.R.GroupedRow.group_of) g.R.SnapshotterRow.ns_of) x.1) (sym c.index-groups-home.is
-    ∙ item_is own_texts (full_key g.K.Named.texts_of g.R.NamedRow.name_of g.R.GroupedRow.group_of) g.R.SnapshotterRow.ns_of c.args.ns.now c.in-Ok.home home.0 c.args.groups.now home.1 c.requires c.index-groups-home.result c.index-groups-home.is)
-    ∙ sym (listed_rows_in own_texts (full_key g.K.Named.texts_of g.R.NamedRow.name_of g.R.GroupedRow.group_of) g.R.SnapshotterRow.ns_of c.args.groups.now c.requires c.args.ns.now c.in-Ok.home home.0 home.1))
+    (sym (sorted_at own_texts (full_key g.K.Named.texts_of g.R.NamedRow.name_of g.R.GroupedRow.group_of) g.R.SnapshotterRow.ns_of c.args.ns.now c.args.groups.now.entries c.requires c.in-Some.home c.index.result.now
+    (at_given c.args.groups.now.entries c.in-Some.home c.args.ns.now c.in-Some.ensures.found.0 c.index.result.now c.in-Some.ensures.found.1 c.index.ensures)))
     c.list.ensures.ok
 
-pub returns-in-Err-clause-ok : goal.returns-in-Err-clause-ok
-returns-in-Err-clause-ok g c = ap (map (λ row. row.now)) c.new.ensures.items ∙ sym (listed_none_in own_texts (full_key g.K.Named.texts_of g.R.NamedRow.name_of g.R.GroupedRow.group_of) g.R.SnapshotterRow.ns_of c.args.groups.now c.requires c.args.ns.now c.in-Err.ensures.none)
+pub returns-in-None-clause-ok : goal.returns-in-None-clause-ok
+returns-in-None-clause-ok g c =
+    ap (map (λ row. row.now)) c.new.ensures.items
+    ∙ sym
+    (none_sorted own_texts (full_key g.K.Named.texts_of g.R.NamedRow.name_of g.R.GroupedRow.group_of) g.R.SnapshotterRow.ns_of c.args.ns.now c.args.groups.now.entries c.requires c.in-None.ensures.none)

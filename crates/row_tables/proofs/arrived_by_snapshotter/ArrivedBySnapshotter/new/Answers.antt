@@ -1,0 +1,8 @@
+use Rattle.row_tables.specs.Namespaces.{full_key, own_texts}
+use Rattle.row_tables.proofs.HousedListings.{nothing_housed}
+use Rattle.row_tables.proofs.arrived_by_snapshotter.ArrivedBySnapshotter.new.Goals as goal
+
+pub invariant_of-result : goal.invariant_of-result
+invariant_of-result g c =
+    nothing_housed own_texts
+    (full_key g.K.Named.texts_of g.R.NamedRow.name_of g.R.GroupedRow.group_of) g.R.SnapshotterRow.ns_of c.new.result.entries c.new.ensures.empty
