@@ -4,6 +4,7 @@ pub mod Entries
 pub mod Recounts
 pub mod Sets
 pub mod ShardPlaces
+pub mod ShardSearches
 pub mod Listed
 pub mod Making
 pub mod HeldParents

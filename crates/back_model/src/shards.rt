@@ -1,6 +1,7 @@
 //! The snapshots of all snapshotters, a shard each.
 ghost use Rattle.std.specs.Prelude.{◌≡◌, ◌≢◌, ◌+◌, [], map, IfOk, OnOk, OnErr, None, option_map};
 ghost use Rattle.meta_types.specs.Faults.{Refuses};
+ghost use Rattle.meta_types.specs.Text.{text_cmp};
 ghost use Rattle.meta_types.specs.Keys.{put_in_order};
 ghost use Rattle.meta_types.specs.Changes.{stands_before};
 ghost use Rattle.back_model.specs.Answers.{Makes, make_fails};
@@ -37,21 +38,16 @@ impl<S: SnapBackend> Model for Shards<S> {
     ghost invariant = { λ s. AreApart (map (shown S.contents S.fails) s.shards.items) };
 }
 
-// Where the snapshotter's shard is, or else where it would stand. Snapshotters are few, so they are
-// passed over.
+// Where the snapshotter's shard is, or else where it would stand, by halving.
 fn place<S: SnapBackend>(shards: &[(ShortName, S)], snapshotter: &ShortName) -> Result<usize, usize>
+    requires { AreApart (map (shown S.contents S.fails) shards.now) }
     ensures { IsPlace (λ e. e.0) snapshotter.now shards.now result }
 {
-    let mut at = 0;
-    for entry in shards {
-        match snapshotter.cmp(&entry.0) {
-            Ordering::Less => return Err(at),
-            Ordering::Equal => return Ok(at),
-            Ordering::Greater => {}
-        }
-        at += 1;
-    }
-    Err(at)
+    shards.binary_search_by(
+        |entry: &(ShortName, S)| -> Ordering
+            ensures { result ≡ text_cmp entry.now.0 snapshotter.entry.now }
+        { entry.0.cmp(snapshotter) },
+    )
 }
 
 impl<S: SnapBackend> Shards<S> {
