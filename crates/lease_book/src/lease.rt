@@ -5,6 +5,7 @@ ghost use Rattle.meta_types.specs.Resources.{resource_key, held};
 ghost use Rattle.meta_types.specs.Labels.{put_label, takes_label};
 ghost use Rattle.meta_types.specs.Faults.{Refuses, unless};
 ghost use Rattle.meta_types.specs.declared.fault.Fault.TheVariants.{InvalidArgument};
+ghost use Rattle.row_tables.specs.Arrived.{sorted};
 
 use meta_types::{Fault, Labels, Name, Resource, ShortName};
 use row_tables::{GroupedRow, NamedRow, RowTable, in_key_order};
@@ -77,6 +78,13 @@ impl Lease {
         ensures order { IsTrue (are_in_order resource_key self.now.resources) }
     {
         in_key_order(alloc, &self.resources)
+    }
+
+    /// What it holds, lent as it arrived, for callers who need no order; nothing is copied.
+    pub fn arrived_resources(&self) -> &[Resource]
+        ensures { sorted resource_key result.now ≡ self.now.resources }
+    {
+        self.resources.rows()
     }
 
     pub(crate) fn holds(&self, resource: &Resource) -> bool
