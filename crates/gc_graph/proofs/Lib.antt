@@ -15,3 +15,4 @@ pub mod Parts
 pub mod NumberPlaces
 pub mod NodesAt
 pub mod RowsApart
+pub mod AnyOrder

@@ -1,5 +1,5 @@
 -- Places of rows, and what roots reference.
-use Rattle.std.proofs.Common.{◌≡◌, ℕ, suc, ◌+◌, ◌<◌, Bool, true, false, List, [], ◌∷◌, ◌++◌, map, length, filter, get_or, take, refl, sym, ap, ◌∙◌, arith, ℤ, append_assoc, Bor, if◌then◌else◌}
+use Rattle.std.proofs.Common.{◌≡◌, ℕ, suc, ◌+◌, ◌<◌, Bool, true, false, List, [], ◌∷◌, ◌++◌, map, length, filter, get_or, take, refl, sym, ap, ◌∙◌, arith, ℤ, append_assoc, if◌then◌else◌}
 use Rattle.std.specs.List.{flat_map}
 use Rattle.std.proofs.lemmas.List.{length-take-le}
 use Rattle.meta_types.specs.Paths.{Thing, is_root}
@@ -69,19 +69,21 @@ root_targets_of profile at book thing (row ∷ rows) = go (is_root profile at (t
     go false e = e
 
 -- one resource more
-pub resource_step : (book : List Node) (ns : Text) (mode : Mode) (start now new : List ℕ) (resources : List (Bor Resource)) (i : ℕ) (r : Bor Resource) → i < length resources → r ≡ get_or resources i r
-    → now ≡ start ++ numbers_in book (resource_targets ns mode (map (λ resource. resource.now) (take i resources))) → new ≡ now ++ numbers_in book (node ns r.now (resource_mode mode r.now) ∷ [])
-    → new ≡ start ++ numbers_in book (resource_targets ns mode (map (λ resource. resource.now) (take (i + 1) resources)))
+pub resource_step : (book : List Node) (ns : Text) (mode : Mode) (start now new : List ℕ)
+    (resources : List Resource) (i : ℕ) (r : Resource) → i < length resources
+    → r ≡ get_or resources i r
+    → now ≡ start ++ numbers_in book (resource_targets ns mode (take i resources))
+    → new ≡ now ++ numbers_in book (node ns r (resource_mode mode r) ∷ [])
+    → new ≡ start ++ numbers_in book (resource_targets ns mode (take (i + 1) resources))
 resource_step book ns mode start now new resources i r lt item is step =
     let f : Resource → Node = λ resource. node ns resource (resource_mode mode resource) in
-    let lent : Bor Resource → Resource = λ resource. resource.now in
-    let before = map lent (take i resources) in
-    let last = numbers_in book (f r.now ∷ []) in
+    let before = take i resources in
+    let last = numbers_in book (f r ∷ []) in
     step ∙ ap (λ m. m ++ last) is ∙ append_assoc start (numbers_in book (map f before)) last
-    ∙ ap (λ rest. start ++ rest) (sym (numbers_in-append book (map f before) (f r.now ∷ [])))
-    ∙ ap (λ ts. start ++ numbers_in book ts) (sym (map-append f before (r.now ∷ [])))
-    ∙ ap (λ rs. start ++ numbers_in book (resource_targets ns mode rs)) (sym (map-append lent (take i resources) (r ∷ [])))
-    ∙ ap (λ rs. start ++ numbers_in book (resource_targets ns mode (map lent rs))) (sym (take_next resources i r lt item))
+    ∙ ap (λ rest. start ++ rest) (sym (numbers_in-append book (map f before) (f r ∷ [])))
+    ∙ ap (λ ts. start ++ numbers_in book ts) (sym (map-append f before (r ∷ [])))
+    ∙ ap (λ rs. start ++ numbers_in book (resource_targets ns mode rs))
+    (sym (take_next resources i r lt item))
 
 -- names of rows that hold, row by row
 pub held_names : {Row Name : Type 0} (holds : Row → Bool) (name : Row → Name) (rows : List Row) → flat_map (λ row. if holds row then name row ∷ [] else []) rows ≡ map name (filter holds rows)

@@ -1,6 +1,7 @@
 -- Whole stores, from the lists that the code made.
 use Rattle.std.proofs.Common.{◌≡◌, ℕ, ◌+◌, ◌*◌, false, List, ◌++◌, map, length, filter, refl, sym, ap, ◌∙◌, arith, ℤ, append_assoc, append-nil, Bor, length-append}
 use Rattle.std.specs.List.{flat_map}
+use Rattle.std.specs.List.Sorted.{IsPermutation}
 use Rattle.std.proofs.lemmas.List.{map-append, length-map}
 use Rattle.std.proofs.lemmas.List.Elements.{filter-append}
 use Rattle.std.proofs.lemmas.Grind.{flat_map-append}
@@ -144,7 +145,7 @@ module _ (stored : StoreRows) (at : ℤ) (book : List Node) where
         ∙ assoc5 (map t i) (map t cf) (map t cl) (map t sf) (map t sl) ∙ sym whole
 
     abbrev Rooted : Type 0
-    Rooted = graph.roots.items ≡ flat_map (targets_in book) (filter (is_root profile at) (root_things records)) ++ root_places profile at 0 (node_things records)
+    Rooted = IsPermutation (flat_map (targets_in book) (filter (is_root profile at) (root_things records)) ++ root_places profile at 0 (node_things records)) graph.roots.items
 
     -- what the code made is the graph of the store
     pub built : AreApart records → book ≡ nodes_of records → Edged → Rooted → IsBuilt records at book graph

@@ -1,11 +1,12 @@
 -- Walks of the graph are the reference paths of the store.
-use Rattle.std.proofs.Common.{◌≡◌, ◌≢◌, ℕ, ◌<◌, true, List, [], ◌∷◌, length, get_or, refl, sym, ap, ◌∙◌, arith, subst, inl, inr, ℤ, filter, Some, None, is_some}
+use Rattle.std.proofs.Common.{◌≡◌, ◌≢◌, ℕ, ◌<◌, true, List, [], ◌∷◌, ◌++◌, length, get_or, refl, sym, ap, ◌∙◌, arith, subst, inl, inr, ℤ, filter, Some, None, is_some}
 use Rattle.std.specs.Prelude.{All, AllPairs, Contains, ◌↔◌}
 use Rattle.std.specs.List.{flat_map}
 use Rattle.std.proofs.lemmas.Bool.{false≢true}
 use Rattle.std.proofs.Math.ListN.{get_or-map as get_or-map_at}
 use Rattle.std.proofs.lemmas.List.{length-map, get_or-map}
 use Rattle.std.proofs.lemmas.List.Elements.{Contains-append_left, Contains-append_right, Contains-append_cases, Contains-get_or}
+use Rattle.std.proofs.lemmas.List.Sorted.{Contains-permutation, IsPermutation-sym}
 use Rattle.meta_types.specs.Rows.{Records}
 use Rattle.meta_types.specs.Paths.{Thing, image, container, lease, ingest, content, snapshot, things, has_edge, is_root, IsPath, IsReached}
 use Rattle.meta_types.proofs.Members.{in_filter, from_filter, any_from, found_by_any}
@@ -57,11 +58,19 @@ module _ (records : Records) where
     abbrev IsEnd : ℕ → Type 0
     IsEnd n = (n < length numbered_things) × ((d : Thing) → IsReached records at (get_or numbered_things n d))
 
+    -- the roots by their things, then those by their places
+    abbrev all_roots : List ℕ
+    all_roots = flat_map (targets_in book) (filter (is_root records.profile at) (root_things records))
+        ++ root_places records.profile at 0 numbered_things
+
+    is_graph_root : (r : ℕ) → Contains all_roots r → Contains graph.roots.items r
+    is_graph_root r c = Contains-permutation all_roots graph.roots.items r g.roots c
+
     pub at_place : (i : ℕ) (d : Thing) → i < length numbered_things → Contains (things records) (get_or numbered_things i d)
     at_place i d lt = is_thing records (get_or numbered_things i d) (Contains-get_or numbered_things i d lt)
 
     root_ends : (r : ℕ) → Contains graph.roots.items r → IsEnd r
-    root_ends r c = elim (Contains-append_cases (flat_map (targets_in book) (filter (is_root records.profile at) (root_things records))) (root_places records.profile at 0 numbered_things) r (subst (λ (l : List ℕ). Contains l r) g.roots c)) [
+    root_ends r c = elim (Contains-append_cases (flat_map (targets_in book) (filter (is_root records.profile at) (root_things records))) (root_places records.profile at 0 numbered_things) r (Contains-permutation graph.roots.items all_roots r (IsPermutation-sym all_roots graph.roots.items g.roots) c)) [
       | inl by_thing ↦ (
           let found = from_flat_map (targets_in book) (filter (is_root records.profile at) (root_things records)) r by_thing in
           let both = from_filter (is_root records.profile at) (root_things records) found.0 found.1 in
@@ -98,12 +107,12 @@ module _ (records : Records) where
     ends_alone last (before ∷ path) p c = absurd (no_edge_to_root before last c p.1)
 
     by_place_root : (i : ℕ) (d : Thing) → i < length numbered_things → is_root records.profile at (get_or numbered_things i d) ≡ true → Reached graph i
-    by_place_root i d lt h = Reached-root graph i (subst (λ (l : List ℕ). Contains l i) (sym g.roots)
+    by_place_root i d lt h = Reached-root graph i (is_graph_root i
         (Contains-append_right (flat_map (targets_in book) (filter (is_root records.profile at) (root_things records))) (root_places records.profile at 0 numbered_things) i
         (subst (λ k. Contains (root_places records.profile at 0 numbered_things) k) (omega arith) (in_places records.profile at 0 numbered_things i d lt h))))
 
     by_thing_root : (a : Thing) → Contains (root_things records) a → is_root records.profile at a ≡ true → (i : ℕ) → Contains (targets_in book a) i → Reached graph i
-    by_thing_root a c h i t = Reached-root graph i (subst (λ (l : List ℕ). Contains l i) (sym g.roots)
+    by_thing_root a c h i t = Reached-root graph i (is_graph_root i
         (Contains-append_left (flat_map (targets_in book) (filter (is_root records.profile at) (root_things records))) (root_places records.profile at 0 numbered_things) i
         (in_flat_map (targets_in book) (filter (is_root records.profile at) (root_things records)) a i (in_filter (is_root records.profile at) (root_things records) a c h) t)))
 

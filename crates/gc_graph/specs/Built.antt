@@ -1,6 +1,7 @@
 -- The graph of a store. Ours, unless a source stands beside.
 use Rattle.std.specs.Prelude.{◌≡◌, Bool, ℕ, ◌≢◌, suc, AllPairs, List, [], ◌∷◌, ◌++◌, map, length, filter, position, Option, Some, if◌then◌else◌, ℤ, Contains, ◌↔◌}
 use Rattle.std.specs.List.{flat_map, filter_map}
+use Rattle.std.specs.List.Sorted.{IsPermutation}
 use Rattle.meta_types.specs.Rows.{content_key, ingest_key, snap_key}
 use Rattle.meta_types.specs.Rows.{Records}
 use Rattle.meta_types.specs.Paths.{Thing, things, is_root, IsReached}
@@ -36,11 +37,11 @@ targets_in book thing = numbers_in book (targets_of thing)
 abbrev pub root_targets : ℕ → ℤ → List Node → Thing → List ℕ
 root_targets profile at book thing = if is_root profile at thing then targets_in book thing else []
 
--- the rows of the graph are the targets of the things, and its roots are those that are roots of
--- their own, and the targets of images, containers and leases
+-- the rows of the graph are the targets of the things, and its roots are, in any order, those that
+-- are roots of their own, and the targets of images, containers and leases
 pub record IsGraphOf (records : Records) (at : ℤ) (book : List Node) (graph : Graph) : Type 0 where
   pub edges : rows graph ≡ map (targets_in book) (node_things records)
-  pub roots : graph.roots.items ≡ flat_map (targets_in book) (filter (is_root records.profile at) (root_things records)) ++ root_places records.profile at 0 (node_things records)
+  pub roots : IsPermutation (flat_map (targets_in book) (filter (is_root records.profile at) (root_things records)) ++ root_places records.profile at 0 (node_things records)) graph.roots.items
 
 -- of rows that have numbers no key stands twice; they may stand in any order
 pub record AreApart (records : Records) : Type 0 where

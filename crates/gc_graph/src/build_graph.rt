@@ -1,6 +1,7 @@
 //! The graph of a store's rows: its edges, its roots and what is ignored.
 ghost use Rattle.std.specs.Prelude.{◌≡◌, ◌+◌, ◌*◌, ◌≤◌, ◌++◌, map, filter, length, None, IfOk, not};
 ghost use Rattle.std.specs.List.{flat_map};
+ghost use Rattle.std.specs.List.Sorted.{IsPermutation};
 ghost use Rattle.meta_types.specs.Faults.{Refuses, unless};
 ghost use Rattle.meta_types.specs.Limits.{is_too_large};
 ghost use Rattle.meta_types.specs.CollectorLabels.{is_marked_root};
@@ -58,7 +59,7 @@ fn edges_of(
     Ok(edges)
 }
 
-// The numbers of what images, containers and leases reference that haven't ended.
+// The numbers of what images, containers and leases reference that haven't ended, in any order.
 fn held_of(
     alloc: Global,
     book: &NodeBook<'_>,
@@ -66,17 +67,17 @@ fn held_of(
     at: Instant,
 ) -> Result<Vec<u32>, Fault>
     ensures fault { Refuses result None }
-    ensures ok { IfOk result (λ roots. roots.items
-        ≡ flat_map (λ row. root_targets rows.now.profile at.0 book.now (image row.now))
+    ensures ok { IfOk result (λ roots. IsPermutation
+        (flat_map (λ row. root_targets rows.now.profile at.0 book.now (image row.now))
         rows.now.images.now
         ++ flat_map (λ row. targets_in book.now (container row.now)) rows.now.containers.now
         ++ flat_map (λ row. root_targets rows.now.profile at.0 book.now (lease row.now))
-        rows.now.leases.now) }
+        rows.now.leases.now) roots.items) }
 {
     let mut roots = Vec::new(alloc);
     push_images(alloc, book, rows.images, rows.profile, at, &mut roots)?;
     push_containers(alloc, book, rows.containers, &mut roots)?;
-    push_leases(alloc, book, rows.leases, rows.profile, at, &mut roots)?;
+    push_leases(book, rows.leases, rows.profile, at, &mut roots)?;
     Ok(roots)
 }
 
@@ -105,7 +106,7 @@ fn own_of(alloc: Global, rows: &StoreRows<'_>, at: Instant) -> Result<Vec<u32>, 
 pub struct Starts {
     /// What is a root of its own: ingests that hold themselves, and rows with a root label.
     pub own: Vec<u32>,
-    /// What an image, a container or a lease references that hasn't ended.
+    /// What an image, a container or a lease references that hasn't ended, in any order.
     pub held: Vec<u32>,
 }
 
@@ -120,8 +121,8 @@ pub fn find_starts(
     ensures fault { Refuses result None }
     ensures own { IfOk result (λ s. s.own.items
         ≡ root_places rows.now.profile at.0 0 (node_things (records_of rows.now))) }
-    ensures held { IfOk result (λ s. s.held.items ≡ flat_map (targets_in book.now)
-        (filter (is_root rows.now.profile at.0) (root_things (records_of rows.now)))) }
+    ensures held { IfOk result (λ s. IsPermutation (flat_map (targets_in book.now)
+        (filter (is_root rows.now.profile at.0) (root_things (records_of rows.now)))) s.held.items) }
 {
     let held = held_of(alloc, book, rows, at)?;
     let own = own_of(alloc, rows, at)?;
@@ -138,9 +139,9 @@ fn roots_of(
 ) -> Result<Vec<u32>, Fault>
     requires { IsSmall rows.now }
     ensures fault { Refuses result None }
-    ensures ok { IfOk result (λ roots. roots.items ≡ flat_map (targets_in book.now)
+    ensures ok { IfOk result (λ roots. IsPermutation (flat_map (targets_in book.now)
         (filter (is_root rows.now.profile at.0) (root_things (records_of rows.now)))
-        ++ root_places rows.now.profile at.0 0 (node_things (records_of rows.now))) }
+        ++ root_places rows.now.profile at.0 0 (node_things (records_of rows.now))) roots.items) }
 {
     let Starts { own, held } = find_starts(alloc, book, rows, at)?;
     let mut roots = held;

@@ -1,6 +1,7 @@
 //! Where walks begin: references of images, containers and leases, and rows that are roots.
-ghost use Rattle.std.specs.Prelude.{◌≡◌, ◌+◌, ◌≤◌, ◌++◌, ◌∷◌, [], map, length, if◌then◌else◌, OnOk, None, IfOk};
+ghost use Rattle.std.specs.Prelude.{◌≡◌, ◌+◌, ◌≤◌, ◌++◌, ◌∷◌, [], length, if◌then◌else◌, OnOk, None, IfOk};
 ghost use Rattle.std.specs.List.{flat_map};
+ghost use Rattle.std.specs.List.Sorted.{IsPermutation};
 ghost use Rattle.meta_types.specs.Faults.{Refuses};
 ghost use Rattle.meta_types.specs.CollectorLabels.{is_marked_root};
 ghost use Rattle.meta_types.specs.Paths.{image, container, lease, lease_mode, ingest_holds_itself};
@@ -125,12 +126,12 @@ fn push_resources(
     book: &NodeBook<'_>,
     ns: &ShortName,
     mode: Mode,
-    resources: &[&Resource],
+    resources: &[Resource],
     roots: &mut Vec<u32>,
 ) -> Result<(), Fault>
     ensures fault { Refuses result None }
-    ensures ok { OnOk result (roots.new.items ≡ roots.old.items ++ numbers_in book.now
-        (resource_targets ns.now mode (map (λ resource. resource.now) resources.now))) }
+    ensures ok { OnOk result (roots.new.items ≡ roots.old.items
+        ++ numbers_in book.now (resource_targets ns.now mode resources.now)) }
 {
     for resource in resources {
         push_resource(book, ns, mode, resource, roots)?;
@@ -148,8 +149,8 @@ fn lease_mode(row: &Lease) -> Mode
     }
 }
 
+// A lease's resources are read as they arrived, so its roots stand in any order.
 fn push_lease_root(
-    alloc: Global,
     book: &NodeBook<'_>,
     row: &Lease,
     profile: u8,
@@ -157,22 +158,21 @@ fn push_lease_root(
     roots: &mut Vec<u32>,
 ) -> Result<(), Fault>
     ensures fault { Refuses result None }
-    ensures ok { OnOk result (roots.new.items
-        ≡ roots.old.items ++ root_targets profile at.0 book.now (lease row.now)) }
+    ensures ok { OnOk result (IsPermutation (roots.old.items
+        ++ root_targets profile at.0 book.now (lease row.now)) roots.new.items) }
 {
     // The profile is named by the clauses alone.
     let _profile = profile;
     if lease_stays(row, at) {
-        let resources = row.resources(alloc)?;
-        push_resources(book, row.ns(), lease_mode(row), &resources, roots)
+        let held = row.arrived_resources();
+        push_resources(book, row.ns(), lease_mode(row), held, roots)
     } else {
         Ok(())
     }
 }
 
-// Adds the numbers of what leases hold that haven't ended.
+// Adds the numbers of what leases hold that haven't ended, in any order.
 pub(crate) fn push_leases(
-    alloc: Global,
     book: &NodeBook<'_>,
     rows: &[&Lease],
     profile: u8,
@@ -180,11 +180,12 @@ pub(crate) fn push_leases(
     roots: &mut Vec<u32>,
 ) -> Result<(), Fault>
     ensures fault { Refuses result None }
-    ensures ok { OnOk result (roots.new.items ≡ roots.old.items
-        ++ flat_map (λ row. root_targets profile at.0 book.now (lease row.now)) rows.now) }
+    ensures ok { OnOk result (IsPermutation (roots.old.items
+        ++ flat_map (λ row. root_targets profile at.0 book.now (lease row.now)) rows.now)
+        roots.new.items) }
 {
     for row in rows {
-        push_lease_root(alloc, book, row, profile, at, roots)?;
+        push_lease_root(book, row, profile, at, roots)?;
     }
     Ok(())
 }
