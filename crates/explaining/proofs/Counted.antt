@@ -2,6 +2,7 @@
 use Rattle.std.proofs.Common.{◌≡◌, ℕ, ◌<◌, ◌≤◌, false, List, ◌++◌, map, length, filter, get_or, refl, ap, ◌∙◌, inl, inr, arith, ℤ, nat_lt, Bor, Option, None}
 use Rattle.std.specs.Prelude.{All}
 use Rattle.std.specs.List.{flat_map}
+use Rattle.std.specs.List.Sorted.{IsPermutation}
 use Rattle.std.proofs.lemmas.Bool.Decides.{nat_tests}
 use Rattle.std.proofs.lemmas.List.{length-append, length-map}
 use Rattle.std.proofs.lemmas.List.Elements.{Contains-get_or}
@@ -53,7 +54,7 @@ few_numbered stored small =
 
 -- the starts are those of a moment, and the graph serves for each
 module _ (stored : StoreRows) (at : ℤ) (book : List Node) (graph : Graph) (own held : List ℕ) (small : IsSmall stored) (has : HasGraph (records_of stored) book graph)
-    (owns : own ≡ root_places stored.profile at 0 (node_things (records_of stored))) (holds : held ≡ flat_map (targets_in book) (filter (is_root stored.profile at) (root_things (records_of stored)))) where
+    (owns : own ≡ root_places stored.profile at 0 (node_things (records_of stored))) (holds : IsPermutation (flat_map (targets_in book) (filter (is_root stored.profile at) (root_things (records_of stored)))) held) where
   abbrev built : IsBuilt (records_of stored) has.0 book graph
   built = has.1
 

@@ -2,7 +2,9 @@
 use Rattle.std.proofs.Common.{◌≡◌, ℕ, ◌+◌, ◌<◌, ◌≤◌, true, List, [], ◌∷◌, ◌++◌, length, get_or, refl, sym, ap, ◌∙◌, arith, subst, inl, inr, ℤ, filter, Some, None}
 use Rattle.std.specs.Prelude.{Contains}
 use Rattle.std.proofs.lemmas.Bool.{false≢true}
+use Rattle.std.specs.List.{flat_map}
 use Rattle.std.proofs.lemmas.List.{length-append}
+use Rattle.std.proofs.lemmas.List.Sorted.{Contains-permutation, IsPermutation-sym}
 use Rattle.meta_types.specs.Rows.{Records}
 use Rattle.meta_types.specs.Paths.{Thing, ingest, things, has_edge, is_root, IsPath}
 use Rattle.meta_types.specs.Walks.{IsWalk, end_of}
@@ -41,6 +43,10 @@ module _ (records : Records) (at : ℤ) (book : List Node) (graph : Graph) (own 
   abbrev numbered_things : List Thing
   numbered_things = node_things records
 
+  -- what an image, a container or a lease holds
+  abbrev all_held : List ℕ
+  all_held = flat_map (targets_in book) (filter (is_root records.profile at) (root_things records))
+
   -- ---- walks are paths
 
   -- a path with this count of things before its last ends in the thing of the number
@@ -54,7 +60,7 @@ module _ (records : Records) (at : ℤ) (book : List Node) (graph : Graph) (own 
       let lt : r < length numbered_things = omega (arith, found.1, found.2) in
       (lt, λ d. ([], (at_place records s.built book graph s.numbered s.once s.graph_of r d lt, subst (λ k. is_root records.profile at (get_or numbered_things k d) ≡ true) same (found.3 d)), sym free))
   start_ends r cost (inr (c, one)) =
-      let found = from_flat_map (targets_in book) (filter (is_root records.profile at) (root_things records)) r (subst (λ (l : List ℕ). Contains l r) s.holds c) in
+      let found = from_flat_map (targets_in book) (filter (is_root records.profile at) (root_things records)) r (Contains-permutation held all_held r (IsPermutation-sym all_held held s.holds) c) in
       let both = from_filter (is_root records.profile at) (root_things records) found.0 found.1 in
       let edge = number_edge records s.built book graph s.numbered s.once s.graph_of found.0 r found.2 in
       (edge.0, λ d. (found.0 ∷ [], (at_place records s.built book graph s.numbered s.once s.graph_of r d edge.0, edge.1 d, (is_root_thing records found.0 both.0, both.1)), sym one))
@@ -89,7 +95,7 @@ module _ (records : Records) (at : ℤ) (book : List Node) (graph : Graph) (own 
       elim (split_thing records before (in_store records at before path p.2)) [
         | inl by_thing ↦ (
             let root : is_root records.profile at before ≡ true = ends_alone records at before path p.2 by_thing in
-            let here : Contains held i = subst (λ (l : List ℕ). Contains l i) (sym s.holds) (in_flat_map (targets_in book) (filter (is_root records.profile at) (root_things records)) before i (in_filter (is_root records.profile at) (root_things records) before by_thing root) edge) in
+            let here : Contains held i = Contains-permutation all_held held i s.holds (in_flat_map (targets_in book) (filter (is_root records.profile at) (root_things records)) before i (in_filter (is_root records.profile at) (root_things records) before by_thing root) edge) in
             (1, i ∷ [], (1, inr (here, refl), tt, refl, omega arith), omega arith))
         | inr (j, below, same) ↦ (
             let w : IsWalked j (length path) = path_walked before path p.2 j before below same in

@@ -2,6 +2,7 @@
 -- unless a source stands beside.
 use Rattle.std.specs.Prelude.{◌≡◌, ◌≢◌, ◌≤◌, ℕ, List, length, filter, AllPairs, ℤ, Contains, IsTrue}
 use Rattle.std.specs.List.{flat_map}
+use Rattle.std.specs.List.Sorted.{IsPermutation}
 use Rattle.meta_types.specs.Rows.{Records}
 use Rattle.meta_types.specs.Paths.{Thing, things, is_root, IsPath}
 use Rattle.meta_types.specs.Keys.{is_key}
@@ -12,14 +13,14 @@ use Rattle.gc_graph.specs.Targets.{nodes_of, node_things, root_things}
 use Rattle.gc_graph.specs.Built.{targets_in, root_places, IsGraphOf}
 
 -- The graph of a store, made for any moment, since no edge depends on one. At this moment its
--- starts are the roots of their own, and what an image, a container or a lease holds.
+-- starts are the roots of their own, and what an image, a container or a lease holds, in any order.
 pub record IsSplitGraphOf (records : Records) (at : ℤ) (book : List Node) (graph : Graph) (own held : List ℕ) : Type 0 where
   pub built : ℤ
   pub numbered : book ≡ nodes_of records
   pub once : AllPairs (λ a b. a ≢ b) book
   pub graph_of : IsGraphOf records built book graph
   pub owns : own ≡ root_places records.profile at 0 (node_things records)
-  pub holds : held ≡ flat_map (targets_in book) (filter (is_root records.profile at) (root_things records))
+  pub holds : IsPermutation (flat_map (targets_in book) (filter (is_root records.profile at) (root_things records))) held
 
 -- a path that ends in the thing, and no path that does has fewer things
 abbrev pub HasShortestPath : Records → ℤ → Thing → Type 0
