@@ -19,13 +19,6 @@ impl<S: SnapBackend, B: BlobBackend, I: IngestBackend> State<S, B, I> {
         ensures quiet { (result ≡ Ok P.Done) ⊎ (self.new.state ≡ self.old.state) }
         ensures sound { IsSound self.new.state }
     {
-        self.apply_exactly(alloc, request)
-    }
-
-    fn apply_exactly(&mut self, alloc: Global, request: &Request) -> Result<Reply, Fault>
-        requires { IsSound self.old.state }
-        ensures { Answers self.old request.now result self.new }
-    {
         plain(self.dispatch(alloc, request))
     }
 
