@@ -6,3 +6,4 @@ mod ImpactTokens
 pub mod Putting
 mod ReportTexts
 mod Plain
+mod DigestsPlain

@@ -5,6 +5,7 @@ ghost use Rattle.std.specs.List.{list_all};
 ghost use Rattle.json.specs.Print.{quoted};
 ghost use Rattle.json.specs.Run.{is_plain};
 ghost use Rattle.serde_json.specs.Written.{compact_text};
+ghost use Rattle.meta_types.specs.Text.{IsDigest};
 
 use gc_report::WriteJson;
 use itoa::Buffer;
@@ -70,6 +71,14 @@ fn put_string(alloc: Global, block: &mut Vec<u8>, text: &str) -> Result<(), Allo
     }
 }
 
+// Puts a digest as a string, without a look for what is escaped.
+fn put_digest(block: &mut Vec<u8>, text: &str) -> Result<(), AllocError>
+    requires { IsDigest text.now }
+    ensures { OnOk result (block.new.items ≡ block.old.items ++ quoted text.now) }
+{
+    put_plain(block, text.as_bytes())
+}
+
 impl PutJson for u64 {
     fn put(&self, _alloc: Global, block: &mut Vec<u8>) -> Result<(), AllocError> {
         let mut buffer = Buffer::new();
@@ -78,9 +87,9 @@ impl PutJson for u64 {
 }
 
 impl PutJson for Digest {
-    fn put(&self, alloc: Global, block: &mut Vec<u8>) -> Result<(), AllocError> {
+    fn put(&self, _alloc: Global, block: &mut Vec<u8>) -> Result<(), AllocError> {
         let text = self.text();
-        put_string(alloc, block, text.as_str())
+        put_digest(block, text.as_str())
     }
 }
 
