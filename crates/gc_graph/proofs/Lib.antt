@@ -16,3 +16,4 @@ pub mod NumberPlaces
 pub mod NodesAt
 pub mod RowsApart
 pub mod AnyOrder
+pub mod LentRows

@@ -5,4 +5,5 @@ pub mod Marked
 pub mod Numbers
 pub mod Stored
 pub mod Lent
+pub mod Others
 pub mod Laws

@@ -1,13 +1,18 @@
 //! The rows of a store, listed as they arrived.
-ghost use Rattle.std.specs.Prelude.{◌≡◌, None, IfOk};
+ghost use Rattle.std.specs.Prelude.{◌≡◌, ◌∷◌, [], map, filter, None, IfOk};
 ghost use Rattle.meta_types.specs.Faults.{Refuses};
+ghost use Rattle.meta_types.specs.Keys.{is_key};
+ghost use Rattle.meta_types.specs.Rows.{image_key, container_key, lease_key};
 ghost use Rattle.gc_graph.specs.Built.{AreApart};
 ghost use Rattle.gc_graph.specs.Lent.{lent_in};
+ghost use Rattle.gc_graph.specs.Others.{is_other};
 ghost use Rattle.gc_graph.specs.Stored.{records_of, AreLent};
 
 use crate::rows::{RowPlaces, StoreRows};
 use lease_book::Lease;
-use meta_types::{ContainerRow, ContentRow, Digest, Fault, ImageRow, IngestRow, Name, SnapRow};
+use meta_types::{
+    ContainerRow, ContentRow, Digest, Fault, ImageRow, IngestRow, Name, ShortName, SnapRow,
+};
 use object_tables::ArrivedRows;
 use row_tables::{ArrivedByNamespace, PlacesByNamespace, PlacesBySnapshotter};
 use std::alloc::Global;
@@ -90,6 +95,67 @@ impl<'a> ListedRows<'a> {
         })
     }
 
+    /// For each image that is listed, at its place, whether it is another than that of a namespace
+    /// and a name.
+    pub fn other_images(
+        &self,
+        alloc: Global,
+        ns: &ShortName,
+        name: &Name,
+    ) -> Result<Vec<bool>, Fault>
+        ensures fault { Refuses result None }
+        ensures ok { IfOk result (λ others. others.items
+            ≡ map (is_other image_key (ns.now ∷ name.now ∷ [])) self.now.tables.images) }
+    {
+        let others = others_of_images(alloc, &self.images, ns, name)?;
+        Ok(others)
+    }
+
+    /// For each lease that is listed, at its place, whether it is another than that of a namespace
+    /// and an id.
+    pub fn other_leases(&self, alloc: Global, ns: &ShortName, id: &Name) -> Result<Vec<bool>, Fault>
+        ensures fault { Refuses result None }
+        ensures ok { IfOk result (λ others. others.items
+            ≡ map (is_other lease_key (ns.now ∷ id.now ∷ [])) self.now.leases) }
+    {
+        let others = others_of_leases(alloc, &self.leases, ns, id)?;
+        Ok(others)
+    }
+
+    /// Leaves out the image of a namespace and a name. It takes no memory.
+    pub fn leave_image(&mut self, ns: &ShortName, name: &Name)
+        ensures { self.new ≡ record self.old {
+          tables = record self.old.tables {
+            images = filter (is_other image_key (ns.now ∷ name.now ∷ [])) self.old.tables.images;
+          };
+        } }
+    {
+        self.images
+            .retain(|row: &&ImageRow| -> bool { !is_image(row, ns, name) });
+    }
+
+    /// Leaves out the container of a namespace and a name. It takes no memory.
+    pub fn leave_container(&mut self, ns: &ShortName, name: &Name)
+        ensures { self.new ≡ record self.old {
+          tables = record self.old.tables {
+            containers = filter (is_other container_key (ns.now ∷ name.now ∷ []))
+                self.old.tables.containers;
+          };
+        } }
+    {
+        self.containers.retain(|row: &&ContainerRow| -> bool { !is_container(row, ns, name) });
+    }
+
+    /// Leaves out the lease of a namespace and an id. It takes no memory.
+    pub fn leave_lease(&mut self, ns: &ShortName, id: &Name)
+        ensures { self.new ≡ record self.old {
+          leases = filter (is_other lease_key (ns.now ∷ id.now ∷ [])) self.old.leases;
+        } }
+    {
+        self.leases
+            .retain(|row: &&Lease| -> bool { !is_lease(row, ns, id) });
+    }
+
     /// Lends the lists and the places. No key stands twice in them.
     pub fn rows(&self) -> StoreRows<'_>
         ensures records { records_of result ≡ self.now }
@@ -115,4 +181,56 @@ impl<'a> ListedRows<'a> {
             profile: self.profile,
         }
     }
+}
+
+fn is_image(row: &ImageRow, ns: &ShortName, name: &Name) -> bool
+    ensures { result ≡ is_key (ns.now ∷ name.now ∷ []) (image_key row.now) }
+{
+    *ns == row.ns && *name == row.name
+}
+
+fn is_container(row: &ContainerRow, ns: &ShortName, name: &Name) -> bool
+    ensures { result ≡ is_key (ns.now ∷ name.now ∷ []) (container_key row.now) }
+{
+    *ns == row.ns && *name == row.name
+}
+
+fn is_lease(row: &Lease, ns: &ShortName, id: &Name) -> bool
+    ensures { result ≡ is_key (ns.now ∷ id.now ∷ []) (lease_key row.now) }
+{
+    *ns == *row.ns() && *id == *row.id()
+}
+
+fn others_of_images(
+    alloc: Global,
+    rows: &[&ImageRow],
+    ns: &ShortName,
+    name: &Name,
+) -> Result<Vec<bool>, Fault>
+    ensures fault { Refuses result None }
+    ensures ok { IfOk result (λ others. others.items
+        ≡ map (λ row. is_other image_key (ns.now ∷ name.now ∷ []) row.now) rows.now) }
+{
+    let mut others = Vec::with_capacity(alloc, rows.len())?;
+    for row in rows {
+        others.push(!is_image(row, ns, name))?;
+    }
+    Ok(others)
+}
+
+fn others_of_leases(
+    alloc: Global,
+    rows: &[&Lease],
+    ns: &ShortName,
+    id: &Name,
+) -> Result<Vec<bool>, Fault>
+    ensures fault { Refuses result None }
+    ensures ok { IfOk result (λ others. others.items
+        ≡ map (λ row. is_other lease_key (ns.now ∷ id.now ∷ []) row.now) rows.now) }
+{
+    let mut others = Vec::with_capacity(alloc, rows.len())?;
+    for row in rows {
+        others.push(!is_lease(row, ns, id))?;
+    }
+    Ok(others)
 }

@@ -1,0 +1,40 @@
+use Rattle.std.proofs.Common.{◌≡◌, ◌∷◌, [], ◌∙◌, ap, map, filter, rules, Bor, List}
+use Rattle.std.proofs.lemmas.Fn.{filter_same}
+use Rattle.meta_types.specs.Rows.{Records, LeaseRow, image_key}
+use Rattle.meta_types.specs.declared.rows.ContainerRow.{ContainerRow}
+use Rattle.meta_types.specs.declared.rows.ContentRow.{ContentRow}
+use Rattle.meta_types.specs.declared.rows.ImageRow.{ImageRow}
+use Rattle.meta_types.specs.declared.rows.IngestRow.{IngestRow}
+use Rattle.meta_types.specs.declared.rows.SnapRow.{SnapRow}
+use Rattle.gc_graph.specs.Others.{is_other}
+use Rattle.gc_graph.proofs.LentRows.{lent_filter}
+use Rattle.gc_graph.proofs.rows.listed.ListedRows.leave_image.Goals as goal
+
+-- the kept part of the list are the rows that pass the test
+pub returns : goal.returns
+returns c =
+    let key = c.args.ns.now ∷ c.args.name.now ∷ [] in
+    let inside = c.self.inside in
+    let rows : List ImageRow = map (λ (row : Bor ImageRow). row.now) inside.images.items in
+    let left : map (λ (row : Bor ImageRow). row.now) c.retain.new.self.items
+    ≡ filter (is_other image_key key) rows =
+    ap (map (λ (row : Bor ImageRow). row.now))
+    (filter_same _ (λ (row : Bor ImageRow). is_other image_key key row.now) _
+    (λ x b f' k. search rules) _ _ c.retain.ensures.filtered)
+    ∙ lent_filter (λ (row : Bor ImageRow). row.now) (is_other image_key key)
+    inside.images.items in
+    (λ i. record {
+      tables = record {
+        namespaces = [];
+        images = left i;
+        containers = map (λ (row : Bor ContainerRow). row.now) inside.containers.items;
+        content = map (λ (row : Bor ContentRow). row.now) inside.content.items;
+        ingests = map (λ (row : Bor IngestRow). row.now) inside.ingests.items;
+        snapshots = map (λ (row : Bor SnapRow). row.now) inside.snapshots.items;
+      };
+      leases = map (λ (row : Bor LeaseRow). row.now) inside.leases.items;
+      next = 1;
+      profile = inside.profile;
+    }) ∙ ap (λ (r : Records). record r {
+      tables = record r.tables { images = filter (is_other image_key key) r.tables.images };
+    }) c.self.view_is
