@@ -37,4 +37,5 @@ pub mod ObjectsPromised
 pub mod ChildrenFirst
 pub mod EachKind
 pub mod Finding
+pub mod EndTextsRead
 mod WithoutRow

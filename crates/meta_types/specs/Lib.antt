@@ -26,6 +26,7 @@ pub mod Questions
 -- III. The words that the others use.
 pub mod Text
 pub mod Time
+pub mod EndTexts
 pub mod Faults
 pub mod Limits
 pub mod Keys

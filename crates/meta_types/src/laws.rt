@@ -3,7 +3,7 @@
 ghost use Rattle.meta_types.specs.Promises.{SomeTestTells, ACollectionHasOneOutcome, ADryRunHasOneReport, NothingReachedIsRemoved, WhatIsNotReachedIsRemoved, OwnedObjectsStay, UnownedObjectsGo, RemovedSnapshotsAreChildfirst, PlannedSnapshotsAreChildfirst, ASecondCollectionChangesNothing, ACollectedStoreIsSound, ThisTestTells};
 ghost use Rattle.meta_types.specs.EachKind.{ACollectionDividesTheRows, ACollectionDividesAll, ADryRunTellsWhatACollectionWould};
 ghost use Rattle.meta_types.specs.Impacts.{ARemovalMakesNoPath};
-ghost use Rattle.meta_types.specs.Worked.Times.{TimesAreRead, OthersAreNoTimes};
+ghost use Rattle.meta_types.specs.Worked.Times.{TimesAreRead, OthersAreNoTimes, EndsAreRead};
 ghost use Rattle.meta_types.specs.Worked.Images.{AnImageKeepsItsContent, ACycleGoes, ACycleUnderAnImageStays, BothModesAreScanned, AFlatLeaseFollowsNoLabels, ALeaseHoldsAtItsExpiry, AnExpiredLeaseGoes};
 ghost use Rattle.meta_types.specs.Worked.Objects.{AFlatLeaseKeepsParents, ChildrenGoBeforeParents, AnIngestHoldsForADay, AnIngestGoesAfterADay, OnlyReferenceKeysReference, ContainersAndRootLabelsHold};
 ghost use Rattle.meta_types.specs.Worked.Later.{AnEmptyStoreIsCollected, AnImageHoldsAtItsExpiry, AnExpiredImageGoes, ALeaseGoesWithACollection};
@@ -73,6 +73,11 @@ pub fn a_removal_makes_no_path()
 pub fn times_are_read()
     ensures times { TimesAreRead }
     ensures others { OthersAreNoTimes }
+{}
+
+/// The text of an end up to the year 9998 is read as that end.
+pub fn ends_are_read()
+    ensures { EndsAreRead }
 {}
 
 /// Images, and the references of content.

@@ -1,7 +1,8 @@
 -- Texts, and the moments that they name. Ours, unless a source stands beside.
-use Rattle.std.specs.Prelude.{◌≡◌, List, [], ◌∷◌, map, Some, None, codes, ℤ, pos, neg_ℤ}
+use Rattle.std.specs.Prelude.{◌≡◌, List, [], ◌∷◌, map, Some, None, codes, IsTrue, ℤ, pos, neg_ℤ, int_le, int_lt}
 use Rattle.meta_types.specs.Text.{Text}
 use Rattle.meta_types.specs.Time.{instant_of}
+use Rattle.meta_types.specs.EndTexts.{end_text}
 
 -- times, in nanoseconds since 1970-01-01T00:00:00Z (RFC 3339, 5.6 and 5.8)
 abbrev pub times : List (Text × ℤ)
@@ -39,3 +40,9 @@ TimesAreRead = map (λ (row : Text × ℤ). instant_of row.0) times ≡ map (λ 
 -- none of the others is read
 abbrev pub OthersAreNoTimes : Type 0
 OthersAreNoTimes = map instant_of no_times ≡ map (λ (text : Text). None) no_times
+
+-- the text of an end in the years 0000 to 9998 reads as that end
+abbrev pub EndsAreRead : Type 0
+EndsAreRead =
+    (end : ℤ) → IsTrue (int_le (neg_ℤ (pos 62167219200000000000)) end)
+    → IsTrue (int_lt end (pos 253370764800000000000)) → instant_of (end_text end) ≡ Some end
