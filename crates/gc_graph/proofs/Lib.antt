@@ -17,3 +17,4 @@ pub mod NodesAt
 pub mod RowsApart
 pub mod AnyOrder
 pub mod LentRows
+pub mod NearPlaces

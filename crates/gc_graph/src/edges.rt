@@ -8,14 +8,20 @@ ghost use Rattle.gc_graph.specs.Built.{numbers_in, targets_in};
 
 use crate::book::NodeBook;
 use crate::parallel::{RowReader, read_rows};
-use crate::refs::{push_labels, push_number};
+use crate::refs::{Lookup, push_labels, push_number};
+use crate::rows::near::Near;
 use mark_core::TargetLists;
 use meta_types::{ContentRow, Fault, IngestRow, Mode, SnapRow};
 use std::alloc::Global;
 use std::thread::Threads;
 
 // Adds the number of the content that an ingest expects.
-fn push_expected(book: &NodeBook<'_>, row: &IngestRow, numbers: &mut Vec<u32>) -> Result<(), Fault>
+fn push_expected(
+    book: &NodeBook<'_>,
+    row: &IngestRow,
+    near: &mut Near,
+    numbers: &mut Vec<u32>,
+) -> Result<(), Fault>
     ensures fault { Refuses result None }
     ensures ok { OnOk result (numbers.new.items
         ≡ numbers.old.items ++ targets_in book.now (ingest row.now)) }
@@ -23,16 +29,18 @@ fn push_expected(book: &NodeBook<'_>, row: &IngestRow, numbers: &mut Vec<u32>) -
     match &row.expected {
         None => Ok(()),
         Some(digest) => {
-            let number = book.content_number(&row.ns, digest, Mode::Full);
+            let number = book.content_number(&row.ns, digest, Mode::Full, near);
             push_number(number, numbers)
         }
     }
 }
 
-// Adds the numbers of a snapshot's parent, in full and in flat.
+// Adds the numbers of a snapshot's parent, in full and in flat. In a chain it stands before the
+// snapshot.
 fn push_parent(
     book: &NodeBook<'_>,
     row: &SnapRow,
+    place: usize,
     full: &mut Vec<u32>,
     flat: &mut Vec<u32>,
 ) -> Result<(), Fault>
@@ -46,7 +54,8 @@ fn push_parent(
         return Ok(());
     };
     let key = &row.key;
-    let Some((in_full, in_flat)) = book.snapshot_numbers(&key.ns, &key.snapshotter, name) else {
+    let numbers = book.parent_numbers(&key.ns, &key.snapshotter, name, place);
+    let Some((in_full, in_flat)) = numbers else {
         return Ok(());
     };
     full.push(in_full)?;
@@ -65,14 +74,24 @@ impl<'b, 'a, 'r> RowReader<&'r ContentRow> for Contents<'b, 'a> {
 
     ghost flat_of = { λ reader row. targets_in reader.book.now (content Flat row.now) };
 
+    fn near(&self, _rows: &[&'r ContentRow]) -> Near {
+        Near::first()
+    }
+
     fn push_targets(
         &self,
         alloc: Global,
         row: &&'r ContentRow,
+        near: &mut Near,
         full: &mut Vec<u32>,
         _flat: &mut Vec<u32>,
     ) -> Result<(), Fault> {
-        push_labels(alloc, self.book, &row.ns, &row.labels, full)
+        let lookup = Lookup {
+            alloc,
+            book: self.book,
+            ns: &row.ns,
+        };
+        push_labels(&lookup, &row.labels, near, full)
     }
 }
 
@@ -87,15 +106,27 @@ impl<'b, 'a, 'r> RowReader<&'r SnapRow> for Snapshots<'b, 'a> {
 
     ghost flat_of = { λ reader row. targets_in reader.book.now (snapshot Flat row.now) };
 
+    fn near(&self, rows: &[&'r SnapRow]) -> Near {
+        self.book.near_first(rows)
+    }
+
     fn push_targets(
         &self,
         alloc: Global,
         row: &&'r SnapRow,
+        near: &mut Near,
         full: &mut Vec<u32>,
         flat: &mut Vec<u32>,
     ) -> Result<(), Fault> {
-        push_parent(self.book, row, full, flat)?;
-        push_labels(alloc, self.book, &row.key.ns, &row.labels, full)
+        push_parent(self.book, row, near.row, full, flat)?;
+        near.row = near.row.saturating_add(1);
+        let lookup = Lookup {
+            alloc,
+            book: self.book,
+            ns: &row.key.ns,
+        };
+        let labels = &row.labels;
+        push_labels(&lookup, labels, near, full)
     }
 }
 
@@ -110,10 +141,11 @@ pub(crate) fn push_ingests(
     ensures ok { OnOk result (edges.new ≡ edges.old
         ++ map (λ row. targets_in book.now (ingest row.now)) rows.now) }
 {
+    let mut near = Near::first();
     let mut numbers = Vec::new(alloc);
     for row in rows {
         numbers.clear();
-        push_expected(book, row, &mut numbers)?;
+        push_expected(book, row, &mut near, &mut numbers)?;
         edges.push(&numbers)?;
     }
     Ok(())

@@ -1,5 +1,5 @@
 //! A number is the first of its kind and mode, plus the place of its row.
-ghost use Rattle.std.specs.Prelude.{◌≡◌, ◌<◌, length, map, None, Some, IfOk, slice_get, option_map};
+ghost use Rattle.std.specs.Prelude.{◌≡◌, ◌<◌, length, map, None, Some, IfOk, IfSome, slice_get, option_map};
 ghost use Rattle.meta_types.specs.Faults.{Refuses};
 ghost use Rattle.meta_types.specs.declared.resource.Mode.TheVariants.{Full, Flat};
 ghost use Rattle.meta_types.specs.declared.resource.Resource.TheVariants.{Content, Snapshot, Ingest};
@@ -11,6 +11,7 @@ ghost use Rattle.gc_graph.specs.Stored.{records_of, IsSmall, AreLent};
 use crate::node::Node;
 use crate::nodes::{content_node, ingest_node, snapshot_node};
 use crate::rows::StoreRows;
+use crate::rows::places::{content_place, is_snapshot_at, snapshot_place};
 use meta_types::{ContentRow, Digest, Fault, IngestRow, Mode, Name, ShortName, SnapRow};
 
 fn first_content(rows: &StoreRows<'_>, mode: Mode) -> usize
@@ -31,6 +32,27 @@ fn first_snapshot(rows: &StoreRows<'_>, mode: Mode) -> usize
     match mode {
         Mode::Full => first,
         Mode::Flat => first + rows.snapshots.len(),
+    }
+}
+
+/// The number of a snapshot in a mode.
+pub(crate) fn snapshot_number(
+    rows: &StoreRows<'_>,
+    ns: &ShortName,
+    snapshotter: &ShortName,
+    name: &Name,
+    mode: Mode,
+    near: &mut usize,
+) -> Option<u32>
+    requires small { IsSmall rows.now }
+    requires lent { AreLent rows.now }
+    ensures { result ≡ number_of (nodes_of (records_of rows.now))
+        (node ns.now (Snapshot snapshotter.now name.now) mode) }
+{
+    let (full, flat) = snapshot_numbers(rows, ns, snapshotter, name, near)?;
+    match mode {
+        Mode::Full => Some(full),
+        Mode::Flat => Some(flat),
     }
 }
 
@@ -59,12 +81,14 @@ pub(crate) fn flat_ingest_number(rows: &StoreRows<'_>, ns: &ShortName, name: &Na
     None
 }
 
-/// The number of content in a mode.
+/// The number of content in a mode. The place `near` is tried first, and then the one behind the
+/// content that was found.
 pub(crate) fn content_number(
     rows: &StoreRows<'_>,
     ns: &ShortName,
     digest: &Digest,
     mode: Mode,
+    near: &mut usize,
 ) -> Option<u32>
     requires small { IsSmall rows.now }
     requires lent { AreLent rows.now }
@@ -72,38 +96,23 @@ pub(crate) fn content_number(
         (node ns.now (Content digest.now) mode) }
 {
     let first = first_content(rows, mode);
-    match rows.places.content.place(ns, digest) {
-        Some(place) => Some((first + place) as u32),
+    match content_place(rows, *near, ns, digest) {
+        Some(place) => {
+            *near = place.saturating_add(1);
+            Some((first + place) as u32)
+        }
         None => None,
     }
 }
 
-/// The number of a snapshot in a mode.
-pub(crate) fn snapshot_number(
-    rows: &StoreRows<'_>,
-    ns: &ShortName,
-    snapshotter: &ShortName,
-    name: &Name,
-    mode: Mode,
-) -> Option<u32>
-    requires small { IsSmall rows.now }
-    requires lent { AreLent rows.now }
-    ensures { result ≡ number_of (nodes_of (records_of rows.now))
-        (node ns.now (Snapshot snapshotter.now name.now) mode) }
-{
-    let (full, flat) = snapshot_numbers(rows, ns, snapshotter, name)?;
-    match mode {
-        Mode::Full => Some(full),
-        Mode::Flat => Some(flat),
-    }
-}
-
-/// The numbers of a snapshot, in full and in flat: one look-up finds both.
+/// The numbers of a snapshot, in full and in flat: one look-up finds both. The place `near` is tried
+/// first, and then the one behind the snapshot that was found.
 pub(crate) fn snapshot_numbers(
     rows: &StoreRows<'_>,
     ns: &ShortName,
     snapshotter: &ShortName,
     name: &Name,
+    near: &mut usize,
 ) -> Option<(u32, u32)>
     requires small { IsSmall rows.now }
     requires lent { AreLent rows.now }
@@ -116,10 +125,37 @@ pub(crate) fn snapshot_numbers(
 {
     let full = first_snapshot(rows, Mode::Full);
     let flat = first_snapshot(rows, Mode::Flat);
-    match rows.places.snapshots.place(ns, snapshotter, name) {
-        Some(place) => Some(((full + place) as u32, (flat + place) as u32)),
+    match snapshot_place(rows, *near, ns, snapshotter, name) {
+        Some(place) => {
+            *near = place.saturating_add(1);
+            Some(((full + place) as u32, (flat + place) as u32))
+        }
         None => None,
     }
+}
+
+/// The number of the snapshot at the place `near`, where it is the one of these texts. None of them
+/// is copied.
+pub(crate) fn near_snapshot_number(
+    rows: &StoreRows<'_>,
+    ns: &ShortName,
+    snapshotter: &str,
+    name: &str,
+    near: &mut usize,
+) -> Option<u32>
+    requires small { IsSmall rows.now }
+    requires lent { AreLent rows.now }
+    ensures { IfSome result (λ number. Some number ≡ number_of (nodes_of (records_of rows.now))
+        (node ns.now (Snapshot snapshotter.now name.now) Full)) }
+{
+    let place = *near;
+    if !is_snapshot_at(rows.snapshots, place, ns, snapshotter, name) {
+        return None;
+    }
+    // Its clause says that no key stands twice.
+    let _count = rows.places.snapshots.len();
+    *near = place.saturating_add(1);
+    Some((first_snapshot(rows, Mode::Full) + place) as u32)
 }
 
 fn ingest_at(rows: &[&IngestRow], place: usize) -> Result<Node, Fault>

@@ -3,6 +3,7 @@ ghost use Rattle.std.specs.Prelude.{◌≡◌, ◌<◌, ◌++◌, ℕ, List, map
 ghost use Rattle.std.specs.List.{flat_map};
 ghost use Rattle.meta_types.specs.Faults.{Refuses};
 
+use crate::rows::near::Near;
 use mark_core::TargetLists;
 use meta_types::Fault;
 use rayon::iter::plumbing::LEAST_PIECE;
@@ -18,11 +19,15 @@ pub(crate) trait RowReader<T>: Sync {
     /// The numbers of what the row references in flat.
     ghost flat_of: { Self → T → List ℕ };
 
+    /// Where to look first for what these rows reference. No clause depends on it.
+    fn near(&self, rows: &[T]) -> Near;
+
     /// Adds the numbers of what the row references.
     fn push_targets(
         &self,
         alloc: Global,
         row: &T,
+        near: &mut Near,
         full: &mut Vec<u32>,
         flat: &mut Vec<u32>,
     ) -> Result<(), Fault>
@@ -43,12 +48,13 @@ fn read_alone<T, R: RowReader<T>>(
     ensures full { OnOk result (full.new ≡ full.old ++ map (R.full_of reader.now) rows.now) }
     ensures flat { OnOk result (flat.new ≡ flat.old ++ map (R.flat_of reader.now) rows.now) }
 {
+    let mut near = reader.near(rows);
     let mut in_full = Vec::new(alloc);
     let mut in_flat = Vec::new(alloc);
     for row in rows {
         in_full.clear();
         in_flat.clear();
-        reader.push_targets(alloc, row, &mut in_full, &mut in_flat)?;
+        reader.push_targets(alloc, row, &mut near, &mut in_full, &mut in_flat)?;
         full.push(&in_full)?;
         flat.push(&in_flat)?;
     }

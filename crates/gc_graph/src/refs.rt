@@ -8,6 +8,7 @@ ghost use Rattle.gc_graph.specs.Targets.{node, content_target, snapshot_target, 
 ghost use Rattle.gc_graph.specs.Built.{numbers_in};
 
 use crate::book::NodeBook;
+use crate::rows::near::Near;
 use gc_labels::{content_ref, snapshot_ref};
 use meta_types::{Digest, Fault, Labels, Mode, Name, ShortName};
 use std::alloc::Global;
@@ -23,20 +24,32 @@ pub(crate) fn push_number(number: Option<u32>, numbers: &mut Vec<u32>) -> Result
     Ok(())
 }
 
+/// What a row's references are looked up in: its namespace, in a book.
+#[derive(Clone, Copy)]
+pub(crate) struct Lookup<'b, 'a> {
+    pub(crate) alloc: Global,
+    pub(crate) book: &'b NodeBook<'a>,
+    pub(crate) ns: &'b ShortName,
+}
+
 // Adds the number of the content that a text names in a namespace.
 fn push_content(
-    alloc: Global,
-    book: &NodeBook<'_>,
-    ns: &ShortName,
+    lookup: &Lookup<'_, '_>,
     digest: &str,
+    near: &mut Near,
     numbers: &mut Vec<u32>,
 ) -> Result<(), Fault>
     ensures fault { Refuses result None }
-    ensures ok { OnOk result (numbers.new.items ≡ numbers.old.items ++ numbers_in book.now
-        (node ns.now (Content digest.now) Full ∷ [])) }
+    ensures ok { OnOk result (numbers.new.items ≡ numbers.old.items
+        ++ numbers_in lookup.now.book.now
+        (node lookup.now.ns.now (Content digest.now) Full ∷ [])) }
 {
-    match Digest::read(alloc, digest) {
-        Ok(digest) => push_number(book.content_number(ns, &digest, Mode::Full), numbers),
+    let book = lookup.book;
+    match Digest::read(lookup.alloc, digest) {
+        Ok(digest) => {
+            let number = book.content_number(lookup.ns, &digest, Mode::Full, near);
+            push_number(number, numbers)
+        }
         Err(Fault::InvalidArgument) => {
             // The book has no node of a text that isn't allowed.
             book.learn_allowed();
@@ -46,23 +59,25 @@ fn push_content(
     }
 }
 
-// The same of a snapshot.
-fn push_snapshot(
-    alloc: Global,
-    book: &NodeBook<'_>,
-    ns: &ShortName,
+// The same of a snapshot, whose texts are read.
+fn push_read_snapshot(
+    lookup: &Lookup<'_, '_>,
     snapshotter: &str,
     name: &str,
+    near: &mut Near,
     numbers: &mut Vec<u32>,
 ) -> Result<(), Fault>
     ensures fault { Refuses result None }
-    ensures ok { OnOk result (numbers.new.items ≡ numbers.old.items ++ numbers_in book.now
-        (node ns.now (Snapshot snapshotter.now name.now) Full ∷ [])) }
+    ensures ok { OnOk result (numbers.new.items ≡ numbers.old.items
+        ++ numbers_in lookup.now.book.now
+        (node lookup.now.ns.now (Snapshot snapshotter.now name.now) Full ∷ [])) }
 {
-    match ShortName::read(alloc, snapshotter) {
-        Ok(snapshotter) => match Name::read(alloc, name) {
+    let book = lookup.book;
+    match ShortName::read(lookup.alloc, snapshotter) {
+        Ok(snapshotter) => match Name::read(lookup.alloc, name) {
             Ok(name) => {
-                let number = book.snapshot_number(ns, &snapshotter, &name, Mode::Full);
+                let ns = lookup.ns;
+                let number = book.snapshot_number(ns, &snapshotter, &name, Mode::Full, near);
                 push_number(number, numbers)
             }
             Err(Fault::InvalidArgument) => {
@@ -81,59 +96,80 @@ fn push_snapshot(
     }
 }
 
-fn push_label_content(
-    alloc: Global,
-    book: &NodeBook<'_>,
-    ns: &ShortName,
-    key: &str,
-    value: &str,
+// The same of a snapshot; texts are read where it isn't the one that is near.
+fn push_snapshot(
+    lookup: &Lookup<'_, '_>,
+    snapshotter: &str,
+    name: &str,
+    near: &mut Near,
     numbers: &mut Vec<u32>,
 ) -> Result<(), Fault>
     ensures fault { Refuses result None }
-    ensures ok { OnOk result (numbers.new.items ≡ numbers.old.items ++ numbers_in book.now
-        (content_target ns.now (key.now, value.now))) }
+    ensures ok { OnOk result (numbers.new.items ≡ numbers.old.items
+        ++ numbers_in lookup.now.book.now
+        (node lookup.now.ns.now (Snapshot snapshotter.now name.now) Full ∷ [])) }
+{
+    let number = lookup
+        .book
+        .near_snapshot_number(lookup.ns, snapshotter, name, near);
+    if number.is_some() {
+        return push_number(number, numbers);
+    }
+    push_read_snapshot(lookup, snapshotter, name, near, numbers)
+}
+
+fn push_label_content(
+    lookup: &Lookup<'_, '_>,
+    key: &str,
+    value: &str,
+    near: &mut Near,
+    numbers: &mut Vec<u32>,
+) -> Result<(), Fault>
+    ensures fault { Refuses result None }
+    ensures ok { OnOk result (numbers.new.items ≡ numbers.old.items
+        ++ numbers_in lookup.now.book.now
+        (content_target lookup.now.ns.now (key.now, value.now))) }
 {
     if content_ref(key) {
-        push_content(alloc, book, ns, value, numbers)
+        push_content(lookup, value, near, numbers)
     } else {
         Ok(())
     }
 }
 
 fn push_label_snapshot(
-    alloc: Global,
-    book: &NodeBook<'_>,
-    ns: &ShortName,
+    lookup: &Lookup<'_, '_>,
     key: &str,
     value: &str,
+    near: &mut Near,
     numbers: &mut Vec<u32>,
 ) -> Result<(), Fault>
     ensures fault { Refuses result None }
-    ensures ok { OnOk result (numbers.new.items ≡ numbers.old.items ++ numbers_in book.now
-        (snapshot_target ns.now (key.now, value.now))) }
+    ensures ok { OnOk result (numbers.new.items ≡ numbers.old.items
+        ++ numbers_in lookup.now.book.now
+        (snapshot_target lookup.now.ns.now (key.now, value.now))) }
 {
     match snapshot_ref(key) {
-        Some(snapshotter) => push_snapshot(alloc, book, ns, snapshotter, value, numbers),
+        Some(snapshotter) => push_snapshot(lookup, snapshotter, value, near, numbers),
         None => Ok(()),
     }
 }
 
 // Adds the numbers of what labels reference in a namespace.
 pub(crate) fn push_labels(
-    alloc: Global,
-    book: &NodeBook<'_>,
-    ns: &ShortName,
+    lookup: &Lookup<'_, '_>,
     labels: &Labels,
+    near: &mut Near,
     numbers: &mut Vec<u32>,
 ) -> Result<(), Fault>
     ensures fault { Refuses result None }
-    ensures ok { OnOk result (numbers.new.items ≡ numbers.old.items ++ numbers_in book.now
-        (label_targets ns.now labels.now)) }
+    ensures ok { OnOk result (numbers.new.items ≡ numbers.old.items
+        ++ numbers_in lookup.now.book.now (label_targets lookup.now.ns.now labels.now)) }
 {
     let entries = labels.entries();
     for entry in entries {
-        push_label_content(alloc, book, ns, &entry.0, &entry.1, numbers)?;
-        push_label_snapshot(alloc, book, ns, &entry.0, &entry.1, numbers)?;
+        push_label_content(lookup, &entry.0, &entry.1, near, numbers)?;
+        push_label_snapshot(lookup, &entry.0, &entry.1, near, numbers)?;
     }
     Ok(())
 }

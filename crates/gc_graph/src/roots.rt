@@ -10,7 +10,8 @@ ghost use Rattle.gc_graph.specs.Built.{numbers_in, targets_in, root_targets, pla
 
 use crate::book::NodeBook;
 use crate::ends::{image_stays, ingest_holds_itself, lease_stays};
-use crate::refs::{push_labels, push_number};
+use crate::refs::{Lookup, push_labels, push_number};
+use crate::rows::near::Near;
 use gc_labels::{is_flat, is_root};
 use lease_book::Lease;
 use meta_types::{
@@ -29,8 +30,12 @@ fn push_image(
     ensures ok { OnOk result (roots.new.items
         ≡ roots.old.items ++ targets_in book.now (image row.now)) }
 {
-    push_number(book.content_number(&row.ns, &row.target, Mode::Full), roots)?;
-    push_labels(alloc, book, &row.ns, &row.labels, roots)
+    let ns = &row.ns;
+    let mut near = Near::first();
+    let number = book.content_number(ns, &row.target, Mode::Full, &mut near);
+    push_number(number, roots)?;
+    let lookup = Lookup { alloc, book, ns };
+    push_labels(&lookup, &row.labels, &mut near, roots)
 }
 
 fn push_image_root(
@@ -82,13 +87,14 @@ fn push_container(
         ≡ roots.old.items ++ targets_in book.now (container row.now)) }
 {
     let ns = &row.ns;
+    let mut near = Near::first();
     if let Some((snapshotter, key)) = &row.snapshot {
-        push_number(
-            book.snapshot_number(ns, snapshotter, key, Mode::Full),
-            roots,
-        )?;
+        let number = book.snapshot_number(ns, snapshotter, key, Mode::Full, &mut near);
+        push_number(number, roots)?;
     }
-    push_labels(alloc, book, ns, &row.labels, roots)
+    let lookup = Lookup { alloc, book, ns };
+    let labels = &row.labels;
+    push_labels(&lookup, labels, &mut near, roots)
 }
 
 // Adds the numbers of what containers reference.
@@ -113,13 +119,14 @@ fn push_resource(
     ns: &ShortName,
     mode: Mode,
     resource: &Resource,
+    near: &mut Near,
     roots: &mut Vec<u32>,
 ) -> Result<(), Fault>
     ensures fault { Refuses result None }
     ensures ok { OnOk result (roots.new.items ≡ roots.old.items ++ numbers_in book.now
         (node ns.now resource.now (resource_mode mode resource.now) ∷ [])) }
 {
-    push_number(book.resource_number(ns, resource, mode), roots)
+    push_number(book.resource_number(ns, resource, mode, near), roots)
 }
 
 fn push_resources(
@@ -133,8 +140,9 @@ fn push_resources(
     ensures ok { OnOk result (roots.new.items ≡ roots.old.items
         ++ numbers_in book.now (resource_targets ns.now mode resources.now)) }
 {
+    let mut near = Near::first();
     for resource in resources {
-        push_resource(book, ns, mode, resource, roots)?;
+        push_resource(book, ns, mode, resource, &mut near, roots)?;
     }
     Ok(())
 }

@@ -1,6 +1,8 @@
 //! The rows of a store, lent for its graph, and the tables in which they are found.
 
 mod listed;
+pub(crate) mod near;
+pub(crate) mod places;
 
 use lease_book::Lease;
 pub use listed::ListedRows;

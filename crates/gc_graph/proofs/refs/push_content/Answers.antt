@@ -8,5 +8,5 @@ use Rattle.gc_graph.proofs.refs.push_content.Goals as goal
 
 pub returns-in-Err-InvalidArgument-clause-ok : goal.returns-in-Err-InvalidArgument-clause-ok
 returns-in-Err-InvalidArgument-clause-ok c =
-    nothing_more c.args.book.now (node c.args.ns.now (Content c.args.digest.now) Full) c.args.numbers.now.items c.learn_allowed.ensures
+    nothing_more c.args.lookup.now.book.now (node c.args.lookup.now.ns.now (Content c.args.digest.now) Full) c.args.numbers.now.items c.learn_allowed.ensures
     (refused_unless (List ℕ) (is_digest c.args.digest.now) c.in-Err-InvalidArgument.field-0 c.in-Err-InvalidArgument.field-0-is c.in-Err-InvalidArgument.ensures.fault)

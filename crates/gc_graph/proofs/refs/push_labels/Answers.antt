@@ -8,8 +8,8 @@ use Rattle.gc_graph.proofs.refs.push_labels.Goals as goal
 
 pub loop-entry-preserved : goal.loop-entry-preserved
 loop-entry-preserved c =
-    let book = c.args.book.now in
-    let ns = c.args.ns.now in
+    let book = c.args.lookup.now.book.now in
+    let ns = c.args.lookup.now.ns.now in
     let item = c.entry-item.result in
     let label : Text × Text = (string_bytes item.0, string_bytes item.1) in
     let a : c.push_label_content.new.numbers.items ≡ c.loop-entry.numbers.items ++ numbers_in book (content_target ns label)

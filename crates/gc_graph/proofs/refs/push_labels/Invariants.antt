@@ -6,4 +6,4 @@ use Rattle.gc_graph.proofs.refs.push_labels.Given as goal
 
 -- the numbers of the labels so far are there
 abbrev pub invariant-loop-entry : goal.invariant-loop-entry
-invariant-loop-entry l = l.numbers.items ≡ l.fn.numbers.items ++ numbers_in l.book (label_targets l.ns (texts_of (take l.entry-index l.entries)))
+invariant-loop-entry l = l.numbers.items ≡ l.fn.numbers.items ++ numbers_in l.lookup.book.now (label_targets l.lookup.ns.now (texts_of (take l.entry-index l.entries)))
