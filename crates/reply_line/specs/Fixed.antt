@@ -1,6 +1,5 @@
--- Which answers have a text that stands in the program. Ours, unless a source stands beside.
+-- Which replies have a text that stands in the program. Ours, unless a source stands beside.
 use Rattle.std.specs.Prelude.{Bool, true, false}
-use Rattle.meta_types.specs.Steps.{Answer, answered, reported, refused}
 use Rattle.meta_types.specs.declared.reply.Reply.{Reply}
 use Rattle.meta_types.specs.declared.reply.Reply.TheVariants as R
 
@@ -10,9 +9,3 @@ is_done R.Done = true
 is_done (R.Names names) = false
 is_done (R.Row row) = false
 is_done (R.Resources resources) = false
-
--- an answer that names nothing: what was done without a reply of its own, or a refusal
-abbrev pub is_fixed : Answer → Bool
-is_fixed (answered reply) = is_done reply
-is_fixed (reported report) = false
-is_fixed (refused fault) = true

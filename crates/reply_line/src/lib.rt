@@ -1,7 +1,6 @@
 //! Writes the exact bytes of a reply.
 #![tactic(auto)]
 
-mod answer;
 mod blocks;
 mod constants;
 mod explanation;
@@ -13,11 +12,10 @@ mod report_blocks;
 mod rows;
 mod writing;
 
-pub use answer::Answer;
 pub use blocks::BLOCK_ROOM;
 pub use constants::refusal_text;
 pub use explanation::explanation_text;
 pub use impact::impact_text;
-pub use reply::{lent_text, reply_text};
+pub use reply::reply_text;
 pub use report_blocks::write_report;
 pub use writing::write_bytes;

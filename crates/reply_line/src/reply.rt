@@ -1,18 +1,16 @@
-//! The exact text of each answer: compact JSON, with no line feed.
+//! The exact text of each reply: compact JSON, with no line feed.
 ghost use Rattle.std.specs.Prelude.{◌≡◌, [], true, IfOk, IsOk, None, string_bytes};
 ghost use Rattle.std.specs.Cow.{cow_str_bytes};
 ghost use Rattle.json.specs.Print.{print};
 ghost use Rattle.meta_types.specs.Faults.{Refuses};
-ghost use Rattle.meta_types.specs.Steps.{answered, reported};
-ghost use Rattle.reply_line.specs.Answers.{answer_of};
-ghost use Rattle.reply_line.specs.Fixed.{is_done, is_fixed};
+ghost use Rattle.meta_types.specs.Steps.{answered};
+ghost use Rattle.reply_line.specs.Fixed.{is_done};
 ghost use Rattle.reply_line.specs.Replies.{answer_text};
 
-use crate::answer::Answer;
-use crate::constants::{done_text, refusal_text};
+use crate::constants::done_text;
 use crate::parts::write_resources;
 use crate::rows::write_row;
-use gc_report::{Report, write_list, write_member};
+use gc_report::{write_list, write_member};
 use json::Writer;
 use meta_types::{Fault, Holdings, Listing, Reply, ReplyRow};
 use std::alloc::{AllocError, Global};
@@ -66,18 +64,10 @@ fn holdings_text(alloc: Global, holdings: &Holdings) -> Result<String, AllocErro
     Ok(into_text(out))
 }
 
-fn report_text(alloc: Global, report: &Report) -> Result<String, AllocError>
-    ensures { IfOk result (λ text. string_bytes text ≡ answer_text (reported report.now)) }
-{
-    let mut out = Writer::new(Vec::new(alloc));
-    out.begin_object()?;
-    write_member(&mut out, "ok", &true)?;
-    write_member(&mut out, "report", report)?;
-    out.end_object()?;
-    Ok(into_text(out))
-}
-
-fn replied_text(alloc: Global, reply: &Reply) -> Result<CowStr<'static, Global>, AllocError>
+/// The compact JSON of a reply, with no line feed. A reply that names nothing is a constant text of
+/// the program, so it takes no memory.
+pub fn reply_text(alloc: Global, reply: &Reply) -> Result<CowStr<'static, Global>, Fault>
+    ensures fault { Refuses result None }
     ensures ok { IfOk result (λ text. cow_str_bytes text ≡ answer_text (answered reply.now)) }
     ensures fixed { is_done reply.now ≡ true → IsOk result }
 {
@@ -87,36 +77,4 @@ fn replied_text(alloc: Global, reply: &Reply) -> Result<CowStr<'static, Global>,
         Reply::Row(row) => Ok(CowStr::Owned(row_text(alloc, row)?)),
         Reply::Resources(holdings) => Ok(CowStr::Owned(holdings_text(alloc, holdings)?)),
     }
-}
-
-fn answered_text(alloc: Global, answer: &Answer) -> Result<CowStr<'static, Global>, AllocError>
-    ensures ok { IfOk result (λ text. cow_str_bytes text ≡ answer_text (answer_of answer.now)) }
-    ensures fixed { is_fixed (answer_of answer.now) ≡ true → IsOk result }
-{
-    match answer {
-        Answer::Replied(reply) => replied_text(alloc, reply),
-        Answer::Reported(report) => Ok(CowStr::Owned(report_text(alloc, report)?)),
-        Answer::Refused(fault) => Ok(CowStr::Borrowed(refusal_text(*fault))),
-    }
-}
-
-/// The compact JSON of an answer, with no line feed. An answer that names nothing is a constant
-/// text of the program, so it takes no memory.
-pub fn lent_text(alloc: Global, answer: &Answer) -> Result<CowStr<'static, Global>, Fault>
-    ensures fault { Refuses result None }
-    ensures ok { IfOk result (λ text. cow_str_bytes text ≡ answer_text (answer_of answer.now)) }
-    ensures fixed { is_fixed (answer_of answer.now) ≡ true → IsOk result }
-{
-    match answered_text(alloc, answer) {
-        Ok(text) => Ok(text),
-        Err(_) => Err(Fault::OutOfMemory),
-    }
-}
-
-/// The compact JSON of an answer, with no line feed.
-pub fn reply_text(alloc: Global, answer: &Answer) -> Result<String, Fault>
-    ensures fault { Refuses result None }
-    ensures ok { IfOk result (λ text. string_bytes text ≡ answer_text (answer_of answer.now)) }
-{
-    Ok(answered_text(alloc, answer)?.into_owned(alloc)?)
 }

@@ -1,5 +1,7 @@
 pub mod LineAnswers
 mod Unchanged
+mod SameLines
+mod SaidTexts
 pub mod Scripts
 pub mod Writers
 pub mod Runs

@@ -7,11 +7,10 @@ use Rattle.std.proofs.lemmas.List.Folds.{list_any-append}
 use Rattle.scripts.specs.LineSteps.{Supplied, out_of_memory, line_step, IsTrueAt}
 use Rattle.meta_types.specs.Rows.{State, empty_store}
 use Rattle.scripts.proofs.LineAnswers.{line_step-empty, true_at_memory}
-use Rattle.scripts.specs.declared.line_buffer.LineBuffer.{LineBuffer}
 use Rattle.scripts.specs.Lines.{is_line_feed, lines_of, whole_lines}
 use Rattle.scripts.specs.Output.{Supplies, first_supplied, output_from, output_of, AreTrue, IsOutput, IsWholeOutput, IsBeginning}
 use Rattle.scripts.specs.Exchanging.{Exchanges}
-use Rattle.scripts.specs.Progress.{Progress, IsLine, Answers, Advances, Breaks, BeginsReply, EndsWith, Runs}
+use Rattle.scripts.specs.Progress.{Progress, IsLine, Answers, Advances, Breaks, Replies, BeginsReply, EndsWith, Runs}
 use Rattle.scripts.proofs.Scripts.{lines_of-line, lines_of-last, whole_lines-ended, whole_lines-rest}
 use Rattle.scripts.proofs.Writers.{Appends-append, Appends-none, Appends-Keeps, Consumes-append, Consumes-none, Consumes-Keeps}
 
@@ -26,8 +25,8 @@ unread_true state (line ∷ lines) =
     (true_at_memory state line, unread_true (line_step state (Some out_of_memory) line).1 lines)
 
 -- a run that begins
-pub Progress-empty : (buffer : LineBuffer) → IsLine buffer [] → Progress [] [] empty_store buffer
-Progress-empty buffer e = record {
+pub Progress-empty : (kept : List ℕ) → IsLine kept [] → Progress [] [] empty_store kept
+Progress-empty kept e = record {
   whole = [];
   line = [];
   supplies = [];
@@ -40,7 +39,7 @@ Progress-empty buffer e = record {
 }
 
 -- a piece without a line feed
-pub Progress-piece : (taken written : List ℕ) (state : State) (old new : LineBuffer) (piece : List ℕ)
+pub Progress-piece : (taken written : List ℕ) (state : State) (old new : List ℕ) (piece : List ℕ)
     → Progress taken written state old
     → ((line : List ℕ) → IsLine old line → IsLine new (line ++ piece))
     → list_any is_line_feed piece ≡ false → Progress (taken ++ piece) written state new
@@ -57,13 +56,13 @@ Progress-piece taken written state old new piece p add none = record {
 }
 
 -- the output goes on with the reply to the line
-reply_next : (taken written : List ℕ) (state : State) (old : LineBuffer) (p : Progress taken written state old) (out : List ℕ) (next : State) (a : Answers state p.line out next) (more : Supplies) (tail : List ℕ)
+reply_next : (taken written : List ℕ) (state : State) (old : List ℕ) (p : Progress taken written state old) (out : List ℕ) (next : State) (a : Answers state p.line out next) (more : Supplies) (tail : List ℕ)
     → output_of (p.supplies ++ a.0 ∷ more) (p.whole ++ (p.line ++ 10 ∷ tail)) ≡ written ++ (out ++ output_from next more (lines_of tail))
 reply_next taken written state old p out next a more tail =
     p.goes_on (a.0 ∷ more) (p.line ++ 10 ∷ tail) ∙ rw (lines_of-line p.line tail p.no_feed, a.1) refl
 
 -- the answer to the question of the line is right
-true_next : (taken written : List ℕ) (state : State) (old : LineBuffer)
+true_next : (taken written : List ℕ) (state : State) (old : List ℕ)
     (p : Progress taken written state old) (out : List ℕ) (next : State)
     (a : Answers state p.line out next) (more : Supplies) (tail : List ℕ)
     → AreTrue next more (lines_of tail)
@@ -75,7 +74,7 @@ true_next taken written state old p out next a more tail told =
     (a.2, rw a.1 told))
 
 -- a line that was answered
-pub Progress-line : (taken written : List ℕ) (state : State) (old new : LineBuffer) (p : Progress taken written state old) (out : List ℕ) (next : State)
+pub Progress-line : (taken written : List ℕ) (state : State) (old new : List ℕ) (p : Progress taken written state old) (out : List ℕ) (next : State)
     → Answers state p.line out next → IsLine new []
     → Progress (taken ++ 10 ∷ []) (written ++ out) next new
 Progress-line taken written state old new p out next a e = record {
@@ -93,7 +92,7 @@ Progress-line taken written state old new p out next a e = record {
 }
 
 -- a line whose reply was begun
-pub begins_line : (taken written : List ℕ) (state : State) (old : LineBuffer) (p : Progress taken written state old) (out front back : List ℕ) (next : State)
+pub begins_line : (taken written : List ℕ) (state : State) (old : List ℕ) (p : Progress taken written state old) (out front back : List ℕ) (next : State)
     → Answers state p.line out next → front ++ back ≡ out
     → (tail : List ℕ) → IsBeginning ((taken ++ 10 ∷ []) ++ tail) (written ++ front)
 begins_line taken written state old p out front back next a e tail =
@@ -112,9 +111,9 @@ begins_line taken written state old p out front back next a e tail =
     )
 
 -- what was written so far
-pub begins : (taken written : List ℕ) (state : State) (buffer : LineBuffer)
-    → Progress taken written state buffer → (tail : List ℕ) → IsBeginning (taken ++ tail) written
-begins taken written state buffer p tail =
+pub begins : (taken written : List ℕ) (state : State) (kept : List ℕ)
+    → Progress taken written state kept → (tail : List ℕ) → IsBeginning (taken ++ tail) written
+begins taken written state kept p tail =
     let lines = lines_of (p.line ++ tail) in
     let more = unread lines in (
       p.supplies ++ more,
@@ -126,22 +125,22 @@ begins taken written state buffer p tail =
     )
 
 -- an end that wrote nothing
-pub Breaks-none : (buffer : LineBuffer) (state : State) (bytes : List ℕ) (held : Option (List ℕ))
-    → Breaks buffer state bytes held held
-Breaks-none buffer state bytes held = record {
+pub Breaks-none : (kept : List ℕ) (state : State) (bytes : List ℕ) (held : Option (List ℕ))
+    → Breaks kept state bytes held held
+Breaks-none kept state bytes held = record {
   begins = λ taken written p. (
     [],
     Appends-none held,
     λ tail. rw (append_assoc taken bytes tail, append-nil written)
-        (begins taken written state buffer p (bytes ++ tail)),
+        (begins taken written state kept p (bytes ++ tail)),
   );
 }
 
-pub Advances-none : (buffer : LineBuffer) (state : State) (held : Option (List ℕ))
-    → Advances buffer state buffer state [] held held
-Advances-none buffer state held = record { goes = λ taken written p. ([], Appends-none held, simp append-nil p) }
+pub Advances-none : (kept : List ℕ) (state : State) (held : Option (List ℕ))
+    → Advances kept state kept state [] held held
+Advances-none kept state held = record { goes = λ taken written p. ([], Appends-none held, simp append-nil p) }
 
-pub Advances-piece : (old new : LineBuffer) (state : State) (piece : List ℕ) (held : Option (List ℕ))
+pub Advances-piece : (old new : List ℕ) (state : State) (piece : List ℕ) (held : Option (List ℕ))
     → ((line : List ℕ) → IsLine old line → IsLine new (line ++ piece))
     → list_any is_line_feed piece ≡ false → Advances old state new state piece held held
 Advances-piece old new state piece held add none = record {
@@ -149,7 +148,7 @@ Advances-piece old new state piece held add none = record {
       ([], Appends-none held, simp append-nil (Progress-piece taken written state old new piece p add none));
 }
 
-pub Advances-append : {b0 b1 b2 : LineBuffer} {s0 s1 s2 : State} {xs ys : List ℕ} {h0 h1 h2 : Option (List ℕ)} (all : List ℕ)
+pub Advances-append : {b0 b1 b2 : List ℕ} {s0 s1 s2 : State} {xs ys : List ℕ} {h0 h1 h2 : Option (List ℕ)} (all : List ℕ)
     → xs ++ ys ≡ all → Advances b0 s0 b1 s1 xs h0 h1 → Advances b1 s1 b2 s2 ys h1 h2
     → Advances b0 s0 b2 s2 all h0 h2
 Advances-append {xs = xs} {ys = ys} {h0 = h0} {h1 = h1} {h2 = h2} all e first later = record {
@@ -159,7 +158,7 @@ Advances-append {xs = xs} {ys = ys} {h0 = h0} {h1 = h1} {h2 = h2} all e first la
       (a.0 ++ b.0, Appends-append h0 h1 h2 a.0 b.0 a.1 b.1, rw (← e, ← append_assoc taken xs ys, ← append_assoc written a.0 b.0) b.2);
 }
 
-pub Breaks-after : {b0 b1 : LineBuffer} {s0 s1 : State} {xs ys : List ℕ} {h0 h1 h2 : Option (List ℕ)} (all : List ℕ)
+pub Breaks-after : {b0 b1 : List ℕ} {s0 s1 : State} {xs ys : List ℕ} {h0 h1 h2 : Option (List ℕ)} (all : List ℕ)
     → xs ++ ys ≡ all → Advances b0 s0 b1 s1 xs h0 h1 → Breaks b1 s1 ys h1 h2
     → Breaks b0 s0 all h0 h2
 Breaks-after {xs = xs} {ys = ys} {h0 = h0} {h1 = h1} {h2 = h2} all e first later = record {
@@ -169,16 +168,49 @@ Breaks-after {xs = xs} {ys = ys} {h0 = h0} {h1 = h1} {h2 = h2} all e first later
       (a.0 ++ b.0, Appends-append h0 h1 h2 a.0 b.0 a.1 b.1, λ tail. rw (← e, ← append_assoc taken xs ys, ← append_assoc written a.0 b.0) (b.2 tail));
 }
 
-pub Breaks-more : {buffer : LineBuffer} {state : State} {xs : List ℕ} {h0 h1 : Option (List ℕ)} (ys all : List ℕ)
-    → xs ++ ys ≡ all → Breaks buffer state xs h0 h1 → Breaks buffer state all h0 h1
+pub Breaks-more : {kept : List ℕ} {state : State} {xs : List ℕ} {h0 h1 : Option (List ℕ)} (ys all : List ℕ)
+    → xs ++ ys ≡ all → Breaks kept state xs h0 h1 → Breaks kept state all h0 h1
 Breaks-more {xs = xs} ys all e broke = record {
   begins = λ taken written p.
       let b = broke.begins taken written p in
       (b.0, b.1, λ tail. rw (← e, ← append_assoc taken xs ys, append_assoc (taken ++ xs) ys tail) (b.2 (ys ++ tail)));
 }
 
+-- a line that ends with this piece was answered by what was handed on
+pub Advances-line : (old new handed : List ℕ) (state next : State) (piece : List ℕ)
+    (h0 h1 : Option (List ℕ))
+    → ((line : List ℕ) → IsLine old line → IsLine handed (line ++ piece))
+    → list_any is_line_feed piece ≡ false
+    → ((line : List ℕ) → IsLine handed line → Replies state line next h0 h1) → IsLine new []
+    → Advances old state new next (piece ++ 10 ∷ []) h0 h1
+Advances-line old new handed state next piece h0 h1 add none replies e = record {
+  goes = λ taken written p.
+      let p1 = Progress-piece taken written state old handed piece p add none in
+      let r = replies p1.line p1.is_line in (
+        r.0,
+        r.2,
+        rw (← append_assoc taken piece (10 ∷ []))
+            (Progress-line (taken ++ piece) written state handed new p1 r.0 next r.1 e),
+      );
+}
+
+-- the reply to it was begun
+pub Breaks-line : (old handed : List ℕ) (state : State) (piece : List ℕ)
+    (h0 h1 : Option (List ℕ))
+    → ((line : List ℕ) → IsLine old line → IsLine handed (line ++ piece))
+    → list_any is_line_feed piece ≡ false
+    → ((line : List ℕ) → IsLine handed line → BeginsReply state line h0 h1)
+    → Breaks old state (piece ++ 10 ∷ []) h0 h1
+Breaks-line old handed state piece h0 h1 add none replies = record {
+  begins = λ taken written p.
+      let p1 = Progress-piece taken written state old handed piece p add none in
+      let w = replies p1.line p1.is_line in
+      let begun = begins_line (taken ++ piece) written state handed p1 w.0 w.4.0 w.1 w.2 w.3 w.4.1 in
+      (w.4.0, w.4.2, λ tail. rw (← append_assoc taken piece (10 ∷ [])) (begun tail));
+}
+
 -- all was answered, and the writer flushed
-pub Advances-flush : {b0 b1 : LineBuffer} {s0 s1 : State} {bytes : List ℕ} {h0 h1 h2 : Option (List ℕ)}
+pub Advances-flush : {b0 b1 : List ℕ} {s0 s1 : State} {bytes : List ℕ} {h0 h1 h2 : Option (List ℕ)}
     → Advances b0 s0 b1 s1 bytes h0 h1 → Keeps h1 h2 → Advances b0 s0 b1 s1 bytes h0 h2
 Advances-flush {h0 = h0} {h1 = h1} {h2 = h2} more kept = record {
   goes = λ taken written p.
@@ -187,7 +219,7 @@ Advances-flush {h0 = h0} {h1 = h1} {h2 = h2} more kept = record {
 }
 
 -- all was answered, but the writer couldn't be flushed
-pub Breaks-flush : {b0 b1 : LineBuffer} {s0 s1 : State} {bytes : List ℕ} {h0 h1 h2 : Option (List ℕ)}
+pub Breaks-flush : {b0 b1 : List ℕ} {s0 s1 : State} {bytes : List ℕ} {h0 h1 h2 : Option (List ℕ)}
     → Advances b0 s0 b1 s1 bytes h0 h1 → Keeps h1 h2 → Breaks b0 s0 bytes h0 h2
 Breaks-flush {b1 = b1} {s1 = s1} {bytes = bytes} {h0 = h0} {h1 = h1} {h2 = h2} more kept = record {
   begins = λ taken written p.
@@ -202,9 +234,9 @@ last_reply : (state : State) (supplied : Option Supplied) (line : List ℕ)
 last_reply state supplied [] none = sym (ap (λ (p : List ℕ × State). p.0) (line_step-empty state supplied [] refl))
 last_reply state supplied (b ∷ line) none = rw (lines_of-last b line none) (append-nil (line_step state supplied (b ∷ line)).0)
 
-last_output : (taken written : List ℕ) (state : State) (buffer : LineBuffer) (p : Progress taken written state buffer) (out : List ℕ) (next : State) (a : Answers state p.line out next)
+last_output : (taken written : List ℕ) (state : State) (kept : List ℕ) (p : Progress taken written state kept) (out : List ℕ) (next : State) (a : Answers state p.line out next)
     → written ++ out ≡ output_of (p.supplies ++ a.0 ∷ []) taken
-last_output taken written state buffer p out next a =
+last_output taken written state kept p out next a =
     rw p.parts (sym (p.goes_on (a.0 ∷ []) p.line ∙ ap (λ o. written ++ o) (last_reply state a.0 p.line p.no_feed ∙ ap (λ (q : List ℕ × State). q.0) a.1)))
 
 last_true : (state : State) (supplied : Option Supplied) (line : List ℕ)
@@ -214,34 +246,40 @@ last_true state supplied [] none told = tt
 last_true state supplied (b ∷ line) none told =
     subst (AreTrue state (supplied ∷ [])) (sym (lines_of-last b line none)) (told, tt)
 
-all_true : (taken written : List ℕ) (state : State) (buffer : LineBuffer)
-    (p : Progress taken written state buffer) (out : List ℕ) (next : State)
+all_true : (taken written : List ℕ) (state : State) (kept : List ℕ)
+    (p : Progress taken written state kept) (out : List ℕ) (next : State)
     (a : Answers state p.line out next)
     → AreTrue empty_store (p.supplies ++ a.0 ∷ []) (lines_of taken)
-all_true taken written state buffer p out next a =
+all_true taken written state kept p out next a =
     rw p.parts (p.true_on (a.0 ∷ []) p.line (last_true state a.0 p.line p.no_feed a.2))
 
-pub EndsWith-reply : (buffer : LineBuffer) (state : State) (h0 h1 : Option (List ℕ))
-    → ((line : List ℕ) → IsLine buffer line → (bytes : List ℕ) × (next : State) × Answers state line bytes next × Appends h0 h1 bytes)
-    → EndsWith IsOutput buffer state h0 h1
-EndsWith-reply buffer state h0 h1 reply = record {
+-- of the same that is kept
+pub EndsWith-same : {P : List ℕ → List ℕ → Type 0} {a b : List ℕ} {state : State}
+    {h0 h1 : Option (List ℕ)} → a ≡ b → EndsWith P a state h0 h1 → EndsWith P b state h0 h1
+EndsWith-same {P = P} {state = state} {h0 = h0} {h1 = h1} same ends =
+    subst (λ (kept : List ℕ). EndsWith P kept state h0 h1) same ends
+
+pub EndsWith-reply : (kept : List ℕ) (state : State) (h0 h1 : Option (List ℕ))
+    → ((line : List ℕ) → IsLine kept line → (bytes : List ℕ) × (next : State) × Answers state line bytes next × Appends h0 h1 bytes)
+    → EndsWith IsOutput kept state h0 h1
+EndsWith-reply kept state h0 h1 reply = record {
   ends = λ taken written p.
       let r = reply p.line p.is_line in (
         r.0,
         r.3,
         (
           p.supplies ++ r.2.0 ∷ [],
-          last_output taken written state buffer p r.0 r.1 r.2,
+          last_output taken written state kept p r.0 r.1 r.2,
           all_true
-              taken written state buffer p r.0 r.1 r.2,
+              taken written state kept p r.0 r.1 r.2,
         ),
       );
 }
 
-pub EndsWith-front : (buffer : LineBuffer) (state : State) (h0 h1 : Option (List ℕ))
-    → ((line : List ℕ) → IsLine buffer line → BeginsReply state line h0 h1)
-    → EndsWith IsBeginning buffer state h0 h1
-EndsWith-front buffer state h0 h1 reply = record {
+pub EndsWith-front : (kept : List ℕ) (state : State) (h0 h1 : Option (List ℕ))
+    → ((line : List ℕ) → IsLine kept line → BeginsReply state line h0 h1)
+    → EndsWith IsBeginning kept state h0 h1
+EndsWith-front kept state h0 h1 reply = record {
   ends = λ taken written p.
       let r = reply p.line p.is_line in (
         r.4.0,
@@ -251,17 +289,17 @@ EndsWith-front buffer state h0 h1 reply = record {
           r.1,
           append_assoc written r.4.0 r.1
               ∙ ap (λ o. written ++ o) r.4.1
-              ∙ last_output taken written state buffer p r.0 r.2 r.3,
+              ∙ last_output taken written state kept p r.0 r.2 r.3,
           all_true taken written state
-              buffer p r.0 r.2 r.3,
+              kept p r.0 r.2 r.3,
         ),
       );
 }
 
 -- What was answered is the output for the whole lines.
-pub whole_output : (taken written : List ℕ) (state : State) (buffer : LineBuffer)
-    → Progress taken written state buffer → IsWholeOutput taken written
-whole_output taken written state buffer p =
+pub whole_output : (taken written : List ℕ) (state : State) (kept : List ℕ)
+    → Progress taken written state kept → IsWholeOutput taken written
+whole_output taken written state kept p =
     let whole : whole_lines taken ≡ p.whole = ap whole_lines p.parts
     ∙ whole_lines-rest p.whole p.line p.is_whole p.no_feed in (
       p.supplies,
@@ -270,11 +308,11 @@ whole_output taken written state buffer p =
           (simp append-nil at (p.true_on [] [] tt)),
     )
 
-pub Runs-none : (state : State) (buffer : LineBuffer) (left held : Option (List ℕ))
-    → Progress [] [] state buffer → Runs state buffer left left held held
-Runs-none state buffer left held p = record { read = []; written = []; consumes = Consumes-none left; appends = Appends-none held; progress = p }
+pub Runs-none : (state : State) (kept : List ℕ) (left held : Option (List ℕ))
+    → Progress [] [] state kept → Runs state kept left left held held
+Runs-none state kept left held p = record { read = []; written = []; consumes = Consumes-none left; appends = Appends-none held; progress = p }
 
-pub Runs-feed : {s0 s1 : State} {b0 b1 : LineBuffer} {l0 l1 l2 h0 h1 h2 : Option (List ℕ)} (bytes : List ℕ)
+pub Runs-feed : {s0 s1 : State} {b0 b1 : List ℕ} {l0 l1 l2 h0 h1 h2 : Option (List ℕ)} (bytes : List ℕ)
     → Runs s0 b0 l0 l1 h0 h1 → Consumes l1 l2 bytes → Advances b0 s0 b1 s1 bytes h1 h2
     → Runs s1 b1 l0 l2 h0 h2
 Runs-feed {l0 = l0} {l1 = l1} {l2 = l2} {h0 = h0} {h1 = h1} {h2 = h2} bytes r taken more =
@@ -287,7 +325,7 @@ Runs-feed {l0 = l0} {l1 = l1} {l2 = l2} {h0 = h0} {h1 = h1} {h2 = h2} bytes r ta
       progress = a.2;
     }
 
-pub Runs-break : {s0 : State} {b0 : LineBuffer} {l0 l1 l2 h0 h1 h2 : Option (List ℕ)} (bytes : List ℕ)
+pub Runs-break : {s0 : State} {b0 : List ℕ} {l0 l1 l2 h0 h1 h2 : Option (List ℕ)} (bytes : List ℕ)
     → Runs s0 b0 l0 l1 h0 h1 → Consumes l1 l2 bytes → Breaks b0 s0 bytes h1 h2
     → Exchanges IsBeginning l0 l2 h0 h2
 Runs-break {l0 = l0} {l1 = l1} {l2 = l2} {h0 = h0} {h1 = h1} {h2 = h2} bytes r taken more =
@@ -300,7 +338,7 @@ Runs-break {l0 = l0} {l1 = l1} {l2 = l2} {h0 = h0} {h1 = h1} {h2 = h2} bytes r t
       related = simp append-nil at (a.2 []);
     }
 
-pub Runs-end : {s0 : State} {b0 : LineBuffer} {l0 l1 l2 h0 h1 h2 : Option (List ℕ)} (P : List ℕ → List ℕ → Type 0)
+pub Runs-end : {s0 : State} {b0 : List ℕ} {l0 l1 l2 h0 h1 h2 : Option (List ℕ)} (P : List ℕ → List ℕ → Type 0)
     → Runs s0 b0 l0 l1 h0 h1 → Consumes l1 l2 [] → EndsWith P b0 s0 h1 h2 → Exchanges P l0 l2 h0 h2
 Runs-end {l0 = l0} {l1 = l1} {l2 = l2} {h0 = h0} {h1 = h1} {h2 = h2} P r taken more =
     let a = more.ends r.read r.written r.progress in
@@ -313,7 +351,7 @@ Runs-end {l0 = l0} {l1 = l1} {l2 = l2} {h0 = h0} {h1 = h1} {h2 = h2} P r taken m
       related = a.2;
     }
 
-pub Runs-whole : {s0 : State} {b0 : LineBuffer} {l0 l1 l2 h0 h1 : Option (List ℕ)}
+pub Runs-whole : {s0 : State} {b0 : List ℕ} {l0 l1 l2 h0 h1 : Option (List ℕ)}
     → Runs s0 b0 l0 l1 h0 h1 → Keeps l1 l2 → Exchanges IsWholeOutput l0 l2 h0 h1
 Runs-whole {s0 = s0} {b0 = b0} {l0 = l0} {l1 = l1} {l2 = l2} r kept = record {
   read = r.read;
@@ -323,7 +361,7 @@ Runs-whole {s0 = s0} {b0 = b0} {l0 = l0} {l1 = l1} {l2 = l2} r kept = record {
   related = whole_output r.read r.written s0 b0 r.progress;
 }
 
-pub Runs-begins : {s0 : State} {b0 : LineBuffer} {l0 l1 l2 h0 h1 : Option (List ℕ)}
+pub Runs-begins : {s0 : State} {b0 : List ℕ} {l0 l1 l2 h0 h1 : Option (List ℕ)}
     → Runs s0 b0 l0 l1 h0 h1 → Keeps l1 l2 → Exchanges IsBeginning l0 l2 h0 h1
 Runs-begins {s0 = s0} {b0 = b0} {l0 = l0} {l1 = l1} {l2 = l2} r kept = record {
   read = r.read;

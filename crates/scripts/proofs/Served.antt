@@ -33,6 +33,20 @@ pub no_memory : (old : State) (asked : Asked) (fault : Fault) → fault ≡ OutO
     → IsRefused old asked fault old
 no_memory old asked fault is = inl (is, refl)
 
+-- ---- a report in room of its own
+
+module _ {B : Type 0} (value : B → Report) where
+  pub boxed_ok : (result : Result B Fault) (call : Result Report Fault) (P : Report → Type 0)
+      → IfOk result (λ report. call ≡ Ok (value report)) → IfOk call P
+      → IfOk result (λ report. P (value report))
+  boxed_ok (Ok report) call P is p = subst (λ (r : Result Report Fault). IfOk r P) is p
+  boxed_ok (Err fault) call P is p = tt
+
+  pub boxed_err : (result : Result B Fault) (call : Result Report Fault) (P : Fault → Type 0)
+      → IfErr result (λ fault. call ≡ Err fault) → IfErr call P → IfErr result P
+  boxed_err (Ok report) call P is p = tt
+  boxed_err (Err fault) call P is p = subst (λ (r : Result Report Fault). IfErr r P) is p
+
 -- ---- nothing failed
 
 no_items : {X : Type 0} (xs : List X) → length xs ≡ 0 → xs ≡ []

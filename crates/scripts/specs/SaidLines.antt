@@ -1,5 +1,6 @@
 -- Which answers are read-only, and what is said for an answer. Ours, unless a source stands beside.
 use Rattle.std.specs.Prelude.{◌≡◌, ℕ, List, [], Bool, true, false, not, ◌⊎◌, Option, Some, None}
+use Rattle.std.specs.Box.{box_value}
 use Rattle.std.specs.Cow.{cow_str_bytes}
 use Rattle.meta_types.specs.Steps.{answered, reported, refused}
 use Rattle.meta_types.specs.Questions.{LineAnswer, of_event, of_question}
@@ -28,7 +29,7 @@ IsSaid answer bytes =
 -- what is said, without its line feed
 abbrev pub said_bytes : Said → List ℕ
 said_bytes (Text text) = cow_str_bytes text
-said_bytes (Report report) = answer_text (reported report)
+said_bytes (Report report) = answer_text (reported (box_value report))
 
 -- the bytes that a reply is written as, where there is one
 abbrev pub reply_bytes : Option Said → List ℕ

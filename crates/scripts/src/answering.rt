@@ -1,14 +1,14 @@
 //! Answers one line of a script.
-ghost use Rattle.std.specs.Prelude.{◌≡◌, ◌≤◌, ◌<◌, length, true, IfOk, IfErr, OnErr, Option, Some, None};
-ghost use Rattle.std.specs.Cow.{cow_str_bytes};
+ghost use Rattle.std.specs.Prelude.{◌≡◌, ◌≤◌, ◌<◌, length, true, false, IfOk, IfErr, OnErr, Option, Some, None, string_bytes};
 ghost use Rattle.meta_types.specs.Faults.{Refuses};
 ghost use Rattle.meta_types.specs.Limits.{is_worker_count};
-ghost use Rattle.meta_types.specs.Steps.{refused};
-ghost use Rattle.meta_types.specs.declared.fault.Fault.TheVariants.{TooLong as too_long_fault};
-ghost use Rattle.meta_types.specs.Questions.{of_event};
+ghost use Rattle.meta_types.specs.Steps.{answered, refused};
+ghost use Rattle.meta_types.specs.declared.fault.Fault.TheVariants.{OutOfMemory as out_of_memory_fault, TooLong as too_long_fault};
+ghost use Rattle.meta_types.specs.Questions.{explains, foresees, of_event, of_question};
+ghost use Rattle.request_line.specs.Lines.{asked_in};
+ghost use Rattle.request_line.specs.Refusals.{IsUnread};
 ghost use Rattle.reply_line.specs.Replies.{answer_text};
-ghost use Rattle.reply_line.specs.Explained.{line_answer_text, told_of, told_text};
-ghost use Rattle.reply_line.specs.Foreseen.{impact_text};
+ghost use Rattle.reply_line.specs.Explained.{told_of};
 ghost use Rattle.scripts.specs.DryRuns.{is_dry_run};
 ghost use Rattle.scripts.specs.LineAnswers.{line_answer_of};
 ghost use Rattle.scripts.specs.LineSteps.{Supplied, line_step, IsLineAnswer, IsTrueAt};
@@ -21,8 +21,8 @@ use crate::said::Said;
 use crate::serving::do_asked;
 use gc_report::Impact;
 use meta_types::{Explanation, Fault, Reply};
-use reply_line::{Answer, explanation_text, impact_text, lent_text, refusal_text};
-use request_line::read_line;
+use reply_line::{explanation_text, impact_text, refusal_text, reply_text};
+use request_line::{Asked, read_line};
 use std::alloc::Global;
 use std::borrow::CowStr;
 use std::mem::drop;
@@ -30,6 +30,24 @@ use std::sync::Wait;
 use std::sync::ledger::Ledger;
 use std::thread::Threads;
 use store_front::{Keeps, MemLocked, Session};
+
+fn wants_memory(read: &Result<Asked, Fault>) -> bool {
+    matches!(read, Err(Fault::OutOfMemory))
+}
+
+// What a line asks for. Where memory refuses it, it gets the room that is kept for a line.
+fn read_asked(alloc: Global, line: &[u8], memory: &mut LineMemory) -> Result<Asked, Fault>
+    ensures ok { IfOk result (λ asked. asked_in line.now ≡ Some asked) }
+    ensures fault { IfErr result (λ fault. IsUnread (asked_in line.now) fault) }
+{
+    let read = read_line(alloc, line, &mut memory.scratch);
+    if !wants_memory(&read) {
+        return read;
+    }
+    drop(read);
+    memory.room.give_up(alloc);
+    read_line(alloc, line, &mut memory.scratch)
+}
 
 // What a line asks for, done.
 fn do_line<L: Ledger, K: Keeps, R: Threads + Wait + Sync>(
@@ -50,16 +68,8 @@ fn do_line<L: Ledger, K: Keeps, R: Threads + Wait + Sync>(
         (of_event (refused fault)) locked.new.store.state) }
     ensures opened { session.new.number < locked.new.opened }
 {
-    let asked = read_line(alloc, line, &mut memory.scratch)?;
-    do_asked(
-        locked,
-        rt,
-        alloc,
-        session,
-        asked,
-        workers,
-        &mut memory.reserve,
-    )
+    let asked = read_asked(alloc, line, memory)?;
+    do_asked(locked, rt, alloc, session, asked, workers, memory)
 }
 
 // The answer to a line that isn't empty.
@@ -81,79 +91,70 @@ fn line_outcome<L: Ledger, K: Keeps, R: Threads + Wait + Sync>(
 {
     match do_line(locked, rt, alloc, session, line, workers, memory) {
         Ok(answer) => answer,
-        Err(fault) => LineAnswer::Event(Answer::Refused(fault)),
+        Err(fault) => LineAnswer::Refused(fault),
     }
 }
 
-// Whether an answer is read-only, so that the store is as before.
-fn is_read_only(answer: &LineAnswer) -> bool
-    ensures { result ≡ is_read_only (line_answer_of answer.now) }
+// A text of what is read-only, or that memory refuses it.
+fn text_or_refusal(made: Result<String, Fault>) -> Said
+    ensures ok { IfOk made (λ text. said_bytes result ≡ string_bytes text) }
+    ensures err { OnErr made (said_bytes result ≡ answer_text (refused out_of_memory_fault)) }
+    ensures text { is_dry_run (Some result) ≡ false }
 {
-    match answer {
-        LineAnswer::Event(Answer::Replied(Reply::Done)) => false,
-        LineAnswer::Event(Answer::Replied(_)) => true,
-        LineAnswer::Event(Answer::Reported(report)) => report.dry,
-        LineAnswer::Event(Answer::Refused(_)) => false,
-        LineAnswer::Explained(_) => true,
-        LineAnswer::Foreseen(_) => true,
+    match made {
+        Ok(text) => Said::Text(CowStr::Owned(text)),
+        Err(_) => Said::Text(CowStr::Borrowed(refusal_text(Fault::OutOfMemory))),
     }
 }
 
-fn told_text(alloc: Global, explanation: &Explanation) -> Result<CowStr<'static, Global>, Fault>
-    ensures fault { Refuses result None }
-    ensures ok { IfOk result (λ text. cow_str_bytes text ≡ told_text (told_of explanation.now)) }
+// The text of a reply. Where it can't be made for one that names something, memory refuses the line.
+fn replied(alloc: Global, reply: &Reply) -> Said
+    ensures said { IsSaid (of_event (answered reply.now)) (said_bytes result) }
+    ensures text { is_dry_run (Some result) ≡ false }
 {
-    let text = explanation_text(alloc, explanation)?;
-    Ok(CowStr::Owned(text))
-}
-
-fn foreseen_text(alloc: Global, impact: &Impact) -> Result<CowStr<'static, Global>, Fault>
-    ensures fault { Refuses result None }
-    ensures ok { IfOk result (λ text. cow_str_bytes text ≡ impact_text impact.now) }
-{
-    let text = impact_text(alloc, impact)?;
-    Ok(CowStr::Owned(text))
-}
-
-fn text_of(alloc: Global, answer: &LineAnswer) -> Result<CowStr<'static, Global>, Fault>
-    ensures fault { Refuses result None }
-    ensures ok { IfOk result (λ text. cow_str_bytes text
-        ≡ line_answer_text (line_answer_of answer.now)) }
-{
-    match answer {
-        LineAnswer::Event(answer) => lent_text(alloc, answer),
-        LineAnswer::Explained(explanation) => told_text(alloc, explanation),
-        LineAnswer::Foreseen(impact) => foreseen_text(alloc, impact),
+    match reply_text(alloc, reply) {
+        Ok(text) => Said::Text(text),
+        Err(_) => Said::Text(CowStr::Borrowed(refusal_text(Fault::OutOfMemory))),
     }
 }
 
-// The text of an answer. Where it can't be made for one that is read-only, memory refuses the line.
-fn said_text(alloc: Global, answer: &LineAnswer) -> Result<CowStr<'static, Global>, Fault>
-    ensures fault { Refuses result None }
-    ensures ok { IfOk result (λ text. IsSaid (line_answer_of answer.now) (cow_str_bytes text)) }
+fn explained(alloc: Global, explanation: &Explanation) -> Said
+    ensures said { IsSaid (of_question (explains (told_of explanation.now))) (said_bytes result) }
+    ensures text { is_dry_run (Some result) ≡ false }
 {
-    if let Ok(text) = text_of(alloc, answer) {
-        return Ok(text);
-    }
-    if is_read_only(answer) {
-        return Ok(CowStr::Borrowed(refusal_text(Fault::OutOfMemory)));
-    }
-    Err(Fault::OutOfMemory)
+    text_or_refusal(explanation_text(alloc, explanation))
+}
+
+fn foreseen(alloc: Global, impact: &Impact) -> Said
+    ensures said { IsSaid (of_question (foresees impact.now)) (said_bytes result) }
+    ensures text { is_dry_run (Some result) ≡ false }
+{
+    text_or_refusal(impact_text(alloc, impact))
 }
 
 // What is written for an answer. A report needs no memory for its text.
-fn said(alloc: Global, answer: LineAnswer) -> Result<Said, Fault>
-    ensures fault { Refuses result None }
-    ensures ok { IfOk result (λ said. IsSaid (line_answer_of answer) (said_bytes said)) }
-    ensures dry { IfOk result (λ said. is_dry_run (Some said) ≡ true
-        → is_read_only (line_answer_of answer) ≡ true) }
+fn said(alloc: Global, answer: LineAnswer) -> Said
+    ensures said { IsSaid (line_answer_of answer) (said_bytes result) }
+    ensures dry { is_dry_run (Some result) ≡ true
+        → is_read_only (line_answer_of answer) ≡ true }
 {
     match answer {
-        LineAnswer::Event(Answer::Reported(report)) => Ok(Said::Report(report)),
-        answer => {
-            let text = said_text(alloc, &answer);
-            drop(answer);
-            Ok(Said::Text(text?))
+        LineAnswer::Replied(reply) => {
+            let said = replied(alloc, &reply);
+            drop(reply);
+            said
+        }
+        LineAnswer::Reported(report) => Said::Report(report),
+        LineAnswer::Refused(fault) => Said::Text(CowStr::Borrowed(refusal_text(fault))),
+        LineAnswer::Explained(explanation) => {
+            let said = explained(alloc, &explanation);
+            drop(explanation);
+            said
+        }
+        LineAnswer::Foreseen(impact) => {
+            let said = foreseen(alloc, &impact);
+            drop(impact);
+            said
         }
     }
 }
@@ -188,7 +189,7 @@ pub fn answer_line<L: Ledger, K: Keeps, R: Threads + Wait + Sync>(
     }
     let answer = line_outcome(locked, rt, alloc, session, line, workers, memory);
     take_in(&mut memory.reserve, alloc, &stored_in(locked), &answer);
-    Ok(Some(said(alloc, answer)?))
+    Ok(Some(said(alloc, answer)))
 }
 
 /// The reply to a line that is too long.

@@ -1,13 +1,15 @@
 //! The answers to lines.
 
-use gc_report::Impact;
-use meta_types::Explanation;
-use reply_line::Answer;
+use gc_report::{Impact, Report};
+use meta_types::{Explanation, Fault, Reply};
 
-/// The answer to a line: that of an event, what explains a row, or what would go without it.
+/// The answer to a line: that of a request, the report of a collection, a refusal, what explains a
+/// row, or what would go without it. A report lies apart, so that no answer is moved as one.
 #[derive(Drop)]
 pub enum LineAnswer {
-    Event(Answer),
+    Replied(Reply),
+    Reported(Box<Report>),
+    Refused(Fault),
     Explained(Explanation),
     Foreseen(Impact),
 }

@@ -2,6 +2,7 @@
 ghost use Rattle.std.specs.Prelude.{◌≡◌, None};
 ghost use Rattle.meta_types.specs.Faults.{Refuses};
 
+use crate::line_room::LineRoom;
 use json::Scratch;
 use meta_types::Fault;
 use reserve::Reserve;
@@ -10,10 +11,11 @@ use std::alloc::Global;
 // The bytes of the longest line that is read.
 const LONGEST: usize = 65536;
 
-/// What is kept for a collection, and room to read any line in.
+/// What is kept for a collection and for the next line, and room to read any line in.
 #[derive(Drop)]
 pub struct LineMemory {
     pub(crate) reserve: Reserve,
+    pub(crate) room: LineRoom,
     pub(crate) scratch: Scratch,
 }
 
@@ -26,7 +28,12 @@ impl LineMemory {
         let reserve = Reserve::open(alloc)?;
         let mut scratch = Scratch::new(alloc);
         scratch.reserve(LONGEST)?;
-        Ok(LineMemory { reserve, scratch })
+        let room = LineRoom::new(alloc);
+        Ok(LineMemory {
+            reserve,
+            room,
+            scratch,
+        })
     }
 
     /// From now on each addition is refused with 7, or none for this. So a service that has no room

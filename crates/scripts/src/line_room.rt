@@ -50,20 +50,52 @@ fn adds_nothing(request: &Request) -> bool {
     }
 }
 
-/// Room for a line beside a request that may add to the store, to be held until it is done, and
-/// beside what is kept for a collection. So no addition takes the last memory, without which no
-/// removal could be read, nor what a collection takes.
-pub fn room_beside(
+/// Room for a line, kept from one addition to the next.
+#[derive(Drop)]
+pub(crate) struct LineRoom {
+    block: Vec<u8>,
+}
+
+impl LineRoom {
+    /// None yet.
+    pub fn new(alloc: Global) -> LineRoom {
+        LineRoom {
+            block: Vec::new(alloc),
+        }
+    }
+
+    /// Takes it, where it isn't there.
+    fn hold(&mut self, alloc: Global) -> Result<(), Fault>
+        ensures fault { Refuses result None }
+    {
+        if self.block.capacity() == 0 {
+            self.block = Vec::with_capacity(alloc, LINE_ROOM)?;
+        }
+        Ok(())
+    }
+
+    /// Gives it up, to be taken again by the next addition.
+    pub fn give_up(&mut self, alloc: Global) {
+        self.block = Vec::new(alloc);
+    }
+}
+
+/// Room for a line beside a request that may add to the store, and beside what is kept for a
+/// collection. So no addition takes the last memory, without which no removal could be read, nor
+/// what a collection takes. Any other request gets the room.
+pub(crate) fn make_room(
     alloc: Global,
+    room: &mut LineRoom,
     reserve: &mut Reserve,
     stored: &Stored<'_>,
     request: &Request,
-) -> Result<Vec<u8>, Fault>
+) -> Result<(), Fault>
     ensures fault { Refuses result None }
 {
     if adds_nothing(request) {
-        return Ok(Vec::new(alloc));
+        room.give_up(alloc);
+        return Ok(());
     }
     reserve.hold(alloc, stored, request)?;
-    Ok(Vec::with_capacity(alloc, LINE_ROOM)?)
+    room.hold(alloc)
 }

@@ -3,7 +3,7 @@ ghost use Rattle.std.specs.Prelude.{◌≡◌, true};
 ghost use Rattle.meta_types.specs.Limits.{is_worker_count};
 
 use crate::line_answer::LineAnswer;
-use reply_line::Answer;
+use crate::line_memory::LineMemory;
 use request_line::Asked;
 use reserve::{Reserve, Stored, lists};
 use std::alloc::Global;
@@ -23,7 +23,7 @@ pub(crate) fn stored_in<L: Ledger, K: Keeps>(locked: &MemLocked<L, K>) -> Stored
 
 /// Gives up what is kept where the line collects, asks or lists. Answers how many workers collect.
 pub(crate) fn make_way(
-    reserve: &mut Reserve,
+    memory: &mut LineMemory,
     alloc: Global,
     stored: &Stored<'_>,
     asked: &Asked,
@@ -35,13 +35,14 @@ pub(crate) fn make_way(
     match asked {
         Asked::Request(request) => {
             if lists(request) {
-                reserve.give_up();
+                memory.reserve.give_up();
             }
             workers
         }
         _ => {
-            let workers = reserve.workers(alloc, stored, workers);
-            reserve.give_up();
+            memory.room.give_up(alloc);
+            let workers = memory.reserve.workers(alloc, stored, workers);
+            memory.reserve.give_up();
             workers
         }
     }
@@ -55,8 +56,8 @@ pub(crate) fn take_in(
     answer: &LineAnswer,
 ) {
     match answer {
-        LineAnswer::Event(Answer::Replied(_)) => reserve.settle(true),
-        LineAnswer::Event(Answer::Reported(report)) => {
+        LineAnswer::Replied(_) => reserve.settle(true),
+        LineAnswer::Reported(report) => {
             reserve.settle(false);
             if !report.dry {
                 let objects = report.kept.snapshots.saturating_add(report.kept.ingests);

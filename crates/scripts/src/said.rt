@@ -8,5 +8,5 @@ use std::borrow::CowStr;
 #[derive(Drop)]
 pub enum Said {
     Text(CowStr<'static, Global>),
-    Report(Report),
+    Report(Box<Report>),
 }

@@ -13,7 +13,7 @@ ghost use Rattle.scripts.specs.WholeScripts.{AnswersScript, AnswersWholeLines, B
 ghost use Rattle.scripts.specs.Progress.{IsLine, Answers, Advances, Breaks, Replies, BeginsReply, EndsWith, FollowsBlock, RunEnds};
 
 use crate::answering::too_long;
-use crate::line_buffer::LineBuffer;
+use crate::line_buffer::{LINE_LIMIT, MOST_KEPT, keep};
 use crate::lines::cut_line;
 use crate::said::Said;
 use crate::script_store::ScriptStore;
@@ -31,20 +31,21 @@ use std::thread::Threads;
 const READ_LIMIT: u64 = 1 << 62;
 
 // The reply to a line, also to one that is too long.
-fn buffered_reply<T: Threads + Wait + Sync, L: Ledger>(
+fn reply_to<T: Threads + Wait + Sync, L: Ledger>(
     rt: &T,
     alloc: Global,
     store: &mut ScriptStore<L>,
-    buffer: &LineBuffer,
+    line: &[u8],
 ) -> Result<Option<Said>, Fault>
-    ensures ok { IfOk result (λ reply. (line : List ℕ) →
-        IsLine buffer.now line → Answers store.old line (reply_bytes reply) store.new) }
+    ensures ok { IfOk result (λ reply. (all : List ℕ) → IsLine line.now all
+        → Answers store.old all (reply_bytes reply) store.new) }
     ensures fault { Refuses result None }
 {
-    if buffer.is_too_long {
+    if line.len() > LINE_LIMIT {
         return Ok(Some(too_long()));
     }
-    store.reply(rt, alloc, &buffer.bytes)
+    let reply = store.reply(rt, alloc, line)?;
+    Ok(reply)
 }
 
 // Writes the reply to a line.
@@ -52,40 +53,43 @@ fn write_reply<T: Threads + Wait + Sync, L: Ledger, W: Write>(
     rt: &T,
     alloc: Global,
     store: &mut ScriptStore<L>,
-    buffer: &LineBuffer,
     writer: &mut W,
+    line: &[u8],
 ) -> Result<(), Fault>
-    ensures ok { OnOk result ((line : List ℕ) → IsLine buffer.now line →
-        Replies store.old line store.new (W.contents writer.old) (W.contents writer.new)) }
-    ensures err { OnErr result ((line : List ℕ) → IsLine buffer.now line →
-        BeginsReply store.old line (W.contents writer.old) (W.contents writer.new)) }
+    ensures ok { OnOk result ((all : List ℕ) → IsLine line.now all →
+        Replies store.old all store.new (W.contents writer.old) (W.contents writer.new)) }
+    ensures err { OnErr result ((all : List ℕ) → IsLine line.now all →
+        BeginsReply store.old all (W.contents writer.old) (W.contents writer.new)) }
     ensures fault { IfErr result IsLateFault }
 {
-    match buffered_reply(rt, alloc, store, buffer)? {
+    match reply_to(rt, alloc, store, line)? {
         None => Ok(()),
         Some(said) => store.write(alloc, writer, &said),
     }
 }
 
-// Ends a line with the last piece of it.
+// Ends a line with the last piece of it. A line that is whole is answered where it lies.
 fn end_line<T: Threads + Wait + Sync, L: Ledger, W: Write>(
     rt: &T,
     alloc: Global,
     store: &mut ScriptStore<L>,
-    buffer: &mut LineBuffer,
+    kept: &mut Vec<u8>,
     writer: &mut W,
     piece: &[u8],
 ) -> Result<(), Fault>
     requires { list_any is_line_feed piece.now ≡ false }
-    ensures ok { OnOk result (Advances buffer.old store.old buffer.new store.new
+    ensures ok { OnOk result (Advances kept.old.items store.old kept.new.items store.new
         (piece.now ++ 10 ∷ []) (W.contents writer.old) (W.contents writer.new)) }
-    ensures err { OnErr result (Breaks buffer.old store.old (piece.now ++ 10 ∷ [])
+    ensures err { OnErr result (Breaks kept.old.items store.old (piece.now ++ 10 ∷ [])
         (W.contents writer.old) (W.contents writer.new)) }
     ensures fault { IfErr result IsLateFault }
 {
-    buffer.add(piece)?;
-    write_reply(rt, alloc, store, buffer, writer)?;
-    buffer.clear();
+    if kept.is_empty() {
+        return write_reply(rt, alloc, store, writer, piece);
+    }
+    keep(kept, piece)?;
+    write_reply(rt, alloc, store, writer, kept.as_slice())?;
+    kept.clear();
     Ok(())
 }
 
@@ -94,22 +98,22 @@ fn answer_lines<T: Threads + Wait + Sync, L: Ledger, W: Write>(
     rt: &T,
     alloc: Global,
     store: &mut ScriptStore<L>,
-    buffer: &mut LineBuffer,
+    kept: &mut Vec<u8>,
     writer: &mut W,
     bytes: &[u8],
 ) -> Result<(), Fault>
-    ensures ok { OnOk result (Advances buffer.old store.old buffer.new store.new bytes.now
-        (W.contents writer.old) (W.contents writer.new)) }
-    ensures err { OnErr result (Breaks buffer.old store.old bytes.now
+    ensures ok { OnOk result (Advances kept.old.items store.old kept.new.items store.new
+        bytes.now (W.contents writer.old) (W.contents writer.new)) }
+    ensures err { OnErr result (Breaks kept.old.items store.old bytes.now
         (W.contents writer.old) (W.contents writer.new)) }
     ensures fault { IfErr result IsLateFault }
 {
     let mut rest = bytes;
     while let Some((piece, later)) = cut_line(rest) {
-        end_line(rt, alloc, store, buffer, writer, piece)?;
+        end_line(rt, alloc, store, kept, writer, piece)?;
         rest = later;
     }
-    buffer.add(rest)
+    keep(kept, rest)
 }
 
 // Takes in the next bytes of a script, and flushes the replies to the lines that are whole now.
@@ -117,17 +121,17 @@ fn feed<T: Threads + Wait + Sync, L: Ledger, W: Write>(
     rt: &T,
     alloc: Global,
     store: &mut ScriptStore<L>,
-    buffer: &mut LineBuffer,
+    kept: &mut Vec<u8>,
     writer: &mut W,
     bytes: &[u8],
 ) -> Result<(), Fault>
-    ensures ok { OnOk result (Advances buffer.old store.old buffer.new store.new bytes.now
-        (W.contents writer.old) (W.contents writer.new)) }
-    ensures err { OnErr result (Breaks buffer.old store.old bytes.now
+    ensures ok { OnOk result (Advances kept.old.items store.old kept.new.items store.new
+        bytes.now (W.contents writer.old) (W.contents writer.new)) }
+    ensures err { OnErr result (Breaks kept.old.items store.old bytes.now
         (W.contents writer.old) (W.contents writer.new)) }
     ensures fault { IfErr result IsLateFault }
 {
-    answer_lines(rt, alloc, store, buffer, writer, bytes)?;
+    answer_lines(rt, alloc, store, kept, writer, bytes)?;
     flush(writer)
 }
 
@@ -136,16 +140,16 @@ fn finish<T: Threads + Wait + Sync, L: Ledger, W: Write>(
     rt: &T,
     alloc: Global,
     store: &mut ScriptStore<L>,
-    buffer: &LineBuffer,
+    kept: &[u8],
     writer: &mut W,
 ) -> Result<(), Fault>
-    ensures ok { OnOk result (EndsWith IsOutput buffer.now store.old
+    ensures ok { OnOk result (EndsWith IsOutput kept.now store.old
         (W.contents writer.old) (W.contents writer.new)) }
-    ensures err { OnErr result (EndsWith IsBeginning buffer.now store.old
+    ensures err { OnErr result (EndsWith IsBeginning kept.now store.old
         (W.contents writer.old) (W.contents writer.new)) }
     ensures fault { IfErr result IsLateFault }
 {
-    write_reply(rt, alloc, store, buffer, writer)?;
+    write_reply(rt, alloc, store, writer, kept)?;
     flush(writer)
 }
 
@@ -168,33 +172,46 @@ enum Run {
     HasEnded,
 }
 
+// What was read of a script: the last block, and the kept part of the line that it didn't end.
+#[derive(Drop)]
+struct Input {
+    block: [u8; 65536],
+    kept: Vec<u8>,
+}
+
 // Takes in the next bytes of a script, or ends the run where there are none.
 fn take_block<T: Threads + Wait + Sync, L: Ledger, R: Read, W: Write>(
     rt: &T,
     alloc: Global,
     store: &mut ScriptStore<L>,
-    buffer: &mut LineBuffer,
+    input: &mut Input,
     reader: &mut R,
     writer: &mut W,
 ) -> Result<Run, Fault>
-    ensures ok { IfOk result (λ run. FollowsBlock run store.old buffer.old store.new buffer.new
-        (R.remaining reader.old) (R.remaining reader.new)
+    ensures ok { IfOk result (λ run. FollowsBlock run store.old input.old.kept.items store.new
+        input.new.kept.items (R.remaining reader.old) (R.remaining reader.new)
         (W.contents writer.old) (W.contents writer.new)) }
     ensures read_failed { IsErrOf result Fault.ReadFailed →
-        RunEnds IsWholeOutput store.old buffer.old (R.remaining reader.old)
+        RunEnds IsWholeOutput store.old input.old.kept.items (R.remaining reader.old)
         (R.remaining reader.new) (W.contents writer.old) (W.contents writer.new) }
-    ensures err { OnErr result (RunEnds IsBeginning store.old buffer.old (R.remaining reader.old)
+    ensures err { OnErr result (RunEnds IsBeginning store.old input.old.kept.items (R.remaining reader.old)
         (R.remaining reader.new) (W.contents writer.old) (W.contents writer.new)) }
     ensures faults { IfErr result IsStartedFault }
 {
-    let mut bytes = [0u8; 4096];
-    match read_block(reader, &mut bytes) {
+    match read_block(reader, &mut input.block) {
         Ok(0) => {
-            finish(rt, alloc, store, buffer, writer)?;
+            finish(rt, alloc, store, input.kept.as_slice(), writer)?;
             Ok(Run::HasEnded)
         }
         Ok(count) => {
-            feed(rt, alloc, store, buffer, writer, &bytes[..count])?;
+            feed(
+                rt,
+                alloc,
+                store,
+                &mut input.kept,
+                writer,
+                &input.block[..count],
+            )?;
             Ok(Run::GoesOn)
         }
         Err(fault) => Err(fault),
@@ -228,10 +245,14 @@ fn run_named<L: Ledger, T: Threads + Wait + Sync, R: Read, W: Write>(
         (R.remaining reader.new) (W.contents writer.old) (W.contents writer.new)) }
     ensures faults { IfErr result IsStartedFault }
 {
-    let mut buffer = LineBuffer::new(alloc)?;
+    let kept = Vec::with_capacity(alloc, MOST_KEPT)?;
+    let mut input = Input {
+        block: [0; 65536],
+        kept,
+    };
     let mut store = ScriptStore::<L>::open(alloc, blank, workers)?;
     'reads: for _ in 1..READ_LIMIT {
-        match take_block(rt, alloc, &mut store, &mut buffer, reader, writer) {
+        match take_block(rt, alloc, &mut store, &mut input, reader, writer) {
             Ok(Run::GoesOn) => {}
             Ok(Run::HasEnded) => {
                 leave(store);

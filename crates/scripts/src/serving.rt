@@ -1,5 +1,7 @@
 //! Does what a line asks for: a request, a collection, a removal with one, or a question.
-ghost use Rattle.std.specs.Prelude.{◌≡◌, ◌<◌, IfOk, IfErr, true};
+ghost use Rattle.std.specs.Prelude.{◌≡◌, ◌<◌, IfOk, IfErr, Ok, Err, None, true};
+ghost use Rattle.std.specs.Box.{box_value};
+ghost use Rattle.meta_types.specs.Faults.{Refuses};
 ghost use Rattle.meta_types.specs.Limits.{is_worker_count};
 ghost use Rattle.meta_types.specs.Steps.{answered, reported};
 ghost use Rattle.meta_types.specs.Questions.{explains, foresees, of_event, of_question};
@@ -9,15 +11,14 @@ ghost use Rattle.scripts.specs.LineAnswers.{line_answer_of};
 ghost use Rattle.scripts.specs.Served.{IsServed, IsRefused};
 
 use crate::line_answer::LineAnswer;
-use crate::line_room::room_beside;
+use crate::line_memory::LineMemory;
+use crate::line_room::make_room;
 use crate::reserving::{make_way, stored_in};
 use backend_sweep::OpenSweepGate;
 use gc_labels::read_instant;
 use gc_report::{Impact, Report};
 use meta_types::{Explanation, Fault, Object, RawText, Removal, Reply, Request, ShortName};
-use reply_line::Answer;
 use request_line::Asked;
-use reserve::Reserve;
 use std::alloc::Global;
 use std::mem::drop;
 use std::sync::Wait;
@@ -32,7 +33,7 @@ fn do_request<L: Ledger, K: Keeps>(
     alloc: Global,
     session: &mut Session<L>,
     request: Request,
-    reserve: &mut Reserve,
+    memory: &mut LineMemory,
 ) -> Result<Reply, Fault>
     requires { session.old.number < locked.old.opened }
     ensures ok { IfOk result (λ reply. IsServed locked.old.store.state (A.Request request)
@@ -41,18 +42,42 @@ fn do_request<L: Ledger, K: Keeps>(
         fault locked.new.store.state) }
     ensures opened { session.new.number < locked.new.opened }
 {
-    let Ok(room) = room_beside(alloc, reserve, &stored_in(locked), &request) else {
+    let stored = stored_in(locked);
+    let Ok(()) = make_room(
+        alloc,
+        &mut memory.room,
+        &mut memory.reserve,
+        &stored,
+        &request,
+    ) else {
         drop(request);
         return Err(Fault::OutOfMemory);
     };
     locked.never_failed();
     let reply = locked.apply(alloc, session, request);
     locked.never_failed();
-    drop(room);
     reply
 }
 
-// Collects at a moment, where the text is one.
+// Room for a report; the one that stands there is empty.
+fn report_room(alloc: Global) -> Result<Box<Report>, Fault>
+    ensures { Refuses result None }
+{
+    Ok(Box::new(alloc, Report::new(alloc, true, 1))?)
+}
+
+// The report of a call, in this room.
+fn boxed(room: Box<Report>, report: Result<Report, Fault>) -> Result<Box<Report>, Fault>
+    ensures ok { IfOk result (λ boxed. report ≡ Ok (box_value boxed)) }
+    ensures err { IfErr result (λ fault. report ≡ Err fault) }
+{
+    let report = report?;
+    let mut room = room;
+    let _empty = Box::replace(&mut room, report);
+    Ok(room)
+}
+
+// Collects at a moment, where the text is one. Room for the report is made before anything goes.
 fn collect<L: Ledger, K: Keeps, R: Threads + Wait + Sync>(
     locked: &mut MemLocked<L, K>,
     rt: &R,
@@ -61,11 +86,11 @@ fn collect<L: Ledger, K: Keeps, R: Threads + Wait + Sync>(
     at: &RawText,
     dry: bool,
     workers: usize,
-) -> Result<Report, Fault>
+) -> Result<Box<Report>, Fault>
     requires opened { session.old.number < locked.old.opened }
     requires workers { is_worker_count workers ≡ true }
     ensures ok { IfOk result (λ report. IsServed locked.old.store.state (A.Collect at.now dry)
-        (of_event (reported report)) locked.new.store.state) }
+        (of_event (reported (box_value report))) locked.new.store.state) }
     ensures err { IfErr result (λ fault. IsRefused locked.old.store.state (A.Collect at.now dry)
         fault locked.new.store.state) }
     ensures opened { session.new.number < locked.new.opened }
@@ -73,6 +98,7 @@ fn collect<L: Ledger, K: Keeps, R: Threads + Wait + Sync>(
     let Some(at) = read_instant(at.text()) else {
         return Err(Fault::InvalidArgument);
     };
+    let room = report_room(alloc)?;
     locked.never_failed();
     let report = locked.collect(
         rt,
@@ -85,7 +111,7 @@ fn collect<L: Ledger, K: Keeps, R: Threads + Wait + Sync>(
         &OpenSweepGate,
     );
     locked.never_failed();
-    report
+    boxed(room, report)
 }
 
 // Removes an image or a lease, and collects at a moment, where the text is one.
@@ -97,11 +123,11 @@ fn remove<L: Ledger, K: Keeps, R: Threads + Wait + Sync>(
     removal: Removal,
     at: &RawText,
     workers: usize,
-) -> Result<Report, Fault>
+) -> Result<Box<Report>, Fault>
     requires opened { session.old.number < locked.old.opened }
     requires workers { is_worker_count workers ≡ true }
     ensures ok { IfOk result (λ report. IsServed locked.old.store.state
-        (A.Remove removal at.now) (of_event (reported report)) locked.new.store.state) }
+        (A.Remove removal at.now) (of_event (reported (box_value report))) locked.new.store.state) }
     ensures err { IfErr result (λ fault. IsRefused locked.old.store.state
         (A.Remove removal at.now) fault locked.new.store.state) }
     ensures opened { session.new.number < locked.new.opened }
@@ -109,6 +135,7 @@ fn remove<L: Ledger, K: Keeps, R: Threads + Wait + Sync>(
     let Some(at) = read_instant(at.text()) else {
         return Err(Fault::InvalidArgument);
     };
+    let room = report_room(alloc)?;
     locked.never_failed();
     let report = locked.remove_collect(
         rt,
@@ -121,7 +148,7 @@ fn remove<L: Ledger, K: Keeps, R: Threads + Wait + Sync>(
         &OpenSweepGate,
     );
     locked.never_failed();
-    report
+    boxed(room, report)
 }
 
 // Tells what keeps a row at a moment, where the texts are allowed.
@@ -181,7 +208,7 @@ pub fn do_asked<L: Ledger, K: Keeps, R: Threads + Wait + Sync>(
     session: &mut Session<L>,
     asked: Asked,
     workers: usize,
-    reserve: &mut Reserve,
+    memory: &mut LineMemory,
 ) -> Result<LineAnswer, Fault>
     requires opened { session.old.number < locked.old.opened }
     requires workers { is_worker_count workers ≡ true }
@@ -191,19 +218,19 @@ pub fn do_asked<L: Ledger, K: Keeps, R: Threads + Wait + Sync>(
         locked.new.store.state) }
     ensures opened { session.new.number < locked.new.opened }
 {
-    let workers = make_way(reserve, alloc, &stored_in(locked), &asked, workers);
+    let workers = make_way(memory, alloc, &stored_in(locked), &asked, workers);
     match asked {
         Asked::Request(asked) => {
-            let reply = do_request(locked, alloc, session, asked, reserve)?;
-            Ok(LineAnswer::Event(Answer::Replied(reply)))
+            let reply = do_request(locked, alloc, session, asked, memory)?;
+            Ok(LineAnswer::Replied(reply))
         }
         Asked::Collect { at, dry } => {
             let report = collect(locked, rt, alloc, session, &at, dry, workers)?;
-            Ok(LineAnswer::Event(Answer::Reported(report)))
+            Ok(LineAnswer::Reported(report))
         }
         Asked::Remove { removal, at } => {
             let report = remove(locked, rt, alloc, session, removal, &at, workers)?;
-            Ok(LineAnswer::Event(Answer::Reported(report)))
+            Ok(LineAnswer::Reported(report))
         }
         Asked::Explain {
             ns,

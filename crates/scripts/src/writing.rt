@@ -41,7 +41,7 @@ pub fn write_said<W: Write>(
 {
     match said {
         Said::Text(text) => write_line(writer, text.as_str()),
-        Said::Report(report) => write_report(writer, alloc, block, report),
+        Said::Report(report) => write_report(writer, alloc, block, report.as_ref()),
     }
 }
 

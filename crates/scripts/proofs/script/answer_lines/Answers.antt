@@ -1,11 +1,15 @@
 use Rattle.std.proofs.Common.{◌≡◌, ◌∙◌, ap, sym, refl, ◌++◌, ◌∷◌, [], List, ℕ, append_assoc}
 use Rattle.std.proofs.lemmas.Result.{on_ok_weaker}
-use Rattle.scripts.proofs.Runs.{Advances-piece, Advances-append, Breaks-after, Breaks-more, Breaks-none}
+use Rattle.scripts.proofs.Runs.{Advances-none, Advances-piece, Advances-append, Breaks-after, Breaks-more, Breaks-none}
 use Rattle.scripts.proofs.Writers.{holds_on_err}
 use Rattle.scripts.proofs.script.answer_lines.Goals as goal
 
 regroup : (done piece later rest all : List ℕ) → done ++ rest ≡ all → rest ≡ piece ++ 10 ∷ later → (done ++ (piece ++ 10 ∷ [])) ++ later ≡ all
 regroup done piece later rest all e f = simp append_assoc (ap (λ r. done ++ r) (sym f) ∙ e)
+
+-- nothing is taken in yet
+pub loop-piece-init : goal.loop-piece-init
+loop-piece-init g c = ([], refl, Advances-none c.args.kept.now.items c.args.store.now _)
 
 pub returns-in_err-end_line-clause-err : goal.returns-in_err-end_line-clause-err
 returns-in_err-end_line-clause-err g c =
@@ -26,9 +30,9 @@ loop-piece-preserved g c =
 pub returns-clause-ok : goal.returns-clause-ok
 returns-clause-ok g c =
     let i = c.loop-piece.invariant in
-    on_ok_weaker c.add.result (λ add. Advances-append c.args.bytes.now i.1 i.2 (Advances-piece _ _ _ c.loop-piece.rest.now _ add c.in_default.ensures.none)) c.add.ensures.ok
+    on_ok_weaker c.keep.result (λ add. Advances-append c.args.bytes.now i.1 i.2 (Advances-piece _ _ _ c.loop-piece.rest.now _ add c.in_default.ensures.none)) c.keep.ensures.ok
 
 pub returns-clause-err : goal.returns-clause-err
 returns-clause-err g c =
     let i = c.loop-piece.invariant in
-    holds_on_err c.add.result (Breaks-after c.args.bytes.now i.1 i.2 (Breaks-none _ _ c.loop-piece.rest.now _))
+    holds_on_err c.keep.result (Breaks-after c.args.bytes.now i.1 i.2 (Breaks-none _ _ c.loop-piece.rest.now _))

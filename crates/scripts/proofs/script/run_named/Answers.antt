@@ -1,11 +1,11 @@
-use Rattle.std.proofs.Common.{◌∙◌, ap, Err}
+use Rattle.std.proofs.Common.{◌∙◌, ap, take, Err}
 use Rattle.scripts.proofs.Runs.{Progress-empty, Runs-none, Runs-whole, Runs-begins, Exchanges-none}
 use Rattle.scripts.proofs.Writers.{holds_on_err, Keeps-same}
 use Rattle.scripts.proofs.script.run_named.Goals as goal
 
 -- there was no room for a line, and nothing was read
-pub returns-in_err-buffer-clause-err : goal.returns-in_err-buffer-clause-err
-returns-in_err-buffer-clause-err g c = holds_on_err c.from_residual.result (Exchanges-none _ _)
+pub returns-in_err-kept-clause-err : goal.returns-in_err-kept-clause-err
+returns-in_err-kept-clause-err g c = holds_on_err c.from_residual.result (Exchanges-none _ _)
 
 -- the store couldn't be opened, and nothing was read
 pub returns-in_err-store-clause-err : goal.returns-in_err-store-clause-err
@@ -13,7 +13,7 @@ returns-in_err-store-clause-err g c =
     holds_on_err c.from_residual-in_err-store.result (Exchanges-none _ _)
 
 pub reads-init : goal.reads-init
-reads-init g c = Runs-none _ _ _ _ (rw c.in_ok-store.ensures.ok (Progress-empty _ c.in_ok-buffer.ensures.ok))
+reads-init g c = Runs-none _ _ _ _ (rw c.in_ok-store.ensures.ok (Progress-empty _ (ap (take 65537) c.in_ok-kept.ensures.items)))
 
 pub returns-clause-read_failed : goal.returns-clause-read_failed
 returns-clause-read_failed g c = λ e. Runs-whole c.reads.invariant (Keeps-same _)

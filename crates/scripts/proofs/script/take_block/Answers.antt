@@ -1,13 +1,13 @@
 use Rattle.std.proofs.Common.{arith}
 use Rattle.scripts.specs.Output.{IsOutput, IsBeginning}
-use Rattle.scripts.proofs.Runs.{Runs-feed, Runs-break, Runs-end, Runs-whole, Runs-begins}
+use Rattle.scripts.proofs.Runs.{EndsWith-same, Runs-feed, Runs-break, Runs-end, Runs-whole, Runs-begins}
 use Rattle.scripts.proofs.Writers.{holds_on_err}
 use Rattle.scripts.proofs.script.take_block.Goals as goal
 
 -- the last line was refused, or its reply not written
 pub returns-in_err-finish-in-Ok-eq0-clause-err : goal.returns-in_err-finish-in-Ok-eq0-clause-err
 returns-in_err-finish-in-Ok-eq0-clause-err g c = holds_on_err c.from_residual.result (λ left held run.
-    Runs-end IsBeginning run (rw c.in-Ok-eq0.field-0-test at c.in-Ok-eq0.ensures.bytes.0) c.in_err-finish-in-Ok-eq0.ensures.err)
+    Runs-end IsBeginning run (rw c.in-Ok-eq0.field-0-test at c.in-Ok-eq0.ensures.bytes.0) (EndsWith-same c.as_slice.ensures.value c.in_err-finish-in-Ok-eq0.ensures.err))
 
 -- a line before wasn't answered
 pub returns-in_err-feed-in-Ok-clause-err : goal.returns-in_err-feed-in-Ok-clause-err
@@ -19,7 +19,7 @@ pub returns-in_ok-finish-in-Ok-eq0-clause-ok : goal.returns-in_ok-finish-in-Ok-e
 returns-in_ok-finish-in-Ok-eq0-clause-ok g c = (
   c.in-Ok-eq0.ensures.bytes.1 c.in-Ok-eq0.field-0-test (omega arith),
   λ left held run.
-      Runs-end IsOutput run (rw c.in-Ok-eq0.field-0-test at c.in-Ok-eq0.ensures.bytes.0) c.in_ok-finish-in-Ok-eq0.ensures.ok,
+      Runs-end IsOutput run (rw c.in-Ok-eq0.field-0-test at c.in-Ok-eq0.ensures.bytes.0) (EndsWith-same c.as_slice.ensures.value c.in_ok-finish-in-Ok-eq0.ensures.ok),
 )
 
 -- the lines that are whole now are answered

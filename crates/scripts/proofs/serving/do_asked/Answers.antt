@@ -1,4 +1,5 @@
 use Rattle.std.proofs.Common.{sym, subst}
+use Rattle.std.specs.Box.{box_value}
 use Rattle.meta_types.specs.Steps.{reported}
 use Rattle.meta_types.specs.Questions.{explains, foresees, of_event, of_question}
 use Rattle.request_line.specs.declared.asked.Asked.{Asked}
@@ -19,7 +20,7 @@ returns-in_err-report-in-Remove-clause-err g c =
 pub returns-in_ok-report-in-Remove-clause-ok : goal.returns-in_ok-report-in-Remove-clause-ok
 returns-in_ok-report-in-Remove-clause-ok g c =
     subst (λ (asked : Asked). IsServed c.args.locked.now.store.state asked
-    (of_event (reported c.in_ok-report-in-Remove.report)) c.remove.new.locked.store.state)
+    (of_event (reported (box_value c.in_ok-report-in-Remove.report))) c.remove.new.locked.store.state)
     (sym c.in-Remove.is)
     c.in_ok-report-in-Remove.ensures.ok
 
