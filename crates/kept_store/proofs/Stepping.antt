@@ -2,6 +2,7 @@
 use Rattle.std.proofs.Common.{◌≡◌, ◌∙◌, ap, sym, refl, ℕ, ◌<◌, ◌==◌, List, [], ◌∷◌, ◌++◌, length, Bool, true, false, Option, Some, None}
 use Rattle.std.proofs.lemmas.Bool.{false≢true, cases_Bool}
 use Rattle.std.specs.Prelude.{not}
+use Rattle.std.specs.Box.{box_value}
 use Rattle.meta_types.specs.Rows.{State}
 use Rattle.meta_types.specs.Steps.{refused, reported}
 use Rattle.meta_types.specs.declared.fault.Fault.TheVariants.{OutOfMemory, TooLong}
@@ -37,13 +38,13 @@ answered_steps state new line (Some (Text text)) step dry =
     )
 answered_steps state new line (Some (Report report)) step dry =
     let moves = line_moves state new step.0 line (said_bytes (Report report)) step.1 in
-    let shows = report_shows report in (
+    let shows = report_shows (box_value report) in (
       step,
       (λ log. (
         raises_none state new step.0 line (said_bytes (Report report)) step.1 shows,
         moves.0 shows,
       )),
-      λ none. dry (not_false report.dry none),
+      λ none. dry (not_false (box_value report).dry none),
     )
   where
     not_false : (b : Bool) → not b ≡ false → b ≡ true

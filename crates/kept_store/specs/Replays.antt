@@ -1,5 +1,6 @@
 -- What a store is after lines, and which lines are logged.
 use Rattle.std.specs.Prelude.{◌≡◌, ℕ, ◌==◌, ◌&&◌, ◌||◌, not, List, [], ◌∷◌, length, slice_index, filter, Bool, true, false, Option, Some, None}
+use Rattle.std.specs.Box.{box_value}
 use Rattle.std.specs.Cow.{cow_str_bytes}
 use Rattle.std.specs.Option.{option_map_or}
 use Rattle.meta_types.specs.Rows.{State}
@@ -35,7 +36,7 @@ shows_change text = slice_index text 2 == 111
 abbrev pub is_logged : Option Said → Bool
 is_logged None = false
 is_logged (Some (Text text)) = shows_change (cow_str_bytes text)
-is_logged (Some (Report report)) = not report.dry
+is_logged (Some (Report report)) = not (box_value report).dry
 
 -- the lines that aren't commit lines
 abbrev pub requests_among : List (List ℕ) → List (List ℕ)

@@ -53,7 +53,7 @@ fn put_said(out: &mut Vec<u8>, alloc: Global, block: &mut Vec<u8>, said: &Said) 
 {
     match said {
         Said::Text(text) => put_line(out, text.as_str().as_bytes()),
-        Said::Report(report) => put_report(out, alloc, block, report),
+        Said::Report(report) => put_report(out, alloc, block, report.as_ref()),
     }
 }
 
