@@ -1,6 +1,7 @@
 //! A writer that hands its bytes on in blocks.
 ghost use Rattle.std.specs.Prelude.{◌≡◌, ◌≤◌, [], length, take, drop, vec_len, IfOk, OnOk};
-ghost use Rattle.std.specs.Io.KnownBytes.{Appends, Keeps};
+ghost use Rattle.std.specs.Io.{WritesAtMost};
+ghost use Rattle.std.specs.Io.KnownBytes.{Appends, Keeps, WriteAppends};
 ghost use Rattle.metad.specs.Blocks.{inner_of, kept_back, contents_of};
 
 use std::alloc::{AllocError, Global};
@@ -10,7 +11,7 @@ use std::io::{self, Write};
 const BLOCK: usize = 8192;
 
 /// Keeps bytes back until there is a block of them, or it is flushed. A write that takes less than
-/// it is given is followed by one of the rest. A write that fails, also one that is interrupted,
+/// it is given is followed by one of the rest. What is no smaller than a block isn't kept back. A write that fails, also one that is interrupted,
 /// fails here too, where the library's buffer would try an interrupted one again; what it left
 /// unwritten is kept back as before, and what it took is kept back no more.
 #[derive(Drop)]
@@ -68,6 +69,18 @@ impl<W: Write + Drop> Blocks<W> {
         result
     }
 
+    // Hands on what was kept back, and then of these bytes as many as the writer takes at once.
+    fn write_through(&mut self, buf: &[u8]) -> io::Result<usize>
+        ensures bound { WritesAtMost result buf.now }
+        ensures bytes { WriteAppends (contents_of W.contents self.old)
+            (contents_of W.contents self.new) result buf.now }
+    {
+        match self.hand_on() {
+            Ok(()) => self.writer.write(buf),
+            Err(error) => Err(error),
+        }
+    }
+
     // Hands a block on that is full.
     fn make_room(&mut self) -> io::Result<()>
         ensures { Keeps (contents_of W.contents self.old) (contents_of W.contents self.new) }
@@ -84,6 +97,9 @@ impl<W: Write + Drop> Write for Blocks<W> {
     ghost contents = { contents_of W.contents };
 
     fn write(&mut self, buf: &[u8]) -> io::Result<usize> {
+        if buf.len() >= BLOCK {
+            return self.write_through(buf);
+        }
         self.make_room()?;
         let room = BLOCK.saturating_sub(self.bytes.len());
         let count = room.min(buf.len());

@@ -71,3 +71,32 @@ fn each_byte_is_handed_on_once(rt: HostRuntime) -> Result<(), Fail> {
     }
     Ok(())
 }
+
+// Writes six bytes, and then all of these at once. Says how many of them were taken.
+fn hand_on_at_once(alloc: Global, bytes: &[u8], writer: &mut Narrow) -> io::Result<usize> {
+    let mut blocks = Blocks::new(alloc, writer)?;
+    let _first = blocks.write(b"before")?;
+    blocks.write(bytes)
+}
+
+// How many of so many bytes are taken at once, and how many the writer got by then.
+fn gets_at_once(alloc: Global, length: usize, most: usize) -> io::Result<(usize, usize)> {
+    let mut bytes = Vec::new(alloc);
+    bytes.resize(length, b'a')?;
+    let mut writer = Narrow {
+        bytes: Vec::new(alloc),
+        most,
+        room: 20000,
+    };
+    let taken = hand_on_at_once(alloc, &bytes, &mut writer)?;
+    Ok((taken, writer.bytes.len()))
+}
+
+#[test]
+fn a_large_write_is_not_kept_back(rt: HostRuntime) -> Result<(), Fail> {
+    let alloc = rt.alloc();
+    assert!(rt; gets_at_once(alloc, 8191, 20000)? == (8186, 0));
+    assert!(rt; gets_at_once(alloc, 8192, 20000)? == (8192, 8198));
+    assert!(rt; gets_at_once(alloc, 15000, 10000)? == (10000, 10006));
+    Ok(())
+}
