@@ -1,3 +1,2 @@
 pub mod Adding
-mod LeftOut
 mod Among

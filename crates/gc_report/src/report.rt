@@ -1,14 +1,11 @@
 //! The report of a collection.
 ghost use Rattle.std.specs.Prelude.{◌≡◌};
-ghost use Rattle.gc_report.specs.Reports.{report_data};
 ghost use Rattle.gc_report.specs.Empty.{empty_report};
 
 use crate::objects::Objects;
 use crate::rows::{Kept, Removed};
-use crate::writing::{WriteJson, write_member, write_member_if};
-use json::Writer;
 use meta_types::{Name, ShortName};
-use std::alloc::{AllocError, Global};
+use std::alloc::Global;
 use std::marker::Model;
 
 /// What a collection did, or what a dry run would do. In profile 2 images may expire, and it names
@@ -60,25 +57,5 @@ impl Report {
             removed: Removed::new(alloc),
             scanned: 0,
         }
-    }
-}
-
-// Its compact text is that of a reply's report.
-impl WriteJson for Report {
-    ghost as_data = { report_data };
-
-    fn write(&self, out: &mut Writer) -> Result<(), AllocError> {
-        let with_images = self.profile == 2;
-        out.begin_object()?;
-        write_member(out, "backend", &self.backend)?;
-        write_member(out, "dry", &self.dry)?;
-        write_member(out, "failed", &self.failed)?;
-        write_member(out, "ignored", &self.ignored)?;
-        write_member_if(out, with_images, "ignored_images", &self.ignored_images)?;
-        write_member(out, "kept", &self.kept)?;
-        out.key("removed")?;
-        self.removed.write(out, with_images)?;
-        write_member(out, "scanned", &self.scanned)?;
-        out.end_object()
     }
 }

@@ -1,10 +1,9 @@
 //! How many rows remain, and which were removed.
-ghost use Rattle.std.specs.Prelude.{◌≡◌, OnOk};
-ghost use Rattle.gc_report.specs.Reports.{kept_data, removed_data};
+ghost use Rattle.std.specs.Prelude.{◌≡◌};
+ghost use Rattle.gc_report.specs.Reports.{kept_data};
 ghost use Rattle.gc_report.specs.Empty.{no_rows, none_kept};
-ghost use Rattle.gc_report.specs.Writing.{tokens_of, Adds};
 
-use crate::writing::{WriteJson, write_member, write_member_if};
+use crate::writing::{WriteJson, write_member};
 use json::Writer;
 use meta_types::{Digest, Name, ShortName};
 use std::alloc::{AllocError, Global};
@@ -117,19 +116,5 @@ impl Removed {
             leases: Vec::new(alloc),
             snapshots: Vec::new(alloc),
         }
-    }
-
-    // Writes them, with images or without.
-    pub(crate) fn write(&self, out: &mut Writer, with_images: bool) -> Result<(), AllocError>
-        ensures { OnOk result (Adds out.old out.new
-            (tokens_of (removed_data with_images self.now))) }
-    {
-        out.begin_object()?;
-        write_member(out, "content", &self.content)?;
-        write_member_if(out, with_images, "images", &self.images)?;
-        write_member(out, "ingests", &self.ingests)?;
-        write_member(out, "leases", &self.leases)?;
-        write_member(out, "snapshots", &self.snapshots)?;
-        out.end_object()
     }
 }

@@ -1,5 +1,5 @@
 //! Values written as JSON, straight into a text.
-ghost use Rattle.std.specs.Prelude.{[], OnOk, if◌then◌else◌};
+ghost use Rattle.std.specs.Prelude.{OnOk};
 ghost use Rattle.serde_json.specs.Data.{Data, boolean, string, array, item, no_items};
 ghost use Rattle.meta_types.specs.Listings.{listed_text};
 ghost use Rattle.gc_report.specs.Reports.{count_data, list_data};
@@ -118,21 +118,4 @@ pub fn write_member<T: WriteJson>(out: &mut Writer, key: &str, value: &T) -> Res
 {
     out.key(key)?;
     value.write(out)
-}
-
-// Writes a member, or leaves it out.
-pub(crate) fn write_member_if<T: WriteJson>(
-    out: &mut Writer,
-    written: bool,
-    key: &str,
-    value: &T,
-) -> Result<(), AllocError>
-    ensures { OnOk result (Adds out.old out.new
-        (if written then member_tokens key.now (T.as_data value.now) else [])) }
-{
-    if written {
-        write_member(out, key, value)
-    } else {
-        Ok(())
-    }
 }
