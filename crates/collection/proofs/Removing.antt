@@ -11,12 +11,9 @@ use Rattle.meta_types.specs.Faults.{least_of}
 use Rattle.meta_types.specs.Limits.{is_worker_count, is_too_large}
 use Rattle.meta_types.specs.Rows.{Records, BackLists, State}
 use Rattle.meta_types.specs.Requests.{removal_outcome}
-use Rattle.meta_types.specs.Sound.{IsSound}
-use Rattle.meta_types.specs.Steps.{remove_collect_fault, collect_fault}
+use Rattle.meta_types.specs.Steps.{remove_collect_fault}
 use Rattle.meta_types.specs.declared.request.Removal.{Removal}
 use Rattle.meta_types.specs.declared.request.Removal.TheVariants as R
-use Rattle.request_core.proofs.StepSound.{after_image_remove}
-use Rattle.request_core.proofs.ContentSound.{after_lease_remove}
 use Rattle.collection.specs.Removing.{is_readable, named_in, is_missing, without}
 use Rattle.collection.specs.declared.removal.Named.{Named}
 use Rattle.collection.specs.declared.removal.Named.TheVariants as N
@@ -44,18 +41,6 @@ pub after_is : (records : Records) (backends : BackLists) (removal : Removal)
 after_is records backends (R.Image image) = refl
 after_is records backends (R.Lease lease) = refl
 
--- it is sound
-pub sound_without : (state : State) (removal : Removal) → IsSound state
-    → IsSound (removal_outcome state removal).after
-sound_without state (R.Image image) s = after_image_remove state image s
-sound_without state (R.Lease lease) s = after_lease_remove state lease s
-
--- an image or a lease isn't counted, so a removal leaves the count
-pub as_large : (records : Records) (named : Named)
-    → is_too_large (without records named) ≡ is_too_large records
-as_large records (N.Image ns name) = refl
-as_large records (N.Lease ns id) = refl
-
 -- ---- refusals
 
 of_least : (a b d : Bool) (fault : Fault) → least_of a b false d ≡ Some fault
@@ -77,11 +62,14 @@ none_of false true d e = absurd cc
 none_of false false true e = absurd cc
 none_of false false false e = (refl, refl, refl)
 
-from_threads : (workers large : Bool) (fault : Fault) → not workers ≡ false → large ≡ false → RefusesThreads {X = Report} (Err fault) (least_of (not workers) false false large) → CollectFails fault None
-from_threads false large fault w l h = absurd cc
-from_threads true true fault w l h = absurd cc
-from_threads true false fault w l (inl h) = subst (λ (f : Fault). CollectFails f None) (sym h) tt
-from_threads true false fault w l (inr h) = subst (λ (f : Fault). CollectFails f None) (sym h) refl
+from_threads : (fault : Fault) → RefusesThreads {X = Report} (Err fault) None → CollectFails fault
+    None
+from_threads fault (inl h) = subst (λ (f : Fault). CollectFails f None) (sym h) tt
+from_threads fault (inr h) = subst (λ (f : Fault). CollectFails f None) (sym h) refl
+
+not_false : (b : Bool) → not b ≡ false → b ≡ true
+not_false true h = refl
+not_false false h = absurd cc
 
 module _ (state : State) (removal : Removal) (workers : ℕ) (named : Named) (read : (is_readable removal ≡ true) × (named ≡ named_in removal)) where
   abbrev tested : Option Fault
@@ -103,19 +91,26 @@ module _ (state : State) (removal : Removal) (workers : ℕ) (named : Named) (re
   pub none_applies : tested ≡ None → remove_collect_fault state removal workers ≡ None
   none_applies h = sym tested_is ∙ h
 
-  -- the collection of what is left is refused for memory or threads alone
-  pub later : (left : Records) → left ≡ without state.records named → tested ≡ None
-      → (result : Result Report Fault) (fault : Fault) → IsErrAnd result (λ other. other ≡ fault)
-      → RefusesThreads {X = Report} (Err fault) (collect_fault left workers) → RefusesCollect result (remove_collect_fault state removal workers)
-  later left is h result fault same refused =
+  -- it may be collected
+  pub may_collect : tested ≡ None
+      → (is_worker_count workers ≡ true) × (is_too_large state.records ≡ false)
+  may_collect h =
       let none = none_of (not (is_worker_count workers)) (is_missing state.records named) (is_too_large state.records) h in
-      let large : is_too_large left ≡ false = ap is_too_large is ∙ as_large state.records named ∙ none.2 in
-      passed_on result fault (remove_collect_fault state removal workers) same
-      (subst (CollectFails fault) (sym (none_applies h)) (from_threads (is_worker_count workers) (is_too_large left) fault none.0 large refused))
+      (not_false (is_worker_count workers) none.0, none.2)
 
--- what is left is the store that the removal leaves
-pub left_is : (old left : Records) (backends : BackLists) (removal : Removal) (named : Named)
-    → named ≡ named_in removal → left ≡ without old named
-    → record { records = left; backends = backends } ≡ (removal_outcome (record { records = old; backends = backends }) removal).after
-left_is old left backends removal named n is =
-    (λ i. record { records = (is ∙ ap (without old) n) i; backends = backends }) ∙ after_is old backends removal
+  -- the collection is refused for memory or threads alone
+  pub later : tested ≡ None → (result : Result Report Fault) (fault : Fault)
+      → IsErrAnd result (λ other. other ≡ fault) → RefusesThreads {X = Report} (Err fault) None
+      → RefusesCollect result (remove_collect_fault state removal workers)
+  later h result fault same refused =
+      passed_on result fault (remove_collect_fault state removal workers) same
+      (subst (CollectFails fault) (sym (none_applies h)) (from_threads fault refused))
+
+-- the store without what is named is the one that the removal leaves
+pub left_is : (records : Records) (backends : BackLists) (removal : Removal) (named : Named)
+    → named ≡ named_in removal
+    → record { records = without records named; backends = backends } ≡
+    (removal_outcome (record { records = records; backends = backends }) removal).after
+left_is records backends removal named n =
+    (λ i. record { records = without records (n i); backends = backends }) ∙ after_is records
+    backends removal

@@ -5,4 +5,5 @@ pub mod Rooms
 pub mod Copies
 pub mod Refused
 pub mod Removing
+pub mod Leaving
 pub mod Impacts

@@ -1,14 +1,18 @@
 //! Records whose rows stand as they arrived.
-ghost use Rattle.std.specs.Prelude.{◌≡◌, None, IfOk, length, true, false};
+ghost use Rattle.std.specs.Prelude.{◌≡◌, None, IfOk, option_copied, true, false};
 ghost use Rattle.meta_types.specs.Limits.{is_worker_count, is_too_large};
 ghost use Rattle.steal_mark.specs.Refusing.{RefusesThreads};
-ghost use Rattle.table_sweep.specs.Plans.{IsPlanOfRows};
 ghost use Rattle.collection.specs.Arrived.{in_order, arrived_in};
+ghost use Rattle.collection.specs.Leaving.{IsPlanLess};
 ghost use Rattle.collection.specs.Stores.{records_in};
 ghost use Rattle.table_sweep.specs.Backed.{lists_of};
 ghost use Rattle.table_sweep.specs.BlobMarks.{AreBlobMarks};
 
-use crate::planning::plan_arrived;
+use crate::leaving::{Planned, leave};
+use crate::planning::plan_listed;
+use crate::removal::Named;
+use backend_sweep::SweepGate;
+use gc_graph::ListedRows;
 use lease_book::{Lease, Leases};
 use meta_types::{Fault, Instant, Name};
 use object_tables::{ArrivedTables, Tables};
@@ -19,7 +23,7 @@ use std::mem;
 use std::sync::Wait;
 use std::thread::Threads;
 use steal_mark::Gate;
-use table_sweep::{BackRows, Plan};
+use table_sweep::BackRows;
 
 /// The records of a store as they arrived. A row's place is its number.
 #[derive(Drop)]
@@ -30,41 +34,50 @@ pub(crate) struct ArrivedRecords {
     pub(crate) profile: u8,
 }
 
+/// A collection that is asked for: its moment, how many workers it has and at which gates, and the
+/// row that is removed with it.
+#[derive(Drop)]
+pub(crate) struct Asked<'g, 's, 'n, G: Gate, H: SweepGate> {
+    pub(crate) at: Instant,
+    pub(crate) workers: usize,
+    pub(crate) gate: &'g G,
+    pub(crate) sweep_gate: &'s H,
+    pub(crate) without: Option<&'n Named>,
+}
+
 impl ArrivedRecords {
-    /// The plan of a collection of these records, by the marks of this number of workers. Its masks
-    /// are of these rows.
-    pub(crate) fn plan<R: Threads + Wait + Sync, G: Gate>(
+    /// The plan of a collection of these records without what is named, by the marks of this number
+    /// of workers. Its masks are of the rows that are listed.
+    pub(crate) fn plan<R: Threads + Wait + Sync, G: Gate, H: SweepGate>(
         &self,
         rt: &R,
         alloc: Global,
         back: &BackRows<'_>,
-        at: Instant,
-        workers: usize,
-        gate: &G,
-    ) -> Result<Plan, Fault>
-        requires workers { is_worker_count workers ≡ true }
+        asked: &Asked<'_, '_, '_, G, H>,
+    ) -> Result<Planned, Fault>
+        requires workers { is_worker_count asked.now.workers ≡ true }
         requires few { is_too_large (records_in (in_order self.now)) ≡ false }
         ensures fault { RefusesThreads result None }
-        ensures ok { IfOk result (λ plan. IsPlanOfRows (arrived_in self.now)
-            (length self.now.tables.namespaces) (lists_of back.now) at.0 plan) }
-        ensures blobs { IfOk result (λ plan. AreBlobMarks plan.report.backend.blobs
-            back.now.blobs.now plan.blobs.items) }
+        ensures ok { IfOk result (IsPlanLess (arrived_in self.now) (option_copied asked.now.without)
+            (lists_of back.now) asked.now.at.0) }
+        ensures blobs { IfOk result (λ planned. AreBlobMarks planned.plan.report.backend.blobs
+            back.now.blobs.now planned.plan.blobs.items) }
     {
         let arrived = self.tables.rows();
         let namespaces = self.tables.count_ns();
-        let plan = plan_arrived(
+        let mut listed = ListedRows::new(alloc, &arrived, &self.leases, self.profile)?;
+        let others = leave(alloc, &mut listed, asked.without)?;
+        let plan = plan_listed(
             rt,
             alloc,
-            &arrived,
-            &self.leases,
-            self.profile,
+            &listed,
             namespaces,
             back,
-            at,
-            workers,
-            gate,
+            asked.at,
+            asked.workers,
+            asked.gate,
         )?;
-        Ok(plan)
+        Ok(Planned { others, plan })
     }
 }
 

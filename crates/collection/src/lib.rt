@@ -9,6 +9,7 @@ mod dry;
 mod impacts;
 mod keeps;
 pub mod laws;
+mod leaving;
 mod planning;
 mod removal;
 mod reporting;

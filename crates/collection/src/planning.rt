@@ -6,24 +6,19 @@ ghost use Rattle.meta_types.specs.Steps.{collect_fault};
 ghost use Rattle.mark_core.specs.Bits.{bit_of};
 ghost use Rattle.mark_core.specs.Reach.{Reached, IsInRange};
 ghost use Rattle.gc_graph.specs.Built.{AreApart};
-ghost use Rattle.gc_graph.specs.Lent.{lent_in};
 ghost use Rattle.gc_graph.specs.Stored.{records_of, AreLent};
 ghost use Rattle.steal_mark.specs.Refusing.{RefusesThreads};
 ghost use Rattle.collection.specs.Stores.{records_in};
 ghost use Rattle.table_sweep.specs.Backed.{lists_of};
 ghost use Rattle.table_sweep.specs.BlobMarks.{AreBlobMarks};
-ghost use Rattle.table_sweep.specs.InKeyOrder.{records_in_key_order};
 ghost use Rattle.table_sweep.specs.Plans.{IsPlanOfRows};
 ghost use Rattle.backend_sweep.specs.Planned.{IsPlanOf};
 
 use crate::checks::check;
 use gc_graph::{ListedRows, StoreRows, build};
-use lease_book::Lease;
 use mark_core::{Graph, Marks, mark_plain};
-use meta_types::{Fault, Instant, Name};
-use object_tables::ArrivedRows;
+use meta_types::{Fault, Instant};
 use request_core::Records;
-use row_tables::ArrivedByNamespace;
 use std::alloc::Global;
 use std::mem::drop;
 use std::sync::Wait;
@@ -80,13 +75,11 @@ fn plan_rows<R: Threads + Wait + Sync, G: Gate>(
     Ok(plan)
 }
 
-// The plan of a collection of rows as they arrived: they are listed without a sort.
-pub(crate) fn plan_arrived<R: Threads + Wait + Sync, G: Gate>(
+// The plan of a collection of rows that are listed, in any order.
+pub(crate) fn plan_listed<R: Threads + Wait + Sync, G: Gate>(
     rt: &R,
     alloc: Global,
-    arrived: &ArrivedRows<'_>,
-    leases: &ArrivedByNamespace<Name, Lease>,
-    profile: u8,
+    listed: &ListedRows<'_>,
     namespaces: u64,
     back: &BackRows<'_>,
     at: Instant,
@@ -94,15 +87,13 @@ pub(crate) fn plan_arrived<R: Threads + Wait + Sync, G: Gate>(
     gate: &G,
 ) -> Result<Plan, Fault>
     requires workers { is_worker_count workers ≡ true }
-    requires few { is_too_large (records_in_key_order (lent_in arrived.now leases.now profile))
-        ≡ false }
+    requires few { is_too_large listed.now ≡ false }
     ensures fault { RefusesThreads result None }
-    ensures ok { IfOk result (λ plan. IsPlanOfRows (lent_in arrived.now leases.now profile) namespaces
-        (lists_of back.now) at.0 plan) }
+    ensures ok { IfOk result (λ plan. IsPlanOfRows listed.now namespaces (lists_of back.now) at.0
+        plan) }
     ensures blobs { IfOk result (λ plan. AreBlobMarks plan.report.backend.blobs back.now.blobs.now
         plan.blobs.items) }
 {
-    let listed = ListedRows::new(alloc, arrived, leases, profile)?;
     let rows = listed.rows();
     let plan = plan_rows(rt, alloc, &rows, namespaces, back, at, workers, gate)?;
     Ok(plan)
@@ -129,17 +120,7 @@ pub fn plan_store<R: Threads + Wait + Sync, G: Gate>(
     let arrived = records.tables.arrived();
     let leases = records.leases.arrived();
     let namespaces = records.tables.count_ns();
-    let plan = plan_arrived(
-        rt,
-        alloc,
-        &arrived,
-        leases,
-        records.profile,
-        namespaces,
-        back,
-        at,
-        workers,
-        gate,
-    )?;
+    let listed = ListedRows::new(alloc, &arrived, leases, records.profile)?;
+    let plan = plan_listed(rt, alloc, &listed, namespaces, back, at, workers, gate)?;
     Ok(plan)
 }

@@ -9,13 +9,14 @@ ghost use Rattle.meta_types.specs.Steps.{remove_collect_fault};
 ghost use Rattle.back_model.specs.Shown.{all_failures};
 ghost use Rattle.backend_sweep.specs.Swept.{count_names};
 ghost use Rattle.collection.specs.Refused.{RefusesCollect};
-ghost use Rattle.collection.specs.Removing.{ReadsTexts, is_readable, named_in, is_missing, without};
+ghost use Rattle.collection.specs.Removing.{ReadsTexts, is_readable, named_in, is_missing};
 ghost use Rattle.meta_types.specs.Changes.{all_of};
 ghost use Rattle.meta_types.specs.Text.{is_short_name, is_name};
 ghost use Rattle.collection.specs.Stores.{records_in, store_in};
 
+use crate::arrived::Asked;
 use crate::checks::is_too_large;
-use crate::collect_store::collect;
+use crate::collect_store::collect_checked;
 use crate::keeps::Keeps;
 use crate::reports::Reports;
 use back_model::{Backends, BlobBackend, IngestBackend, SnapBackend};
@@ -87,22 +88,8 @@ fn check_removal(records: &Records, named: &Named, workers: usize) -> Result<(),
     Ok(())
 }
 
-// Takes the row away.
-fn remove(records: &mut Records, named: &Named)
-    ensures { records_in records.new ≡ without (records_in records.old) named.now }
-{
-    match named {
-        Named::Image(ns, name) => {
-            let _ = records.tables.remove_image(ns, name);
-        }
-        Named::Lease(ns, id) => {
-            let _ = records.leases.remove(ns, id);
-        }
-    }
-}
-
-/// Removes an image or a lease, and collects. Graph and plan are made of copied records without
-/// the row, which take the place of the others when nothing can be refused any more.
+/// Removes an image or a lease, and collects. Graph and plan are made of the other rows, and the row
+/// goes when nothing can be refused any more; no record is copied.
 pub fn remove_collect<
     R: Threads + Wait + Sync,
     S: SnapBackend,
@@ -143,11 +130,13 @@ pub fn remove_collect<
 {
     let named = read_removal(alloc, removal)?;
     check_removal(records, &named, workers)?;
-    let mut left = records.copy(alloc)?;
-    remove(&mut left, &named);
-    let reports = collect(
-        rt, alloc, &mut left, backends, at, workers, gate, sweep_gate,
-    )?;
-    *records = left;
+    let asked = Asked {
+        at,
+        workers,
+        gate,
+        sweep_gate,
+        without: Some(&named),
+    };
+    let reports = collect_checked(rt, alloc, records, backends, &asked)?;
     Ok(reports)
 }

@@ -1,5 +1,5 @@
-use Rattle.std.proofs.Common.{inl, ◌≡◌, ◌∙◌, sym, subst, refl, length}
-use Rattle.std.specs.Prelude.{Result, Ok, Err, None, OnErr}
+use Rattle.std.proofs.Common.{inl, ◌≡◌, ◌∙◌, sym, subst, refl}
+use Rattle.std.specs.Prelude.{Result, Ok, Err, None, OnErr, option_copied}
 use Rattle.std.specs.Result.{IsErrAnd}
 use Rattle.meta_types.specs.declared.fault.Fault.{Fault}
 use Rattle.meta_types.specs.declared.fault.Fault.TheVariants.{OutOfMemory}
@@ -8,29 +8,25 @@ use Rattle.meta_types.specs.Rows.{Records, BackLists, State}
 use Rattle.meta_types.specs.Reports.{Report, Collects}
 use Rattle.meta_types.specs.Sound.{IsSound}
 use Rattle.meta_types.proofs.SoundAfter.{a_collected_store_is_sound}
-use Rattle.collection.proofs.SweptPlans.{a_swept_plan_is_a_collection}
 use Rattle.backend_sweep.specs.Fated.{AllFates}
 use Rattle.backend_sweep.specs.Swept.{held_in}
 use Rattle.collection.specs.Arrived.{in_order, arrived_in}
+use Rattle.collection.specs.Leaving.{less}
 use Rattle.collection.specs.Stores.{records_in, store_in}
-use Rattle.collection.proofs.Bridges.{swept_fails, in_some_order}
-use Rattle.collection.proofs.Wholes.{fits, stays, rows_swept}
+use Rattle.collection.proofs.Bridges.{swept_fails}
+use Rattle.collection.proofs.LeftOut.{sound_less}
+use Rattle.collection.proofs.PlansLess.{planned_less, rows_fit, rows_numbered, swept_less}
 use Rattle.collection.proofs.collect_store.collect_arrived.Goals as goal
 
--- the plan is one of a sound store
+-- the plan is one of the store without what is named, which is sound
 pub sweep_all-requires-clause-planned : goal.sweep_all-requires-clause-planned
 sweep_all-requires-clause-planned g c κs within =
-    let arrived : Records = arrived_in c.args.arrived.now in
-    let held : BackLists = held_in c.args.backends.now.shards (g.B.BlobBackend.contents c.args.backends.now.blobs) (g.I.IngestBackend.contents c.args.backends.now.ingests) in
-    let n = length arrived.tables.namespaces in
-    let p = c.in_ok-plan.ensures.ok in
-    record {
-      state = store_in (in_order c.args.arrived.now) c.args.backends.now.shards (g.B.BlobBackend.contents c.args.backends.now.blobs) (g.I.IngestBackend.contents c.args.backends.now.ingests);
-      sound = c.requires.sound;
-      held = refl;
-      at = c.args.at.0;
-      plan_is = in_some_order arrived (records_in (in_order c.args.arrived.now)) n held c.args.at.0 c.in_ok-plan.plan refl p;
-    }
+    let old = c.args.backends.now in
+    let held : BackLists = held_in old.shards (g.B.BlobBackend.contents old.blobs)
+    (g.I.IngestBackend.contents old.ingests) in
+    let named = option_copied c.args.asked.now.without in
+    planned_less (in_order c.args.arrived.now) (arrived_in c.args.arrived.now) named held
+    c.args.asked.now.at.0 c.in_ok-planned.planned refl c.requires.sound c.in_ok-planned.ensures.ok
 
 memory_fails : (result : Result Report Fault) (fault : Fault)
     → IsErrAnd result (λ other. other ≡ fault) → fault ≡ OutOfMemory → RefusesThreads result None
@@ -53,7 +49,8 @@ returns-in_err-before_sweep-clause-fault g c =
 pub returns-in_err-fates-clause-fault : goal.returns-in_err-fates-clause-fault
 returns-in_err-fates-clause-fault g c =
     let passed = c.from_residual-in_err-fates in
-    swept_fails AllFates c.args.workers passed.result _ c.requires.workers passed.ensures.1
+    swept_fails AllFates c.args.asked.now.workers passed.result _ c.requires.workers
+    passed.ensures.1
     c.in_err-fates.ensures.fault
 
 -- and leaves rows and backends as they were
@@ -80,44 +77,71 @@ returns-in_err-fates-clause-sound g c =
 
 -- nothing has changed since the blobs were lent
 pub sweep_all-requires-clause-marks : goal.sweep_all-requires-clause-marks
-sweep_all-requires-clause-marks g c κs within = c.in_ok-plan.ensures.blobs
+sweep_all-requires-clause-marks g c κs within = c.in_ok-planned.ensures.blobs
+
+pub sweep_all-requires-clause-others : goal.sweep_all-requires-clause-others
+sweep_all-requires-clause-others g c κs within = c.in_ok-planned.ensures.ok.others.fit
 
 pub sweep_all-requires-clause-rows : goal.sweep_all-requires-clause-rows
 sweep_all-requires-clause-rows g c κs within =
-    let arrived : Records = arrived_in c.args.arrived.now in
-    let held : BackLists = held_in c.args.backends.now.shards (g.B.BlobBackend.contents c.args.backends.now.blobs) (g.I.IngestBackend.contents c.args.backends.now.ingests) in
-    let n = length arrived.tables.namespaces in
-    let p = c.in_ok-plan.ensures.ok in
-    fits arrived n held c.args.at.0 c.in_ok-plan.plan p
+    let old = c.args.backends.now in
+    let held : BackLists = held_in old.shards (g.B.BlobBackend.contents old.blobs)
+    (g.I.IngestBackend.contents old.ingests) in
+    let named = option_copied c.args.asked.now.without in
+    rows_fit (arrived_in c.args.arrived.now) named held c.args.asked.now.at.0
+    c.in_ok-planned.planned c.in_ok-planned.ensures.ok
 
 pub sweep_all-requires-clause-numbered : goal.sweep_all-requires-clause-numbered
 sweep_all-requires-clause-numbered g c κs within =
-    let arrived : Records = arrived_in c.args.arrived.now in
-    let held : BackLists = held_in c.args.backends.now.shards (g.B.BlobBackend.contents c.args.backends.now.blobs) (g.I.IngestBackend.contents c.args.backends.now.ingests) in
-    let n = length arrived.tables.namespaces in
-    let p = c.in_ok-plan.ensures.ok in
-    stays arrived n held c.args.at.0 c.in_ok-plan.plan p c.requires.sound.tables
+    let old = c.args.backends.now in
+    let held : BackLists = held_in old.shards (g.B.BlobBackend.contents old.blobs)
+    (g.I.IngestBackend.contents old.ingests) in
+    let named = option_copied c.args.asked.now.without in
+    rows_numbered (in_order c.args.arrived.now) (arrived_in c.args.arrived.now) named held
+    c.args.asked.now.at.0 c.in_ok-planned.planned refl c.requires.sound c.in_ok-planned.ensures.ok
 
 -- the plan, both sweeps and the report are a collection
 pub returns-clause-ok : goal.returns-clause-ok
 returns-clause-ok g c =
-    let arrived : Records = arrived_in c.args.arrived.now in
-    let held : BackLists = held_in c.args.backends.now.shards (g.B.BlobBackend.contents c.args.backends.now.blobs) (g.I.IngestBackend.contents c.args.backends.now.ingests) in
-    let n = length arrived.tables.namespaces in
-    let p = c.in_ok-plan.ensures.ok in
-    let state : State = store_in (in_order c.args.arrived.now) c.args.backends.now.shards (g.B.BlobBackend.contents c.args.backends.now.blobs) (g.I.IngestBackend.contents c.args.backends.now.ingests) in
-    let plan = c.in_ok-plan.plan in
-    let at = c.args.at.0 in
-    let back : BackLists = held_in c.sweep_all.new.backends.shards (g.B.BlobBackend.contents c.sweep_all.new.backends.blobs) (g.I.IngestBackend.contents c.sweep_all.new.backends.ingests) in
-    let records : Records = records_in (in_order (record { tables = c.sweep_all.new.tables; leases = c.sweep_all.new.leases; next = arrived.next; profile = arrived.profile })) in
-    let rows = rows_swept arrived plan c.sweep_all.new.tables c.sweep_all.new.leases c.in_ok-fates.ensures.tables c.in_ok-fates.ensures.leases in
-    subst (λ (r : Report). Collects state at r.failed r (record { records = records; backends = back }))
+    let arrived = c.args.arrived.now in
+    let old = c.args.backends.now in
+    let held : BackLists = held_in old.shards (g.B.BlobBackend.contents old.blobs)
+    (g.I.IngestBackend.contents old.ingests) in
+    let named = option_copied c.args.asked.now.without in
+    let new = c.sweep_all.new in
+    let back : BackLists = held_in new.backends.shards
+    (g.B.BlobBackend.contents new.backends.blobs) (g.I.IngestBackend.contents new.backends.ingests)
+    in
+    let at = c.args.asked.now.at.0 in
+    let state : State = record {
+      records = less (records_in (in_order arrived)) named;
+      backends = held;
+    } in
+    let left : Records = records_in (in_order (record {
+      tables = new.tables;
+      leases = new.leases;
+      next = arrived.next;
+      profile = arrived.profile;
+    })) in
+    subst (λ (r : Report). Collects state at r.failed r
+    (record { records = left; backends = back }))
     (sym c.reports_of.ensures)
-    (a_swept_plan_is_a_collection arrived held at plan c.in_ok-fates.fates records back p rows
-    c.in_ok-fates.ensures.ok)
+    (swept_less (in_order arrived) (arrived_in arrived) named held at c.in_ok-planned.planned refl
+    c.requires.sound c.in_ok-planned.ensures.ok c.in_ok-fates.fates new.tables new.leases back
+    c.in_ok-fates.ensures.tables c.in_ok-fates.ensures.leases c.in_ok-fates.ensures.ok)
 
 -- what a collection leaves is sound
 pub returns-clause-sound : goal.returns-clause-sound
 returns-clause-sound g c =
-    let state : State = store_in (in_order c.args.arrived.now) c.args.backends.now.shards (g.B.BlobBackend.contents c.args.backends.now.blobs) (g.I.IngestBackend.contents c.args.backends.now.ingests) in
-    a_collected_store_is_sound state c.args.at.0 c.reports_of.result.failed c.reports_of.result _ c.requires.sound (returns-clause-ok g c)
+    let old = c.args.backends.now in
+    let held : BackLists = held_in old.shards (g.B.BlobBackend.contents old.blobs)
+    (g.I.IngestBackend.contents old.ingests) in
+    let named = option_copied c.args.asked.now.without in
+    let state : State = record {
+      records = records_in (in_order c.args.arrived.now);
+      backends = held;
+    } in
+    let left : State = record { records = less state.records named; backends = held } in
+    a_collected_store_is_sound left c.args.asked.now.at.0 c.reports_of.result.failed
+    c.reports_of.result _
+    (sound_less state named c.requires.sound) (returns-clause-ok g c)
