@@ -48,7 +48,7 @@ module _ {Row : Type 0} (key_of : Row → Key) (key : Key) where
   ]
 
   -- whatever the order in which they arrived
-  ordered_others : (rows : List Row) → IsTrue (are_in_order key_of (sorted key_of rows))
+  pub ordered_others : (rows : List Row) → IsTrue (are_in_order key_of (sorted key_of rows))
       → sorted key_of (filter (is_other key_of key) rows) ≡ remove_row key_of key
       (sorted key_of rows)
   ordered_others rows o =

@@ -5,4 +5,5 @@ pub mod Removing
 pub mod LeftOut
 pub mod PlansLess
 pub mod NamedRows
+pub mod LessRows
 pub mod Dealing

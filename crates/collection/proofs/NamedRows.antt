@@ -156,3 +156,11 @@ is_impact now then at here there impact p q e = record {
   each = λ r s a b.
       e ∙ (λ i. impact_of (one_plan now at here r p a i) (one_plan then at there s q b i));
 }
+
+-- a dry run of what is left is one of the records without the row
+pub plans_less : (records left : Records) (row : RowName) (back : BackLists) (at : ℤ)
+    (report : Report) → left ≡ less_row records row
+    → Plans (record { records = left; backends = back }) at report
+    → Plans (record { records = less_row records row; backends = back }) at report
+plans_less records left row back at report is p =
+    subst (λ (r : Records). Plans (record { records = r; backends = back }) at report) is p

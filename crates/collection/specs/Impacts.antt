@@ -1,5 +1,5 @@
 -- Rows by their names, and the records without one. Ours, unless a source stands beside.
-use Rattle.std.specs.Prelude.{Bool, false, not, [], ◌∷◌}
+use Rattle.std.specs.Prelude.{Bool, true, false, not, [], ◌∷◌, filter}
 use Rattle.std.specs.List.{list_any}
 use Rattle.meta_types.specs.Text.{Text}
 use Rattle.meta_types.specs.Keys.{has_row, remove_row}
@@ -9,6 +9,7 @@ use Rattle.meta_types.specs.Ops.Snapshots.{is_child_of}
 use Rattle.meta_types.specs.declared.object.Object.{Object}
 use Rattle.meta_types.specs.declared.object.Object.TheVariants.{Image, Container, Lease, Held}
 use Rattle.meta_types.specs.declared.resource.Resource.TheVariants as R
+use Rattle.gc_graph.specs.Others.{is_other}
 use Rattle.collection.specs.declared.row_name.RowName.{RowName}
 use Rattle.collection.specs.declared.row_name.RowName.TheVariants as N
 
@@ -80,3 +81,32 @@ less_row records (N.Snapshot key) =
             remove_row snap_key (key.ns ∷ key.snapshotter ∷ key.name ∷ []) records.tables.snapshots;
       };
     }
+
+-- it is content, a snapshot or an ingest, whose rows have numbers in the graph
+abbrev pub has_number : RowName → Bool
+has_number (N.Image ns name) = false
+has_number (N.Container ns name) = false
+has_number (N.Lease ns id) = false
+has_number (N.Content ns digest) = true
+has_number (N.Ingest ns name) = true
+has_number (N.Snapshot key) = true
+
+-- the records, as they arrived, but the row, where it has no number
+abbrev pub listed_less : RowName → Records → Records
+listed_less (N.Image ns name) records =
+    record records {
+      tables = record records.tables {
+        images = filter (is_other image_key (ns ∷ name ∷ [])) records.tables.images;
+      };
+    }
+listed_less (N.Container ns name) records =
+    record records {
+      tables = record records.tables {
+        containers = filter (is_other container_key (ns ∷ name ∷ [])) records.tables.containers;
+      };
+    }
+listed_less (N.Lease ns id) records =
+    record records { leases = filter (is_other lease_key (ns ∷ id ∷ [])) records.leases }
+listed_less (N.Content ns digest) records = records
+listed_less (N.Ingest ns name) records = records
+listed_less (N.Snapshot key) records = records

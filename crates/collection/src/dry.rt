@@ -1,25 +1,35 @@
-//! Dry runs: the report that a collection would give, without a sweep.
-ghost use Rattle.std.specs.Prelude.{◌≡◌, IfOk};
+//! Dry runs: the report that a collection would give, without a sweep; for questions by the calling
+//! thread alone, also of records without a row.
+ghost use Rattle.std.specs.Prelude.{◌≡◌, length, None, false, true, IfOk};
+ghost use Rattle.meta_types.specs.Faults.{Refuses};
+ghost use Rattle.meta_types.specs.Limits.{is_too_large};
 ghost use Rattle.meta_types.specs.Reports.{Plans};
+ghost use Rattle.gc_graph.specs.Built.{AreApart};
+ghost use Rattle.gc_graph.specs.Stored.{records_of, AreLent};
+ghost use Rattle.collection.specs.Impacts.{has_number, is_parent, less_row};
+ghost use Rattle.collection.specs.Stores.{records_in, lists_in, store_in};
+ghost use Rattle.table_sweep.specs.Backed.{lists_of};
+ghost use Rattle.table_sweep.specs.Plans.{IsPlanOfRows, IsPlanOf};
 ghost use Rattle.meta_types.specs.Sound.{AreTables};
 ghost use Rattle.meta_types.specs.Steps.{collect_fault};
 ghost use Rattle.steal_mark.specs.Refusing.{RefusesThreads};
-ghost use Rattle.table_sweep.specs.Backed.{lists_of};
-ghost use Rattle.collection.specs.Stores.{records_in, lists_in, store_in};
 
 use crate::checks::check;
 use crate::keeps::Keeps;
 use crate::planning::plan_store;
 use crate::reports::Reports;
+use crate::row_name::RowName;
 use back_model::{BackLists, Backends, BlobBackend, IngestBackend, SnapBackend};
+use gc_graph::{ListedRows, StoreRows, build};
 use gc_report::Report;
+use mark_core::mark_plain;
 use meta_types::{Fault, Instant};
 use request_core::Records;
 use std::alloc::Global;
 use std::sync::Wait;
 use std::thread::Threads;
 use steal_mark::Gate;
-use table_sweep::{BackRows, Plan};
+use table_sweep::{BackRows, Plan, plan_of};
 
 // What a collection of these records and of what is lent would report.
 fn dry_lent<R: Threads + Wait + Sync, G: Gate>(
@@ -103,4 +113,132 @@ pub fn dry_run<
     };
     let report = dry_lent(rt, alloc, records, &back, at, workers, gate)?;
     Ok(Reports::of(alloc, report)?)
+}
+
+// One worker reads labels, which is the calling thread.
+fn plan_rows<R: Threads + Sync>(
+    rt: &R,
+    alloc: Global,
+    rows: &StoreRows<'_>,
+    namespaces: u64,
+    back: &BackRows<'_>,
+    at: Instant,
+) -> Result<Plan, Fault>
+    requires apart { AreApart (records_of rows.now) }
+    requires lent { AreLent rows.now }
+    requires few { is_too_large (records_of rows.now) ≡ false }
+    ensures fault { Refuses result None }
+    ensures ok { IfOk result (λ plan. IsPlanOfRows (records_of rows.now) namespaces
+        (lists_of back.now) at.0 plan) }
+{
+    let (book, graph, ignored) = build(rt, alloc, rows, at, 1)?;
+    let marks = mark_plain(alloc, &graph)?;
+    let plan = plan_of(alloc, rows, namespaces, back, &book, &marks, ignored, at)?;
+    Ok(plan)
+}
+
+// The plan of records without the row, which has no number, so that it needn't be listed.
+fn plan_left<R: Threads + Sync>(
+    rt: &R,
+    alloc: Global,
+    records: &Records,
+    back: &BackRows<'_>,
+    row: &RowName,
+    at: Instant,
+) -> Result<Plan, Fault>
+    requires unnumbered { has_number row.now ≡ false }
+    requires few { is_too_large (records_in records.now) ≡ false }
+    ensures fault { Refuses result None }
+    ensures ok { IfOk result (λ plan. IsPlanOf (less_row (records_in records.now) row.now)
+        (length (less_row (records_in records.now) row.now).tables.namespaces)
+        (lists_of back.now) at.0 plan) }
+{
+    let arrived = records.tables.arrived();
+    let leases = records.leases.arrived();
+    // The clauses of `len` say that no key stands twice.
+    let _ = arrived.images.len();
+    let _ = arrived.containers.len();
+    let _ = leases.len();
+    let namespaces = records.tables.count_ns();
+    let mut listed = ListedRows::new(alloc, &arrived, leases, records.profile)?;
+    row.leave(&mut listed);
+    let rows = listed.rows();
+    let plan = plan_rows(rt, alloc, &rows, namespaces, back, at)?;
+    Ok(plan)
+}
+
+fn plan_alone<R: Threads + Sync>(
+    rt: &R,
+    alloc: Global,
+    records: &Records,
+    back: &BackRows<'_>,
+    at: Instant,
+) -> Result<Plan, Fault>
+    requires { is_too_large (records_in records.now) ≡ false }
+    ensures fault { Refuses result None }
+    ensures ok { IfOk result (λ plan. IsPlanOf (records_in records.now)
+        (length records.now.tables.namespaces) (lists_of back.now) at.0 plan) }
+{
+    let arrived = records.tables.arrived();
+    let leases = records.leases.arrived();
+    let namespaces = records.tables.count_ns();
+    let listed = ListedRows::new(alloc, &arrived, leases, records.profile)?;
+    let rows = listed.rows();
+    let plan = plan_rows(rt, alloc, &rows, namespaces, back, at)?;
+    Ok(plan)
+}
+
+// What a collection of these records and of what is lent would report.
+pub(crate) fn dry_alone<R: Threads + Sync>(
+    rt: &R,
+    alloc: Global,
+    records: &Records,
+    back: &BackRows<'_>,
+    at: Instant,
+) -> Result<Report, Fault>
+    requires { is_too_large (records_in records.now) ≡ false }
+    ensures fault { Refuses result None }
+    ensures ok { IfOk result (λ report. Plans (record {
+      records = records_in records.now;
+      backends = lists_of back.now;
+    }) at.0 report) }
+{
+    let Plan {
+        masks: _,
+        blobs: _,
+        report,
+    } = plan_alone(rt, alloc, records, back, at)?;
+    Ok(report)
+}
+
+// What a collection of these records without the row would report. Rows are copied only where the
+// row has a number.
+pub(crate) fn dry_less<R: Threads + Sync>(
+    rt: &R,
+    alloc: Global,
+    records: &Records,
+    back: &BackRows<'_>,
+    row: &RowName,
+    at: Instant,
+) -> Result<Report, Fault>
+    requires parent { is_parent (records_in records.now) row.now ≡ false }
+    requires few { is_too_large (records_in records.now) ≡ false }
+    ensures fault { Refuses result None }
+    ensures ok { IfOk result (λ report. Plans (record {
+      records = less_row (records_in records.now) row.now;
+      backends = lists_of back.now;
+    }) at.0 report) }
+{
+    if row.has_number() {
+        let mut left = records.copy(alloc)?;
+        row.remove(&mut left);
+        let report = dry_alone(rt, alloc, &left, back, at)?;
+        return Ok(report);
+    }
+    let Plan {
+        masks: _,
+        blobs: _,
+        report,
+    } = plan_left(rt, alloc, records, back, row, at)?;
+    Ok(report)
 }

@@ -7,7 +7,7 @@ ghost use Rattle.table_sweep.specs.Backed.{lists_of};
 ghost use Rattle.collection.specs.Impacts.{less_row, is_parent};
 ghost use Rattle.collection.specs.Stores.{records_in, lists_in, store_in};
 
-use crate::alone::dry_alone;
+use crate::dry::{dry_alone, dry_less};
 use crate::row_name::RowName;
 use back_model::{BackLists, Backends, BlobBackend, IngestBackend, SnapBackend};
 use gc_report::Impact;
@@ -35,9 +35,7 @@ fn impact_lent<R: Threads + Sync>(
         at.0 impact) }
 {
     let now = dry_alone(rt, alloc, records, back, at)?;
-    let mut left = records.copy(alloc)?;
-    row.remove(&mut left);
-    let then = dry_alone(rt, alloc, &left, back, at)?;
+    let then = dry_less(rt, alloc, records, back, row, at)?;
     Ok(Impact::of(now, then))
 }
 

@@ -1,7 +1,6 @@
 //! One collection, whole: check, plan, sweeps and report.
 #![tactic(auto)]
 
-mod alone;
 mod arrived;
 mod checks;
 mod collect_store;

@@ -3,9 +3,10 @@ ghost use Rattle.std.specs.Prelude.{◌≡◌, false, ◌||◌};
 ghost use Rattle.meta_types.specs.Faults.{OnlyRefuses, least_of};
 ghost use Rattle.meta_types.specs.Limits.{is_too_large};
 ghost use Rattle.collection.specs.Stores.{records_in};
-ghost use Rattle.collection.specs.Impacts.{row_name, lacks_row, is_parent, less_row};
+ghost use Rattle.collection.specs.Impacts.{row_name, lacks_row, is_parent, less_row, has_number, listed_less};
 
 use crate::checks::is_too_large;
+use gc_graph::ListedRows;
 use meta_types::{Digest, Fault, Name, Object, Resource, ShortName, SnapKey};
 use request_core::Records;
 
@@ -108,6 +109,34 @@ impl RowName {
             RowName::Snapshot(key) => {
                 let _ = records.tables.remove_snap(key);
             }
+        }
+    }
+
+    // Whether the rows of its kind have numbers in the graph.
+    pub(crate) fn has_number(&self) -> bool
+        ensures { result ≡ has_number self.now }
+    {
+        match self {
+            RowName::Image(_, _) => false,
+            RowName::Container(_, _) => false,
+            RowName::Lease(_, _) => false,
+            RowName::Content(_, _) => true,
+            RowName::Ingest(_, _) => true,
+            RowName::Snapshot(_) => true,
+        }
+    }
+
+    // Takes the row out of the list, where it has no number.
+    pub(crate) fn leave(&self, listed: &mut ListedRows<'_>)
+        ensures { listed.new ≡ listed_less self.now listed.old }
+    {
+        match self {
+            RowName::Image(ns, name) => listed.leave_image(ns, name),
+            RowName::Container(ns, name) => listed.leave_container(ns, name),
+            RowName::Lease(ns, id) => listed.leave_lease(ns, id),
+            RowName::Content(_, _) => {}
+            RowName::Ingest(_, _) => {}
+            RowName::Snapshot(_) => {}
         }
     }
 }

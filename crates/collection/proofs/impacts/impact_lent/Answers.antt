@@ -1,31 +1,15 @@
-use Rattle.std.proofs.Common.{◌≡◌, ◌∙◌, ap, subst}
+use Rattle.std.proofs.Common.{◌≡◌, ◌∙◌}
 use Rattle.std.specs.Prelude.{Result, Ok, Err, None}
 use Rattle.std.specs.Result.{IsErrAnd}
 use Rattle.meta_types.specs.Faults.{Refuses}
 use Rattle.meta_types.specs.declared.fault.Fault.{Fault}
 use Rattle.meta_types.specs.declared.fault.Fault.TheVariants.{OutOfMemory}
-use Rattle.meta_types.specs.Limits.{is_too_large}
 use Rattle.meta_types.specs.Rows.{Records, BackLists, State}
-use Rattle.meta_types.specs.Reports.{Plans}
 use Rattle.table_sweep.specs.Backed.{lists_of}
-use Rattle.collection.specs.Impacts.{is_parent, less_row}
+use Rattle.collection.specs.Impacts.{less_row}
 use Rattle.collection.specs.Stores.{records_in}
-use Rattle.collection.proofs.NamedRows.{few_without, is_impact}
+use Rattle.collection.proofs.NamedRows.{is_impact}
 use Rattle.collection.proofs.impacts.impact_lent.Goals as goal
-
--- the row is no parent in the copy either
-pub remove-requires : goal.remove-requires
-remove-requires g c =
-    (λ i. is_parent (records_in (c.in_ok-left.ensures.ok i)) c.args.row.now) ∙ c.requires.parent
-
--- records without the row are no larger
-pub dry_alone-requires-2-after_bounds : goal.dry_alone-requires-2-after_bounds
-dry_alone-requires-2-after_bounds g c κs within =
-    let row = c.args.row.now in
-    let kept : Records = records_in c.args.records.now in
-    let is : records_in c.remove.new.records ≡ less_row kept row =
-    c.remove.ensures ∙ (λ i. less_row (records_in (c.in_ok-left.ensures.ok i)) row) in
-    ap is_too_large is ∙ few_without kept row c.requires.few
 
 memory_fails : {T : Type 0} (result : Result T Fault) (fault : Fault)
     → IsErrAnd result (λ other. other ≡ fault) → fault ≡ OutOfMemory → Refuses result None
@@ -44,11 +28,6 @@ returns-clause-ok g c =
     let row = c.args.row.now in
     let kept : Records = records_in c.args.records.now in
     let back : BackLists = lists_of c.args.back.now in
-    let is : records_in c.remove.new.records ≡ less_row kept row =
-    c.remove.ensures ∙ (λ i. less_row (records_in (c.in_ok-left.ensures.ok i)) row) in
     let store : Records → State = λ records. record { records = records; backends = back } in
-    let at = c.args.at.0 in
-    is_impact (store kept) (store (less_row kept row)) at c.in_ok-now.now c.in_ok-then.then
-    c.of.result c.in_ok-now.ensures.ok
-    (subst (λ (records : Records). Plans (store records) at c.in_ok-then.then) is c.in_ok-then.ensures.ok)
-    c.of.ensures
+    is_impact (store kept) (store (less_row kept row)) c.args.at.0 c.in_ok-now.now c.in_ok-then.then
+    c.of.result c.in_ok-now.ensures.ok c.in_ok-then.ensures.ok c.of.ensures

@@ -6,7 +6,7 @@ use Rattle.table_sweep.specs.InKeyOrder.{records_in_key_order}
 use Rattle.table_sweep.specs.Plans.{IsPlanOfRows}
 use Rattle.collection.specs.Stores.{records_in}
 use Rattle.collection.proofs.Bridges.{plan_of_lent, large_as, large_arrived}
-use Rattle.collection.proofs.alone.plan_alone.Goals as goal
+use Rattle.collection.proofs.dry.plan_alone.Goals as goal
 
 -- rows that are listed as they arrived are the records' in order
 pub returns-clause-ok : goal.returns-clause-ok

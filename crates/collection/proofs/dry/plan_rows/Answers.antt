@@ -3,7 +3,7 @@ use Rattle.gc_graph.specs.Stored.{records_of}
 use Rattle.gc_graph.specs.Marked.{reached_by}
 use Rattle.gc_graph.proofs.MarksDecide.{tells}
 use Rattle.table_sweep.proofs.RecordsArrived.{told_in_order}
-use Rattle.collection.proofs.alone.plan_rows.Goals as goal
+use Rattle.collection.proofs.dry.plan_rows.Goals as goal
 
 -- what is marked tells where paths end
 pub returns-clause-ok : goal.returns-clause-ok
