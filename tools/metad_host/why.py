@@ -10,7 +10,7 @@ from typing import Any, Dict, Iterator, List, NamedTuple, Optional
 
 from .asking import Metad
 from .faults import BadInput
-from .numbers import is_moment, moment_text
+from .numbers import is_moment
 from .printing import Printer, Whole, and_more, first
 from .progress import Progress
 from .remarks import printable
@@ -202,15 +202,12 @@ def size(store: Store, key: Key) -> Optional[int]:
     return found
 
 
-def until(store: Store, ns: str, step: Dict[str, Any]) -> Optional[str]:
+def until(step: Dict[str, Any]) -> Optional[str]:
     """When a root ends by itself, None where it doesn't."""
-    if "expire" in step:
-        return str(step["expire"]) if is_moment(step["expire"]) else None
-    row = store.rows.rows.get((step["type"], ns, step["name"]))
-    if row is not None and row.begun is not None and step["by"] in ("root", "ended"):
-        end = store.rows.end((step["type"], ns, step["name"]))
-        return None if end is None else moment_text(end)
-    return None
+    if step["by"] not in ("root", "ended") or "expire" not in step:
+        return None
+    readable = step["type"] == "ingests" or is_moment(step["expire"])
+    return str(step["expire"]) if readable else None
 
 
 def holders(store: Store, ns: str, step: Dict[str, Any]) -> List[str]:
@@ -227,7 +224,7 @@ def reason(store: Store, ns: str, step: Dict[str, Any]) -> str:
     """Why a thing of a path is there."""
     texts = ["label " + step["label"] if step["by"] == "label" else step["by"]]
     if step["by"] in ("root", "ended"):
-        end = until(store, ns, step)
+        end = until(step)
         if end:
             texts = ["ended at " + end] if step["by"] == "ended" else texts + ["until " + end]
             texts += ["held by lease " + lease for lease in holders(store, ns, step)]
@@ -286,9 +283,7 @@ def ending(store: Store, thing: Kept) -> Iterator[str]:
     count = len(thing.paths)
     if thing.is_root:
         yield "  it stays by itself until it %s" % (
-            "is removed"
-            if until(store, thing.key[1], thing.paths[-1][0]) is None
-            else "ends or is removed"
+            "is removed" if until(thing.paths[-1][0]) is None else "ends or is removed"
         )
     elif not thing.is_whole:
         yield "  more roots keep it (--limit 0 shows all)"
@@ -329,7 +324,7 @@ def path_object(store: Store, ns: str, path: Path) -> List[Dict[str, Any]]:
             "by": step["by"],
             "label": step.get("label"),
             "flat": step.get("mode") == "flat",
-            "until": until(store, ns, step),
+            "until": until(step),
         }
         for step in path
     ]

@@ -240,7 +240,21 @@ def moment_of(text):
     )
 
 
-BEFORE_ALL = moment_of("0000-01-01T00:00:00+23:59")
+def end_text(moment):
+    """A moment in UTC, as the reply has it."""
+    second, fraction = divmod(moment, 10**9)
+    day, second = divmod(second, 86400)
+    cycles, day = divmod(day + 719528, 146097)
+    year, month = 400 * cycles, 1
+    while day >= 365 + is_leap(year):
+        day -= 365 + is_leap(year)
+        year += 1
+    while day >= MONTHS[month - 1] + (month == 2 and is_leap(year)):
+        day -= MONTHS[month - 1] + (month == 2 and is_leap(year))
+        month += 1
+    clock = "%02d:%02d:%02d" % (second // 3600, second // 60 % 60, second % 60)
+    digits = ("." + "%09d" % fraction).rstrip("0").rstrip(".")
+    return "%04d-%02d-%02dT%s%sZ" % (year, month, day + 1, clock, digits)
 
 
 # ---- a store
@@ -861,6 +875,8 @@ class Store:
         if kind == 2 or (kind == 0 and self.profile == 2):
             labels = getattr(self, KINDS[kind])[row]["labels"]
             told |= {"expire": labels[EXPIRE]} if EXPIRE in labels else {}
+        if kind == 3 and self.ingests[row]["end"] is not None:
+            told["expire"] = end_text(self.ingests[row]["end"])
         return told
 
     def shortest_path(self, kind, row, at, word):
@@ -882,12 +898,22 @@ class Store:
         path.append(self.told(thing, {"by": word}))
         return path[::-1]
 
+    def last_path(self, kind, row):
+        """The same of the last moment at which there was a path, or none."""
+        tables = ("images", "leases", "ingests")
+        ends = {self.end_of(table, it) for table in tables for it in getattr(self, table)}
+        for end in sorted(ends - {None}, reverse=True):
+            path = self.shortest_path(kind, row, end, "ended")
+            if path:
+                return path
+        return []
+
     def op_gc_explain(self, ns, type, resource, at):
         kind, row = self.asked_row(ns, type, resource, at)
         path = self.shortest_path(kind, row, moment_of(at), "root")
         return {
             "kept": bool(path),
-            "path": path or self.shortest_path(kind, row, BEFORE_ALL, "ended"),
+            "path": path or self.last_path(kind, row),
         }
 
     def op_gc_impact(self, ns, type, resource, at):

@@ -10,7 +10,7 @@ use Rattle.meta_types.specs.Paths.{Thing, image, container, lease, ingest, conte
 use Rattle.meta_types.specs.declared.instant.Instant.{Instant}
 use Rattle.meta_types.specs.declared.resource.Mode.TheVariants.{Full, Flat}
 
-lt_le : (a b c : ℤ) → int_lt a b ≡ true → int_le b c ≡ true → int_lt a c ≡ true
+pub lt_le : (a b c : ℤ) → int_lt a b ≡ true → int_le b c ≡ true → int_lt a c ≡ true
 lt_le (pos a) (pos b) (pos c) h k = grind (arith, nat_tests)
 lt_le (pos a) (pos b) (negsuc c) h k = absurd (false≢true k)
 lt_le (pos a) (negsuc b) c h k = absurd (false≢true h)
@@ -19,7 +19,7 @@ lt_le (negsuc a) (pos b) (negsuc c) h k = absurd (false≢true k)
 lt_le (negsuc a) (negsuc b) (pos c) h k = refl
 lt_le (negsuc a) (negsuc b) (negsuc c) h k = grind (arith, nat_tests)
 
-le_le : (a b c : ℤ) → int_le a b ≡ true → int_le b c ≡ true → int_le a c ≡ true
+pub le_le : (a b c : ℤ) → int_le a b ≡ true → int_le b c ≡ true → int_le a c ≡ true
 le_le (pos a) (pos b) (pos c) h k = grind (arith, nat_tests)
 le_le (pos a) (pos b) (negsuc c) h k = absurd (false≢true k)
 le_le (pos a) (negsuc b) c h k = absurd (false≢true h)

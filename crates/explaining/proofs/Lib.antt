@@ -1,6 +1,8 @@
 pub mod WalkPaths
 pub mod ReasonEdges
 pub mod Later
+pub mod LastPaths
+pub mod EndTexts
 pub mod Numbers
 pub mod Searches
 pub mod Uniqueness

@@ -8,7 +8,7 @@ use Rattle.meta_types.specs.Limits.{is_too_large}
 use Rattle.meta_types.specs.declared.limits.TheConstants.{MAX_NODES}
 use Rattle.meta_types.specs.Rows.{Records, image_key, container_key, content_key, ingest_key, snap_key, lease_key}
 use Rattle.meta_types.specs.Paths.{Thing, image, container, lease, ingest, content, snapshot, things, in_both_modes, is_root, IsPath}
-use Rattle.meta_types.specs.Explanations.{EndsPath, IsFirstBack, Explains, AreTold, IsExplanation, before_all_ends}
+use Rattle.meta_types.specs.Explanations.{EndsPath, IsFirstBack, Explains, AreTold, ExplainsLast, IsExplanation}
 use Rattle.meta_types.specs.declared.resource.Mode.{Mode}
 use Rattle.meta_types.specs.declared.resource.Mode.TheVariants.{Full, Flat}
 use Rattle.meta_types.specs.declared.explanation.By.TheVariants.{Root, Ended}
@@ -46,6 +46,16 @@ module _ (a b : Records) (p : a.profile ≡ b.profile) (same : (t : Thing) → C
     first_back = first_as at last path e.first_back;
   }
 
+  last_as : (asked : Thing → Bool) (xs : List Thing) → ExplainsLast a asked xs
+      → ExplainsLast b asked xs
+  last_as asked [] e = λ at. explains_as at asked [] (e at)
+  last_as asked (last ∷ path) e = (
+    e.0,
+    explains_as e.0 asked (last ∷ path) e.1,
+    λ later after. explains_as later asked []
+        (e.2 later after),
+  )
+
   pub explanation_as : (at : ℤ) (asked : Thing → Bool) (kept : Bool) (steps : List PathStep) → IsExplanation a at asked kept steps → IsExplanation b at asked kept steps
   explanation_as at asked kept steps e = elim e [
     | inl (k, h) ↦ inl (
@@ -62,7 +72,7 @@ module _ (a b : Records) (p : a.profile ≡ b.profile) (same : (t : Thing) → C
       record {
         none = explains_as at asked [] h.none;
         path = h.path;
-        explains = explains_as before_all_ends asked h.path h.explains;
+        explains = last_as asked h.path h.explains;
         told = subst (λ (n : ℕ). AreTold n Ended h.path steps) p h.told;
       },
     )

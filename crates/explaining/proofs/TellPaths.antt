@@ -7,7 +7,7 @@ use Rattle.std.proofs.lemmas.List.{length-map, get_or-map}
 use Rattle.meta_types.specs.Rows.{Records}
 use Rattle.meta_types.specs.Paths.{Thing, has_edge, IsPath}
 use Rattle.meta_types.specs.Reasons.{reason_of}
-use Rattle.meta_types.specs.Explanations.{Explains, AreTold, step_of, IsExplanation, before_all_ends}
+use Rattle.meta_types.specs.Explanations.{Explains, AreTold, step_of, ExplainsLast, IsExplanation}
 use Rattle.meta_types.specs.declared.explanation.By.{By}
 use Rattle.meta_types.specs.declared.explanation.By.TheVariants.{Root, Ended}
 use Rattle.meta_types.specs.declared.explanation.PathStep.{PathStep}
@@ -25,6 +25,11 @@ linked_path records at last (before ∷ path) p = (p.1, linked_path records at b
 pub linked : (records : Records) (at : ℤ) (asked : Thing → Bool) (xs : List Thing) → Explains records at asked xs → AreLinked xs
 linked records at asked [] e = tt
 linked records at asked (last ∷ path) e = linked_path records at last path e.leads
+
+pub linked_last : (records : Records) (asked : Thing → Bool) (xs : List Thing)
+    → ExplainsLast records asked xs → AreLinked xs
+linked_last records asked [] e = tt
+linked_last records asked (last ∷ path) e = linked_path records e.0 last path e.1.leads
 
 -- each thing but the root is referenced by the one behind it
 pub linked_at : (xs : List Thing) (i : ℕ) (d : Thing) → AreLinked xs → suc i < length xs → IsTrue (has_edge (get_or xs (suc i) d) (get_or xs i d))
@@ -69,9 +74,14 @@ pub is_kept : (records : Records) (at : ℤ) (asked : Thing → Bool) (xs : List
 is_kept records at asked [] steps some e t = absurd (some refl)
 is_kept records at asked (last ∷ path) steps some e t = inl (refl, record { last = last; path = path; explains = e; told = t })
 
-pub was_kept : (records : Records) (at : ℤ) (asked : Thing → Bool) (xs ys : List Thing) (steps : List PathStep) → length xs ≡ 0 → Explains records at asked xs → Explains records before_all_ends asked ys → AreTold records.profile Ended ys steps → IsExplanation records at asked false steps
+pub was_kept : (records : Records) (at : ℤ) (asked : Thing → Bool) (xs ys : List Thing) (steps : List PathStep) → length xs ≡ 0 → Explains records at asked xs → ExplainsLast records asked ys → AreTold records.profile Ended ys steps → IsExplanation records at asked false steps
 was_kept records at asked [] ys steps none e f t = inr (refl, record { none = e; path = ys; explains = f; told = t })
 was_kept records at asked (x ∷ xs) ys steps none e f t = absurd (omega arith)
+
+pub none_explains_it : (records : Records) (at : ℤ) (asked : Thing → Bool) (xs : List Thing)
+    → length xs ≡ 0 → Explains records at asked xs → Explains records at asked []
+none_explains_it records at asked [] none e = e
+none_explains_it records at asked (x ∷ xs) none e = absurd (omega arith)
 
 -- ---- places of found things
 

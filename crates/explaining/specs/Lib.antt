@@ -8,3 +8,4 @@ pub mod Asked
 pub mod StepWords
 pub mod Questions
 pub mod Searched
+pub mod LastPaths

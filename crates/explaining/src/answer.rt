@@ -69,7 +69,7 @@ fn list_rows(alloc: Global, records: &Records) -> Result<ListedRows<'_>, Fault>
 }
 
 /// What keeps a row at a moment: of all shortest paths of references that lead to it the first; and
-/// where none does, the path that did before all ended. The store stays as it is; the calling
+/// where none does, that of the last moment at which one did. The store stays as it is; the calling
 /// thread does all.
 pub fn explain<R: Threads + Sync>(
     rt: &R,

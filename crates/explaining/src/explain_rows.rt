@@ -1,15 +1,19 @@
 //! The explanation of a row, from borrowed rows.
-ghost use Rattle.std.specs.Prelude.{◌≡◌, ◌==◌, length, map, None, IfOk, false};
+ghost use Rattle.std.specs.Prelude.{◌≡◌, ◌==◌, [], length, map, None, IfOk, false};
 ghost use Rattle.meta_types.specs.Faults.{Refuses};
 ghost use Rattle.meta_types.specs.Limits.{is_too_large};
-ghost use Rattle.meta_types.specs.Explanations.{Explains, IsExplanation};
+ghost use Rattle.meta_types.specs.Explanations.{Explains, ExplainsLast, IsExplanation};
 ghost use Rattle.gc_graph.specs.Built.{AreApart};
 ghost use Rattle.gc_graph.specs.Stored.{records_of, IsSmall, AreLent};
 ghost use Rattle.explaining.specs.Found.{thing_of};
+ghost use Rattle.explaining.specs.LastPaths.{AreRising, IsLastOf};
 ghost use Rattle.explaining.specs.Questions.{asked_by};
 ghost use Rattle.explaining.specs.Searched.{HasGraph};
 
+mod ends;
+
 use crate::asked::Question;
+use crate::explain_rows::ends::past_ends;
 use crate::found::Found;
 use crate::path_search::PathSearch;
 use crate::roots::first_root;
@@ -19,9 +23,6 @@ use mark_core::Graph;
 use meta_types::{Explanation, Fault, Instant};
 use std::alloc::Global;
 use std::thread::Threads;
-
-// The least moment that a text names, `0000-01-01T00:00:00+23:59`: all ends lie behind it.
-const BEFORE_ALL_ENDS: Instant = Instant(-62167305540000000000);
 
 // The first of all shortest paths to the asked row, from the last thing back; no thing where
 // no path leads there.
@@ -49,13 +50,67 @@ fn first_path<'a>(
     Ok(path)
 }
 
+// The path of the last of these moments at which there is one, found by halving: what leads to a
+// row at a moment led there at each before. No thing where there is none.
+fn last_path<'a>(
+    alloc: Global,
+    rows: &StoreRows<'a>,
+    book: &NodeBook<'_>,
+    graph: &Graph,
+    question: Question<'_>,
+    ends: &[i128],
+) -> Result<Vec<Found<'a>>, Fault>
+    requires graph { HasGraph (records_of rows.now) book.now graph.now }
+    requires small { IsSmall rows.now }
+    requires order { AreRising ends.now }
+    ensures fault { Refuses result None }
+    ensures ok { IfOk result (λ path. IsLastOf (records_of rows.now) (asked_by question.entry)
+        ends.now (map thing_of path.items)) }
+{
+    if ends.is_empty() {
+        return Ok(Vec::new(alloc));
+    }
+    let middle = ends.len() / 2;
+    let path = first_path(alloc, rows, book, graph, question, Instant(ends[middle]))?;
+    if has_none(&path) {
+        let earlier = last_path(alloc, rows, book, graph, question, &ends[..middle])?;
+        return Ok(earlier);
+    }
+    let later = last_path(alloc, rows, book, graph, question, &ends[middle + 1..])?;
+    if has_none(&later) {
+        return Ok(path);
+    }
+    Ok(later)
+}
+
+// The path of the last moment at which one led to the asked row, where none does at this one.
+fn ended_path<'a>(
+    alloc: Global,
+    rows: &StoreRows<'a>,
+    book: &NodeBook<'_>,
+    graph: &Graph,
+    question: Question<'_>,
+    at: Instant,
+) -> Result<Vec<Found<'a>>, Fault>
+    requires graph { HasGraph (records_of rows.now) book.now graph.now }
+    requires small { IsSmall rows.now }
+    requires none { Explains (records_of rows.now) at.0 (asked_by question.entry) [] }
+    ensures fault { Refuses result None }
+    ensures ok { IfOk result (λ path. ExplainsLast (records_of rows.now)
+        (asked_by question.entry) (map thing_of path.items)) }
+{
+    let ends = past_ends(alloc, rows, at)?;
+    let path = last_path(alloc, rows, book, graph, question, &ends)?;
+    Ok(path)
+}
+
 fn has_none(path: &Vec<Found<'_>>) -> bool
     ensures { result ≡ (length path.now.items == 0) }
 {
     path.is_empty()
 }
 
-/// What keeps a row, or kept it before all ends.
+/// What keeps a row, or did at the last moment at which something kept it.
 pub(crate) fn explain_rows(
     rt: &(impl Threads + Sync),
     alloc: Global,
@@ -73,8 +128,7 @@ pub(crate) fn explain_rows(
     let (book, graph, _ignored) = build(rt, alloc, rows, at, 1)?;
     let path = first_path(alloc, rows, &book, &graph, question, at)?;
     if has_none(&path) {
-        let ended = BEFORE_ALL_ENDS;
-        let before = first_path(alloc, rows, &book, &graph, question, ended)?;
+        let before = ended_path(alloc, rows, &book, &graph, question, at)?;
         let past = steps_of(alloc, rows.profile, true, &before)?;
         return Ok(Explanation {
             kept: false,

@@ -1,16 +1,20 @@
 //! A path as the steps of an answer.
-ghost use Rattle.std.specs.Prelude.{◌≡◌, ◌<◌, length, map, drop, None, Some, IfOk, codes};
+ghost use Rattle.std.specs.Prelude.{◌≡◌, ◌<◌, length, map, drop, None, Some, IfOk, codes, option_map};
 ghost use Rattle.meta_types.specs.Faults.{Refuses};
 ghost use Rattle.meta_types.specs.Labels.{value_of};
 ghost use Rattle.meta_types.specs.CollectorLabels.{expire_key};
+ghost use Rattle.meta_types.specs.EndTexts.{end_text};
 ghost use Rattle.meta_types.specs.Explanations.{object_in, mode_of, expire_of, step_of, AreTold};
 ghost use Rattle.explaining.specs.Found.{thing_of};
 ghost use Rattle.explaining.specs.Reasons.{by_of};
 ghost use Rattle.explaining.specs.StepWords.{AreLinked, root_word, IsBy};
 
+mod end_text;
+
 use crate::found::Found;
 use crate::reasons::{Why, reason};
-use meta_types::{By, Fault, Labels, Mode, Object, PathStep, RawText, Resource};
+use crate::telling::end_text::end_text;
+use meta_types::{By, Fault, IngestRow, Labels, Mode, Object, PathStep, RawText, Resource};
 use std::alloc::Global;
 
 // The time after which a lease is collected (containerd garbage-collection.md).
@@ -76,6 +80,17 @@ fn expire_in(alloc: Global, labels: &Labels) -> Result<Option<RawText>, Fault>
     }
 }
 
+// The own end of an ingest.
+fn end_of(alloc: Global, row: &IngestRow) -> Result<Option<RawText>, Fault>
+    ensures fault { Refuses result None }
+    ensures ok { IfOk result (λ text. text ≡ option_map (λ end. end_text end.0) row.now.expires) }
+{
+    match row.expires {
+        None => Ok(None),
+        Some(end) => Ok(Some(end_text(alloc, end)?)),
+    }
+}
+
 fn expire_of(alloc: Global, profile: u8, thing: Found<'_>) -> Result<Option<RawText>, Fault>
     ensures fault { Refuses result None }
     ensures ok { IfOk result (λ text. text ≡ expire_of profile (thing_of thing.entry)) }
@@ -89,6 +104,7 @@ fn expire_of(alloc: Global, profile: u8, thing: Found<'_>) -> Result<Option<RawT
             }
         }
         Found::Lease(row) => expire_in(alloc, row.labels()),
+        Found::Ingest(row) => end_of(alloc, row),
         _ => Ok(None),
     }
 }

@@ -1,10 +1,11 @@
 -- What an explanation says: the one shortest path of references that keeps a row. Ours, unless a
 -- source stands beside.
-use Rattle.std.specs.Prelude.{◌≡◌, ◌≤◌, ◌⊎◌, ℕ, ℤ, pos, neg_ℤ, Bool, false, not, ◌&&◌, ◌||◌, List, [], ◌∷◌, ◌++◌, length, Option, Some, None, is_some, option_map, bytes_eq, codes, if◌then◌else◌, IsTrue}
+use Rattle.std.specs.Prelude.{◌≡◌, ◌≤◌, ◌⊎◌, ℕ, ℤ, int_lt, Bool, false, not, ◌&&◌, ◌||◌, List, [], ◌∷◌, ◌++◌, length, Option, Some, None, is_some, option_map, bytes_eq, codes, if◌then◌else◌, IsTrue}
 use Rattle.std.specs.List.{list_any}
 use Rattle.std.specs.Option.{option_map_or}
 use Rattle.meta_types.specs.Text.{Text, is_name, is_short_name}
 use Rattle.meta_types.specs.Time.{instant_of}
+use Rattle.meta_types.specs.EndTexts.{end_text}
 use Rattle.meta_types.specs.Keys.{Key, is_before}
 use Rattle.meta_types.specs.Labels.{value_of}
 use Rattle.meta_types.specs.Faults.{least_of}
@@ -141,11 +142,12 @@ mode_of (content mode row) = Some mode
 mode_of (snapshot mode row) = Some mode
 mode_of _ = None
 
--- the expiry label of a lease, in profile 2 of an image too, as it is stored (containerd
--- garbage-collection.md, `containerd.io/gc.expire`)
+-- until when a thing is a root: the expiry label of a lease, in profile 2 of an image too, as it is
+-- stored (containerd garbage-collection.md, `containerd.io/gc.expire`); the own end of an ingest
 abbrev pub expire_of : ℕ → Thing → Option Text
 expire_of profile (image row) = if images_expire profile then value_of row.labels (codes "containerd.io/gc.expire") else None
 expire_of profile (lease row) = value_of row.labels (codes "containerd.io/gc.expire")
+expire_of profile (ingest row) = option_map (λ end. end_text end.0) row.expires
 expire_of profile _ = None
 
 abbrev pub step_of : ℕ → By → Thing → PathStep
@@ -161,9 +163,12 @@ AreTold profile word (last ∷ before ∷ path) steps = (by : By) × (told : Lis
 
 -- ---- the answer
 
--- the least moment that a text names, `0000-01-01T00:00:00+23:59`: before all ends
-abbrev pub before_all_ends : ℤ
-before_all_ends = neg_ℤ (pos 62167305540000000000)
+-- the things of the last moment at which a path ends in a thing that is asked for, as above; none
+-- exactly where there is no such moment
+abbrev pub ExplainsLast : Records → (Thing → Bool) → List Thing → Type 0
+ExplainsLast records asked [] = (at : ℤ) → Explains records at asked []
+ExplainsLast records asked (last ∷ path) = (at : ℤ) × Explains records at asked (last ∷ path)
+    × ((later : ℤ) → IsTrue (int_lt at later) → Explains records later asked [])
 
 -- a path keeps the row that is asked for: its steps stand from the root on
 pub record IsKeptBy (records : Records) (at : ℤ) (asked : Thing → Bool) (steps : List PathStep) : Type 0 where
@@ -172,11 +177,11 @@ pub record IsKeptBy (records : Records) (at : ℤ) (asked : Thing → Bool) (ste
   pub explains : Explains records at asked (last ∷ path)
   pub told : AreTold records.profile Root (last ∷ path) steps
 
--- no path does: the steps are those of the path before all ends, if there was one
+-- no path does: the steps are those of the last moment at which one did, if one ever did
 pub record WasKeptBy (records : Records) (at : ℤ) (asked : Thing → Bool) (steps : List PathStep) : Type 0 where
   pub none : Explains records at asked []
   pub path : List Thing
-  pub explains : Explains records before_all_ends asked path
+  pub explains : ExplainsLast records asked path
   pub told : AreTold records.profile Ended path steps
 
 abbrev pub IsExplanation : Records → ℤ → (Thing → Bool) → Bool → List PathStep → Type 0

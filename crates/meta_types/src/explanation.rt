@@ -18,7 +18,7 @@ pub enum By {
 }
 
 /// A thing of a path. `mode` is that of content and of snapshots; `expire` is the expiry label of a
-/// root that may end, as it is stored.
+/// root that may end, as it is stored, or the own end of an ingest, in UTC.
 #[derive(Drop)]
 pub struct PathStep {
     pub by: By,
@@ -27,8 +27,8 @@ pub struct PathStep {
     pub expire: Option<RawText>,
 }
 
-/// What keeps a row, from the root on. Where nothing does, `kept` is false, and the path is the one
-/// that kept it until its root ended; it is empty where there never was one.
+/// What keeps a row, from the root on. Where nothing does, `kept` is false, and the path is that
+/// of the last moment at which something kept it; it is empty where there never was one.
 #[derive(Drop)]
 pub struct Explanation {
     pub kept: bool,

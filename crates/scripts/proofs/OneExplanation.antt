@@ -6,7 +6,7 @@ use Rattle.meta_types.specs.Rows.{State, Records}
 use Rattle.meta_types.specs.Sound.{IsSound}
 use Rattle.meta_types.specs.Paths.{Thing}
 use Rattle.meta_types.specs.Reasons.{reason_of}
-use Rattle.meta_types.specs.Explanations.{is_asked, step_of, AreTold, before_all_ends, IsKeptBy, WasKeptBy, IsExplanation}
+use Rattle.meta_types.specs.Explanations.{is_asked, step_of, AreTold, IsKeptBy, WasKeptBy, IsExplanation}
 use Rattle.meta_types.specs.Impacts.{Impact, removed, IsImpact}
 use Rattle.meta_types.specs.Questions.{ExplanationValue, IsExplanationFor, IsImpactFor}
 use Rattle.meta_types.specs.declared.object.Object.{Object}
@@ -15,7 +15,7 @@ use Rattle.meta_types.specs.declared.explanation.By.TheVariants.{Root, Ended}
 use Rattle.meta_types.specs.declared.explanation.PathStep.{PathStep}
 use Rattle.explaining.specs.Explained.{OneThingPerKey}
 use Rattle.scripts.specs.OneOutput.{EachExplanationIsOne, EachImpactIsOne}
-use Rattle.explaining.proofs.Uniqueness.{one_explanation}
+use Rattle.explaining.proofs.Uniqueness.{one_explanation, one_last}
 use Rattle.scripts.proofs.OneThing.{one_thing_per_key}
 
 some_is_one : {X : Type 0} (o : Option X) (x y : X) → o ≡ Some x → o ≡ Some y → x ≡ y
@@ -48,8 +48,7 @@ module _ (records : Records) (one : OneThingPerKey records) (at : ℤ) (asked : 
   ended_once : (steps other : List PathStep) → WasKeptBy records at asked steps
       → WasKeptBy records at asked other → steps ≡ other
   ended_once steps other a b =
-      let same =
-      one_explanation records one before_all_ends asked a.path b.path a.explains b.explains in
+      let same = one_last records one asked a.path b.path a.explains b.explains in
       told_once records.profile Ended b.path steps other
       (subst (λ (p : List Thing). AreTold records.profile Ended p steps) same a.told) b.told
 

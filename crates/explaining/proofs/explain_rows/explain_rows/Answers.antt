@@ -1,19 +1,28 @@
 use Rattle.std.proofs.Common.{◌∙◌, List, map, sym, subst}
-use Rattle.meta_types.specs.Explanations.{before_all_ends, AreTold}
+use Rattle.meta_types.specs.Explanations.{AreTold}
 use Rattle.meta_types.specs.declared.explanation.By.TheVariants.{Root, Ended}
 use Rattle.gc_graph.specs.Stored.{records_of}
 use Rattle.explaining.specs.declared.found.Found.{Found}
 use Rattle.explaining.specs.Found.{thing_of}
 use Rattle.explaining.specs.Questions.{asked_by}
 use Rattle.explaining.specs.StepWords.{AreLinked}
-use Rattle.explaining.proofs.TellPaths.{linked, is_kept, was_kept, none_there, some_there}
+use Rattle.explaining.proofs.TellPaths.{linked, linked_last, is_kept, was_kept, none_there, some_there, none_explains_it}
 use Rattle.explaining.proofs.explain_rows.explain_rows.Goals as goal
 
--- each thing of the path before all ends has a reason
+-- no path leads to the row at the moment
+pub ended_path-requires-clause-none : goal.ended_path-requires-clause-none
+ended_path-requires-clause-none g c =
+    none_explains_it (records_of c.args.rows.now) c.args.at.0 (asked_by c.args.question)
+    (map thing_of c.in_ok-path.path.items)
+    (none_there c.in_ok-path.path.items (sym c.has_none.ensures ∙ c.if-has_none.true))
+    c.in_ok-path.ensures.ok
+
+-- each thing of the path of then has a reason
 pub steps_of-requires : goal.steps_of-requires
 steps_of-requires g c =
     subst (λ (l : List Found). AreLinked (map thing_of l)) (sym c.deref.ensures.value)
-    (linked (records_of c.args.rows.now) before_all_ends (asked_by c.args.question) (map thing_of c.in_ok-before.before.items) c.in_ok-before.ensures.ok)
+    (linked_last (records_of c.args.rows.now) (asked_by c.args.question)
+    (map thing_of c.in_ok-before.before.items) c.in_ok-before.ensures.ok)
 
 -- so has each of the path now
 pub steps_of-requires-2 : goal.steps_of-requires-2
