@@ -1,9 +1,12 @@
 //! Calls each generic function of the libraries at concrete types: it is proved from its bounds
 //! alone, and a contract has to be met at a type. It ends with status 0 where each call answered as
-//! it does with ample memory, and else says which part of it didn't.
+//! it does with ample memory, and else says which part of it didn't. With the word `collections` it
+//! tries a collection of each kind, and says how many were answered, refused, and wrong.
 #![tactic(auto)]
 
 mod backends;
+mod collections;
+mod filling;
 mod graph;
 mod markings;
 mod questions;
@@ -12,6 +15,7 @@ mod sessions;
 
 use meta_types::Fault;
 use std::alloc::Global;
+use std::env;
 use std::process::ExitCode;
 use std::sync::Wait;
 use std::thread::Threads;
@@ -42,7 +46,34 @@ fn first_failed<R: Threads + Wait + Sync>(
     Ok(None)
 }
 
+// Whether the program's one word asks for collections.
+fn asks_for_collections(rt: &HostRuntime, alloc: Global) -> Result<bool, Fault> {
+    let Ok(args) = env::args(rt) else {
+        return Err(Fault::OutOfMemory);
+    };
+    let words: Vec<String> = args.collect(alloc)?;
+    Ok(words.len() == 2 && words[1].as_str() == "collections")
+}
+
+// Tells how the collections went.
+fn tell_collections(rt: &HostRuntime) -> ExitCode {
+    let outcomes = collections::calls(rt, rt.alloc());
+    let answered = outcomes.answered;
+    let refused = outcomes.refused;
+    let changed = outcomes.changed;
+    let _told = println!(rt; "answered {answered} refused {refused} changed {changed}");
+    ExitCode::SUCCESS
+}
+
 fn main(rt: HostRuntime) -> ExitCode {
+    match asks_for_collections(&rt, rt.alloc()) {
+        Ok(true) => return tell_collections(&rt),
+        Ok(false) => {}
+        Err(_) => {
+            let _told = eprintln!(rt; "concrete_calls: the words can't be read");
+            return ExitCode::from(1);
+        }
+    }
     let failed = match first_failed(&rt, rt.alloc()) {
         Ok(None) => return ExitCode::SUCCESS,
         Ok(Some(part)) => part,

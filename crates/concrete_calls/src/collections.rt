@@ -1,23 +1,17 @@
 //! Collections of each kind, on a store with a log and a session. A collection that is refused has
 //! to leave the log, the session's list and the records as they were, and the same collection after
-//! it has to report what it reports with ample memory. The program prints how many were answered,
-//! how many refused, and how many of either went wrong; it is run once for each of its growths,
-//! which is refused then.
-#![tactic(auto)]
-
+//! it has to report what it reports with ample memory. `trials/refusals` runs the program once for
+//! each of its growths, which is refused then.
 ghost use Rattle.std.specs.Prelude.{◌≡◌};
 
-mod filling;
-
+use crate::filling::{removal, request};
 use backend_sweep::OpenSweepGate;
-use filling::{removal, request};
 use gc_report::Report;
 use lease_book::Lease;
 use meta_types::{Fault, Instant, Removal, Request};
 use request_core::{Records, State};
 use std::alloc::Global;
 use std::marker::{Brand, Model};
-use std::process::ExitCode;
 use std::sync::Wait;
 use std::sync::ledger::{Blank, Ledger};
 use std::thread::Threads;
@@ -269,19 +263,29 @@ fn outcome<R: Threads + Wait + Sync>(rt: &R, alloc: Global, kind: u32) -> Result
     judged::<Brand, R>(rt, alloc, Blank::new(65536), kind, &expected)
 }
 
-fn main(rt: HostRuntime) -> ExitCode {
-    let alloc = rt.alloc();
-    let mut answered = 0u32;
-    let mut refused = 0u32;
-    let mut changed = 0u32;
+/// How many collections went how.
+#[derive(Clone, Copy)]
+pub(crate) struct Outcomes {
+    pub(crate) answered: u32,
+    pub(crate) refused: u32,
+    /// Answered otherwise, or refused with something changed.
+    pub(crate) changed: u32,
+}
+
+/// Tries one collection of each kind.
+pub(crate) fn calls<R: Threads + Wait + Sync>(rt: &R, alloc: Global) -> Outcomes {
+    let mut outcomes = Outcomes {
+        answered: 0,
+        refused: 0,
+        changed: 0,
+    };
     for kind in 0..5 {
-        match outcome(&rt, alloc, kind) {
-            Ok(0) => answered = answered.wrapping_add(1),
-            Ok(1) => refused = refused.wrapping_add(1),
-            Ok(_) => changed = changed.wrapping_add(1),
+        match outcome(rt, alloc, kind) {
+            Ok(0) => outcomes.answered = outcomes.answered.wrapping_add(1),
+            Ok(1) => outcomes.refused = outcomes.refused.wrapping_add(1),
+            Ok(_) => outcomes.changed = outcomes.changed.wrapping_add(1),
             Err(_) => {}
         }
     }
-    let _told = println!(rt; "answered {answered} refused {refused} changed {changed}");
-    ExitCode::SUCCESS
+    outcomes
 }

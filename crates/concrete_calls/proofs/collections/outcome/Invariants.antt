@@ -1,4 +1,4 @@
-use Rattle.collections.proofs.outcome.Given as goal
+use Rattle.concrete_calls.proofs.collections.outcome.Given as goal
 
 -- each ledger is named as its blank is
 abbrev pub ghosts-reported : goal.ghosts-reported
