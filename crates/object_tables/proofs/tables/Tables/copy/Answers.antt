@@ -25,6 +25,21 @@ memory_fails : {T : Type 0} (result : Result T Fault) (fault : Fault)
 memory_fails (Ok tables) fault same h = absurd same
 memory_fails (Err other) fault same h = same ∙ h
 
+pub returns-in_err-images-clause-fault : goal.returns-in_err-images-clause-fault
+returns-in_err-images-clause-fault c =
+    let passed = c.from_residual-in_err-images in
+    memory_fails passed.result _ passed.ensures.1 c.in_err-images.ensures.fault
+
+pub returns-in_err-containers-clause-fault : goal.returns-in_err-containers-clause-fault
+returns-in_err-containers-clause-fault c =
+    let passed = c.from_residual-in_err-containers in
+    memory_fails passed.result _ passed.ensures.1 c.in_err-containers.ensures.fault
+
+pub returns-in_err-content-clause-fault : goal.returns-in_err-content-clause-fault
+returns-in_err-content-clause-fault c =
+    let passed = c.from_residual-in_err-content in
+    memory_fails passed.result _ passed.ensures.1 c.in_err-content.ensures.fault
+
 pub returns-in_err-ingests-clause-fault : goal.returns-in_err-ingests-clause-fault
 returns-in_err-ingests-clause-fault c =
     let passed = c.from_residual-in_err-ingests in
