@@ -1,5 +1,5 @@
 -- The children of each snapshot are counted.
-use Rattle.std.proofs.Common.{◌≡◌, ◌≤◌, ◌+◌, ◌⊎◌, ℕ, List, [], ◌∷◌, length, Bool, true, false, refl, sym, ◌∙◌, ap, subst, inl, inr, arith}
+use Rattle.std.proofs.Common.{◌≡◌, ◌≤◌, ◌+◌, ◌⊎◌, ℕ, suc, List, [], ◌∷◌, length, Bool, true, false, refl, sym, ◌∙◌, ap, subst, inl, inr, arith}
 use Rattle.std.specs.Prelude.{cond, Option, Some, None, nat_lt, option_map, sum_by}
 use Rattle.std.proofs.lemmas.Bool.{cases_Bool, cases_eq, eq-eqb, ne_eqb, lt-ltb, le-ltb, ltb-false}
 use Rattle.std.specs.List.{list_any}
@@ -33,6 +33,11 @@ looked_up q (e ∷ es) = elim (cases_Bool (is_at (nat_cmp q) e.0)) [
 pub same_keys : (es : Entries) → keys_of (parents_of es) ≡ keys_of es
 same_keys [] = refl
 same_keys (e ∷ es) = ap (λ ks. e.0 ∷ ks) (same_keys es)
+
+-- and as many
+pub as_many : (es : Entries) → length (parents_of es) ≡ length es
+as_many [] = refl
+as_many (e ∷ es) = ap suc (as_many es)
 
 pub parents_in_order : (nodes : BTreeMap ℕ Node) → IsOrdered nat_cmp nodes → IsStrictlySortedBy nat_cmp (keys_of (parents_of nodes.entries))
 parents_in_order nodes order = subst (IsStrictlySortedBy nat_cmp) (sym (same_keys nodes.entries)) order

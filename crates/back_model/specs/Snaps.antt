@@ -1,5 +1,5 @@
 -- What a shard of snapshots holds. Ours, unless a source stands beside.
-use Rattle.std.specs.Prelude.{ℕ, Bool, true, false, not, ◌&&◌, Option, ◌==◌, option_and_then}
+use Rattle.std.specs.Prelude.{ℕ, Bool, true, false, not, ◌&&◌, Option, ◌==◌, length, option_and_then}
 use Rattle.std.specs.List.{list_any}
 use Rattle.std.specs.Option.{option_map_or}
 use Rattle.std.specs.Ordering.{nat_cmp}
@@ -13,6 +13,10 @@ Snaps = finmap.FinMap nat_cmp (Option ℕ)
 -- the snapshot is there
 abbrev pub is_held : Snaps → ℕ → Bool
 is_held snaps number = finmap.contains_key snaps number
+
+-- no snapshot is there
+abbrev pub is_empty : Snaps → Bool
+is_empty snaps = length (finmap.entries snaps) == 0
 
 -- the parent that is named is there, if one is named (containerd snapshots service)
 abbrev pub is_parent_held : Snaps → Option ℕ → Bool

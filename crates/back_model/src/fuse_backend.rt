@@ -77,6 +77,10 @@ impl SnapBackend for FuseBackend {
         self.inner.holds(number)
     }
 
+    fn is_empty(&self) -> bool {
+        self.inner.is_empty()
+    }
+
     fn parent(&self, number: u64) -> Option<u64> {
         self.inner.parent(number)
     }

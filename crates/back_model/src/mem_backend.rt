@@ -172,6 +172,10 @@ impl SnapBackend for MemBackend {
         self.node(number).is_some()
     }
 
+    fn is_empty(&self) -> bool {
+        self.nodes.len() == 0
+    }
+
     fn parent(&self, number: u64) -> Option<u64> {
         match self.node(number) {
             Some(node) => node.parent,

@@ -6,7 +6,7 @@ ghost use Rattle.meta_types.specs.Changes.{put_blob};
 ghost use Rattle.meta_types.specs.Faults.{Refuses};
 ghost use Rattle.row_tables.specs.Arrived.{one_text, sorted};
 ghost use Rattle.back_model.specs.Answers.{Makes, Removes, make_fails, remove_fails};
-ghost use Rattle.back_model.specs.Snaps.{Snaps, is_held, is_parent_held, parent_of, has_child};
+ghost use Rattle.back_model.specs.Snaps.{Snaps, is_held, is_parent_held, parent_of, has_child, is_empty};
 ghost use Rattle.back_model.specs.Objects.{has_blob, without_blob, AreOrderedBlobs, has_number, put_number, without_number, AreOrderedNumbers};
 
 use crate::faults::{MakeFault, RemoveFault};
@@ -47,6 +47,10 @@ pub trait SnapBackend: Send + Drop {
     /// Whether the snapshot is there.
     fn holds(&self, number: u64) -> bool
         ensures { result ≡ is_held (contents self.now) number };
+
+    /// Whether it holds no snapshot.
+    fn is_empty(&self) -> bool
+        ensures { result ≡ is_empty (contents self.now) };
 
     /// The parent of a snapshot, where it is there and has one.
     fn parent(&self, number: u64) -> Option<u64>

@@ -11,9 +11,10 @@ use Rattle.std.proofs.lemmas.Bool.Decides.{Decides-eqb}
 use Rattle.std.proofs.lemmas.Slice.Eq.{bytes_eq-Decides}
 use Rattle.meta_types.specs.Text.{Text, text_cmp}
 use Rattle.meta_types.specs.Backends.{BackNames}
+use Rattle.meta_types.specs.Rows.{BackLists, BackSnap}
 use Rattle.meta_types.proofs.Members.{here, later, first_or_later, none_in_nothing}
 use Rattle.back_model.specs.Snaps.{Snaps}
-use Rattle.back_model.specs.Shown.{Shard, AreApart, snaps_at, shown, all_failures}
+use Rattle.back_model.specs.Shown.{Shard, AreApart, snaps_at, shown, all_snaps, all_failures}
 use Rattle.back_model.proofs.ShardPlaces.{apart_head, apart_rest}
 use Rattle.backend_sweep.specs.Shards.{is_number, numbers_of}
 use Rattle.backend_sweep.specs.Sweep.{Childfirst}
@@ -21,13 +22,14 @@ use Rattle.backend_sweep.specs.Singles.{AreHeldOnce}
 use Rattle.backend_sweep.specs.ShardPlans.{PlannedShard, shard_plan_for, IsReady, fate_of, is_removed, is_failed}
 use Rattle.backend_sweep.specs.Fated.{AllFates, removed_of, failed_of}
 use Rattle.backend_sweep.specs.Backed.{MaySweep}
-use Rattle.backend_sweep.specs.Swept.{held_in, SweepsNames, count_names}
-use Rattle.backend_sweep.specs.Tasks.{shards_in, shard_plans_in, AreJobsOf, AreReady, SweepsJobs, SweepsList}
+use Rattle.backend_sweep.specs.Swept.{held_in, IsSwept, SweepsNames, count_names}
+use Rattle.backend_sweep.specs.Tasks.{entries_in, shards_in, shard_plans_in, left_in, AreJobsOf, AreReady, SweepsJobs, SweepsList}
 use Rattle.backend_sweep.specs.declared.fates.Fate.{Fate}
 use Rattle.backend_sweep.specs.declared.shard_task.ShardJob.{ShardJob}
 use Rattle.backend_sweep.proofs.Fated.{removed_by, failed_by}
 use Rattle.backend_sweep.proofs.Zipped.{Triple, olds_of, shard_plans_of, news_of, One, Zips, shard_plan_at, shard_there, zipped}
 use Rattle.backend_sweep.proofs.Counting.{counted}
+use Rattle.backend_sweep.proofs.LeftShards.{same_snaps, same_failures}
 use Rattle.backend_sweep.proofs.SweptBackends.{held_once, texts_apart, numbers_apart, first_by, swept}
 
 -- a vector after all of its slice was written
@@ -124,7 +126,7 @@ module _ {S B I : Type 0} (contents : S → Snaps) (fails : S → ℕ) (texts : 
     (fates last : AllFates) (last_is : last ≡ record fates { snapshots = map (fate_of (shard_plans_in new)) names.snapshots })
     (blobs_taken : b1 ≡ b0) (blobs_put : b3 ≡ b2) (ingests_taken : i1 ≡ i0) (ingests_put : i3 ≡ i2)
     (blobs_swept : SweepsList bytes_eq texts blob_fails names.blobs fates.blobs b1 b2) (ingests_swept : SweepsList is_number numbers ingest_fails names.ingests fates.ingests i1 i2)
-    (news : List Shard) (news_are : news ≡ shards_in contents fails new) where
+    (news : List Shard) (news_are : news ≡ left_in contents fails names.snapshots new) where
   z : Zips names.snapshots (shards_in contents fails jobs) (shard_plans_in new) (shards_in contents fails new)
   z = zips contents fails olds (texts b0) (numbers i0) names may apart jobs of new done
 
@@ -146,16 +148,28 @@ module _ {S B I : Type 0} (contents : S → Snaps) (fails : S → ℕ) (texts : 
   failed_are : (failed_of names last).snapshots ≡ filter (is_failed (shard_plans_of z.zs)) names.snapshots
   failed_are = failed_by (shard_plans_in new) names.snapshots last.snapshots set ∙ ap (λ (l : List PlannedShard). filter (is_failed l) names.snapshots) (sym z.shard_plans_are)
 
+  -- the shards that are left out hold nothing
+  held : held_in (shards_in contents fails new) (texts b3) (numbers i3)
+      ≡ held_in news (texts b3) (numbers i3)
+  held = ap
+      (λ (l : List BackSnap). record { blobs = texts b3; snapshots = l; ingests = numbers i3 })
+      (sym (ap all_snaps news_are ∙ same_snaps contents fails names.snapshots (entries_in new)))
+
   pub swept_by : SweepsNames names (held_in olds (texts b0) (numbers i0)) (held_in news (texts b3) (numbers i3)) last
   swept_by tables are =
-      swept olds (texts b0) (numbers i0) names may apart z.zs olds_are z.each tables are (texts b3) (numbers i3) (removed_of names last) (failed_of names last) (blob_fails b0) (blob_fails b3) (ingest_fails i0) (ingest_fails i3)
-      sb si removed_are failed_are news (z.news_are ∙ sym news_are)
+      subst
+      (λ (l : BackLists). IsSwept tables (held_in olds (texts b0) (numbers i0)) l
+      (removed_of names last) (failed_of names last)) held
+      (swept olds (texts b0) (numbers i0) names may apart z.zs olds_are z.each tables are (texts b3) (numbers i3) (removed_of names last) (failed_of names last) (blob_fails b0) (blob_fails b3) (ingest_fails i0) (ingest_fails i3)
+      sb si removed_are failed_are (shards_in contents fails new) z.news_are)
 
   pub count_by : all_failures news + blob_fails b3 + ingest_fails i3
       ≡ all_failures olds + blob_fails b0 + ingest_fails i0 + count_names (failed_of names last)
   count_by =
       let n = counted names.snapshots z.zs (subst AreApart (sym olds_are) apart) z.each in
-      let a : all_failures news ≡ all_failures (news_of z.zs) = ap all_failures (news_are ∙ sym z.news_are) in
+      let a : all_failures news ≡ all_failures (news_of z.zs) = ap all_failures news_are
+      ∙ same_failures contents fails names.snapshots (entries_in new)
+      ∙ ap all_failures (sym z.news_are) in
       let b : all_failures (olds_of z.zs) ≡ all_failures olds = ap all_failures olds_are in
       let f : length (failed_of names last).snapshots ≡ length (filter (is_failed (shard_plans_of z.zs)) names.snapshots) = ap (λ (l : List (Text × ℕ)). length l) failed_are in
       let p = sb.count in

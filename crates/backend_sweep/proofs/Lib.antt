@@ -14,6 +14,7 @@ pub mod SweptLists
 pub mod Zipped
 pub mod Counting
 pub mod SweptBackends
+pub mod LeftShards
 pub mod Backs
 pub mod Allowed
 pub mod Fated

@@ -1,7 +1,7 @@
 -- What a sweep leaves to threads, and what they do. Ours, unless a source stands beside.
-use Rattle.std.specs.Prelude.{◌≡◌, ℕ, ◌<◌, Bool, List, length, map, All, bytes_eq, slice_index_or}
+use Rattle.std.specs.Prelude.{◌≡◌, ℕ, ◌<◌, ◌==◌, Bool, not, ◌||◌, List, length, map, filter, All, bytes_eq, slice_index_or}
 use Rattle.meta_types.specs.Text.{Text}
-use Rattle.back_model.specs.Snaps.{Snaps}
+use Rattle.back_model.specs.Snaps.{Snaps, is_empty}
 use Rattle.back_model.specs.Shown.{Shard, shown}
 use Rattle.table_sweep.specs.BlobMarks.{AreBlobMarks}
 use Rattle.table_sweep.specs.declared.planning.Plan.{Plan}
@@ -22,6 +22,20 @@ shards_in contents fails jobs = map (shown contents fails) (entries_in jobs)
 -- the plans of the shards
 abbrev pub shard_plans_in : {S : Type 0} → List (ShardJob S) → List PlannedShard
 shard_plans_in jobs = map (λ (job : ShardJob _). job.shard_plan) jobs
+
+-- the shard stays behind a sweep of the names: it holds a snapshot, or a failure was counted, or
+-- none of the names is its own
+abbrev pub is_left : {S : Type 0} → (S → Snaps) → (S → ℕ) → List (Text × ℕ) → Text × S → Bool
+is_left contents fails names entry =
+    not (is_empty (contents entry.1))
+    || (not (fails entry.1 == 0)
+    || (length (filter (λ name. bytes_eq name.0 entry.0) names) == 0))
+
+-- the shards that are left
+abbrev pub left_in : {S : Type 0} → (S → Snaps) → (S → ℕ) → List (Text × ℕ) → List (ShardJob S)
+    → List Shard
+left_in contents fails names jobs =
+    map (shown contents fails) (filter (is_left contents fails names) (entries_in jobs))
 
 -- these are the shards, each with the plan of its snapshotter's names
 pub record AreJobsOf {S : Type 0} (contents : S → Snaps) (fails : S → ℕ) (names : List (Text × ℕ)) (shards : List Shard) (jobs : List (ShardJob S)) : Type 0 where

@@ -1,16 +1,17 @@
 //! Shards beside their plans: what the workers sweep at once.
-ghost use Rattle.std.specs.Prelude.{◌≡◌, ◌≤◌, [], length, map, None, IfOk, OnOk, OnErr};
+ghost use Rattle.std.specs.Prelude.{◌≡◌, ◌≤◌, [], length, map, filter, None, IfOk, OnOk, OnErr};
 ghost use Rattle.std.specs.Vec.{vec_capacity};
 ghost use Rattle.meta_types.specs.Faults.{Refuses};
 ghost use Rattle.back_model.specs.Shown.{AreApart, shown};
 ghost use Rattle.backend_sweep.specs.Fated.{AreFatesOf};
 ghost use Rattle.backend_sweep.specs.Parts.{StandBySnapshotter};
 ghost use Rattle.backend_sweep.specs.ShardPlans.{shard_plan_for, IsReady, fate_of};
-ghost use Rattle.backend_sweep.specs.Tasks.{entries_in, shards_in, shard_plans_in, AreJobsOf, AreReady, SweepsJob, SweepsJobs};
+ghost use Rattle.backend_sweep.specs.Tasks.{entries_in, shards_in, shard_plans_in, is_left, left_in, AreJobsOf, AreReady, SweepsJob, SweepsJobs};
 
 use crate::crew::Crew;
 use crate::fates::Fates;
 use crate::gate::{OpenSweepGate, SweepGate};
+use crate::parts::part_of;
 use crate::shard_plans::{ShardPlan, set_snapshots, shard_plans_of, sweep_shard_plan};
 use back_model::{Backends, BlobBackend, IngestBackend, SnapBackend};
 use meta_types::{Fault, ShortName};
@@ -110,6 +111,27 @@ fn part_jobs<S: SnapBackend>(
         shards.push_reserved(entry);
         shard_plans.push_reserved(shard_plan);
     }
+}
+
+// Whether a shard stays behind a sweep of these names: one goes that lost its last snapshot, and
+// has counted no failure.
+fn is_left<S: SnapBackend>(entry: &(ShortName, S), names: &[(ShortName, u64)]) -> bool
+    requires { StandBySnapshotter names.now }
+    ensures { result ≡ is_left S.contents S.fails names.now entry.now }
+{
+    !entry.1.is_empty() || entry.1.failures() != 0 || part_of(names, &entry.0).is_empty()
+}
+
+// Leaves out the shards that go.
+fn leave_out<S: SnapBackend>(shards: &mut Vec<(ShortName, S)>, names: &[(ShortName, u64)])
+    requires { StandBySnapshotter names.now }
+    ensures { shards.new.items ≡ filter (is_left S.contents S.fails names.now) shards.old.items }
+{
+    shards.retain(
+        |entry: &(ShortName, S)| -> bool
+            requires { StandBySnapshotter names.now }
+        { is_left(entry, names) },
+    );
 }
 
 fn sweep_job<S: SnapBackend, H: SweepGate>(alloc: Global, job: &mut ShardJob<S>, gate: &H)
@@ -228,18 +250,20 @@ impl<S: SnapBackend> ShardTask<S> {
         sweep_jobs(crew, &mut self.jobs);
     }
 
-    /// Puts the shards back, and copies each snapshot's fate from its shard's plan. It takes no
-    /// memory.
+    /// Puts the shards back that are left, and copies each snapshot's fate from its shard's plan.
+    /// It takes no memory.
     pub(crate) fn put_back<B: BlobBackend, I: IngestBackend>(
         self,
         backends: &mut Backends<S, B, I>,
         plan: &Plan,
         fates: &mut Fates,
     )
+        requires names { StandBySnapshotter plan.now.report.backend.snapshots }
         requires apart { AreApart (shards_in S.contents S.fails self) }
         requires of { AreFatesOf plan.now.report.backend fates.old }
-        ensures shards { backends.new
-            ≡ record backends.old { shards = shards_in S.contents S.fails self } }
+        ensures shards { backends.new ≡ record backends.old {
+          shards = left_in S.contents S.fails plan.now.report.backend.snapshots self;
+        } }
         ensures set { fates.new ≡ record fates.old {
           snapshots = map (fate_of (shard_plans_in self)) plan.now.report.backend.snapshots;
         } }
@@ -251,6 +275,7 @@ impl<S: SnapBackend> ShardTask<S> {
             mut shard_plans,
         } = self;
         part_jobs(jobs, &mut shards, &mut shard_plans);
+        leave_out(&mut shards, &plan.report.backend.snapshots);
         backends.put_shards(shards);
         set_snapshots(&shard_plans, plan, fates);
     }

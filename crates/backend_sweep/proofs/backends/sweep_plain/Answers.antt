@@ -27,6 +27,9 @@ sweep_singles-requires-clause-ingests g c κs within =
     subst (λ b. AreHeldOnce is_number c.args.plan.now.report.backend.ingests (g.I.IngestBackend.contents b)) (sym (ap (λ b. b.ingests) c.in_ok-task.ensures.ok))
     (held_ingests _ _ _ c.args.plan.now.report.backend (may_sweep _ _ c.requires.planned))
 
+pub put_back-requires-clause-names : goal.put_back-requires-clause-names
+put_back-requires-clause-names g c κs within = names_stand _ _ (may_sweep _ _ c.requires.planned)
+
 -- the shards that are left are apart
 pub put_back-requires-clause-apart : goal.put_back-requires-clause-apart
 put_back-requires-clause-apart g c κs within =
