@@ -1,6 +1,6 @@
 -- Of all shortest paths to a thing the first.
 use Rattle.std.proofs.Common.{◌≡◌, ℕ, zero, suc, ◌+◌, ◌<◌, ◌≤◌, true, false, List, [], ◌∷◌, ◌++◌, map, length, get_or, refl, sym, ap, ◌∙◌, subst, inl, inr, ◌⊎◌, arith, ℤ, Option, Some, None, is_some}
-use Rattle.std.specs.Prelude.{Contains, IsTrue, IfSome, ◌==◌, option_map}
+use Rattle.std.specs.Prelude.{Contains, IsTrue, ◌==◌, option_map}
 use Rattle.std.specs.List.{list_any}
 use Rattle.std.specs.Option.{option_map_or}
 use Rattle.std.proofs.lemmas.Bool.{both_ways, false≢true, false_from_ne_true, and_parts, and_from}

@@ -99,6 +99,11 @@ default_free [] i lt a b = absurd (omega arith)
 default_free (x ∷ xs) zero lt a b = refl
 default_free (x ∷ xs) (suc i) lt a b = default_free xs i (omega arith) a b
 
+-- a moment that stands there may be its own default
+pub itself_there : (ends : List ℤ) (i : ℕ) → i < length ends
+    → get_or ends i (get_or ends i (pos 0)) ≡ get_or ends i (pos 0)
+itself_there ends i lt = default_free ends i lt (get_or ends i (pos 0)) (pos 0)
+
 pub is_none : (n : ℕ) → (n == 0) ≡ true → n ≡ 0
 is_none n h = grind (arith, nat_tests)
 
@@ -182,20 +187,21 @@ module _ (records : Records) (asked : Thing → Bool) where
       where
         none_behind : (end : ℤ) (k : ℕ) → k < length ends → get_or ends k end ≡ end
             → (k < middle → ⊥) → NoneAt end
-        none_behind end k below at not =
-            none_later moment end (not_earlier end k below at (omega (arith, not))) none
+        none_behind end k below at off =
+            none_later moment end (not_earlier end k below at (omega (arith, off))) none
 
         go : (xs : List Thing) → IsLastOf records asked front xs → IsLastOf records asked ends xs
-        go [] each end (k, below, at) =
-            dite (dec_lt k middle) (λ (less : k < middle). each end (in_front end k below at less))
-            (λ (not : k < middle → ⊥). none_behind end k below at not)
+        go [] each =
+            λ end c. dite (dec_lt c.0 middle)
+            (λ (less : c.0 < middle). each end (in_front end c.0 c.1 c.2 less))
+            (λ (off : c.0 < middle → ⊥). none_behind end c.0 c.1 c.2 off)
         go (last ∷ path) (at, there, explains, each) = (
           at,
           from_front at there,
           explains,
           λ later c after. dite (dec_lt c.0 middle)
               (λ (less : c.0 < middle). each later (in_front later c.0 c.1 c.2 less) after)
-              (λ (not : c.0 < middle → ⊥). none_behind later c.0 c.1 c.2 not),
+              (λ (off : c.0 < middle → ⊥). none_behind later c.0 c.1 c.2 off),
         )
 
     module _ (last : Thing) (path : List Thing)
@@ -208,13 +214,14 @@ module _ (records : Records) (asked : Thing → Bool) where
         explains,
         λ later c after. dite (dec_lt middle c.0)
             (λ (more : middle < c.0). none later (in_back later c.0 c.1 c.2 more))
-            (λ (not : middle < c.0 → ⊥). absurd
-            (no_cycle moment later after (not_more later c.0 c.1 c.2 (omega (arith, not))))),
+            (λ (off : middle < c.0 → ⊥). absurd
+            (no_cycle moment later after (not_more later c.0 c.1 c.2 (omega (arith, off))))),
       )
 
       -- else it is behind
       pub behind : (end : Thing) (rest : List Thing) → IsLastOf records asked back (end ∷ rest)
           → IsLastOf records asked ends (end ∷ rest)
+      unfolding from_back
       behind end rest (at, there, is_there, each) =
           let whole = from_back at there in (
             at,
@@ -222,9 +229,9 @@ module _ (records : Records) (asked : Thing → Bool) where
             is_there,
             λ later c after. dite (dec_lt middle c.0)
                 (λ (more : middle < c.0). each later (in_back later c.0 c.1 c.2 more) after)
-                (λ (not : middle < c.0 → ⊥).
+                (λ (off : middle < c.0 → ⊥).
                 absurd (no_cycle at later after
-                (le_le later moment at (not_more later c.0 c.1 c.2 (omega (arith, not)))
+                (le_le later moment at (not_more later c.0 c.1 c.2 (omega (arith, off)))
                 (late there)))),
           )
         where
@@ -340,19 +347,20 @@ module _ (records : Records) (asked : Thing → Bool) where
     -- a path that there isn't at this moment leads there until an end of the list
     until : (last : Thing) (path : List Thing) (moment : ℤ) → IsPath records moment last path
         → (IsPath records at last path → ⊥) → HasEnd moment (λ end. IsPath records end last path)
-    until last [] moment p not = elim (cases_Bool (is_root records.profile at last)) [
-      | inl root ↦ absurd (not (p.0, root))
+    until last [] moment p never = elim (cases_Bool (is_root records.profile at last)) [
+      | inl root ↦ absurd (never (p.0, root))
       | inr ended ↦
           (let found = root_ends last moment p.0 p.1 ended in
           (found.0, found.1, found.2, (p.0, found.3)))
     ]
-    until last (before ∷ path) moment p not =
-        let found = until before path moment p.2 (λ q. not (p.0, p.1, q)) in
+    until last (before ∷ path) moment p never =
+        let found = until before path moment p.2 (λ q. never (p.0, p.1, q)) in
         (found.0, found.1, found.2, (p.0, p.1, found.3))
 
     pub last_of_all : (path : List Thing) → IsLastOf records asked ends path
         → ExplainsLast records asked path
-    last_of_all [] each moment thing path a p =
+    last_of_all [] each =
+        λ moment thing path a p.
         let found = until thing path moment p (λ q. none thing path a q) in
         each found.0 found.1 thing path a found.3
     last_of_all (last ∷ path) (end, there, explains, each) = (

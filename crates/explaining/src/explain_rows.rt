@@ -94,7 +94,7 @@ fn ended_path<'a>(
 ) -> Result<Vec<Found<'a>>, Fault>
     requires graph { HasGraph (records_of rows.now) book.now graph.now }
     requires small { IsSmall rows.now }
-    requires none { Explains (records_of rows.now) at.0 (asked_by question.entry) [] }
+    requires none { Explains (records_of rows.now) at.0 (asked_by question) [] }
     ensures fault { Refuses result None }
     ensures ok { IfOk result (λ path. ExplainsLast (records_of rows.now)
         (asked_by question.entry) (map thing_of path.items)) }

@@ -1,4 +1,4 @@
-use Rattle.std.proofs.Common.{◌≡◌, ◌∙◌, List, Option, Some, None, length, map, get_or, sym, ap, subst, arith}
+use Rattle.std.proofs.Common.{◌≡◌, ◌∙◌, List, None, length, map, get_or, sym, ap, subst, arith}
 use Rattle.meta_types.specs.Explanations.{Explains}
 use Rattle.gc_graph.specs.Stored.{records_of}
 use Rattle.explaining.specs.declared.found.Found.{Found}

@@ -1,6 +1,5 @@
-use Rattle.std.proofs.Common.{◌≡◌, ◌<◌, ◌∙◌, ◌∷◌, ◌++◌, ℕ, List, Option, None, length, map, get_or, sym, ap, subst, arith}
+use Rattle.std.proofs.Common.{◌≡◌, ◌<◌, ◌∙◌, ◌∷◌, ℕ, List, Option, None, length, map, get_or, sym, ap, subst, arith}
 use Rattle.std.specs.Prelude.{option_map}
-use Rattle.meta_types.specs.Paths.{Thing}
 use Rattle.meta_types.specs.Walks.{end_of}
 use Rattle.gc_graph.specs.Stored.{records_of}
 use Rattle.explaining.specs.Found.{thing_of, thing_at}
