@@ -1,10 +1,12 @@
 -- Records without the row that is removed with a collection, and the rows that are listed then.
 use Rattle.std.proofs.Common.{◌≡◌, Bool, true, false, List, [], ◌∷◌, map, filter, length, refl, sym, ap, ◌∙◌, subst, inl, inr}
+use Rattle.std.proofs.Common.{Vec, Global}
 use Rattle.std.specs.Prelude.{IsTrue, Option, Some, None}
 use Rattle.std.proofs.lemmas.Bool.{cases_Bool}
 use Rattle.std.proofs.lemmas.List.{length-map}
+use Rattle.meta_types.specs.Text.{Text}
 use Rattle.meta_types.specs.Keys.{Key, is_key, has_row, remove_row, are_in_order}
-use Rattle.meta_types.specs.Rows.{Records, Tables, State, BackLists, LeaseRow, image_key, lease_key}
+use Rattle.meta_types.specs.Rows.{Records, Tables, State, LeaseRow, image_key, lease_key}
 use Rattle.meta_types.specs.Sound.{IsSound}
 use Rattle.meta_types.specs.declared.rows.ImageRow.{ImageRow}
 use Rattle.meta_types.proofs.Puts.{no_row_removed}
@@ -19,10 +21,11 @@ use Rattle.table_sweep.specs.Stays.{FitRows, StayNumbered}
 use Rattle.table_sweep.specs.declared.masks.Masks.{Masks}
 use Rattle.table_sweep.proofs.SortedRows.{sorted_filter}
 use Rattle.table_sweep.proofs.Planned.{kept_by}
-use Rattle.collection.specs.Leaving.{less, less_images, less_leases, images_by, leases_by, tables_by, listed_by, AreOthers}
+use Rattle.collection.specs.Leaving.{less, less_images, less_leases, images_by, leases_by, listed_by, AreOthers}
 use Rattle.collection.specs.declared.removal.Named.{Named}
 use Rattle.collection.specs.declared.removal.Named.TheVariants as N
 use Rattle.collection.specs.declared.leaving.Others.{Others}
+use Rattle.collection.specs.declared.leaving.Others.TheVariants as O
 use Rattle.collection.proofs.Bridges.{Agree}
 
 -- ---- the rows of other keys
@@ -117,6 +120,49 @@ pub marks_keep : {Row : Type 0} (stays : Row → Bool) (rows : List Row) (marks 
     → (length marks ≡ length rows) × (kept marks rows ≡ filter stays rows)
 marks_keep stays rows marks is =
     (ap length is ∙ length-map rows stays, kept_by stays rows marks is)
+
+-- what the marks of a removal's kind tell
+module _ (records : Records) (ns name : Text) (marks : Vec Bool Global) where
+  abbrev images_less : List ImageRow
+  images_less = filter (is_other image_key (ns ∷ name ∷ [])) records.tables.images
+
+  abbrev leases_less : List LeaseRow
+  leases_less = filter (is_other lease_key (ns ∷ name ∷ [])) records.leases
+
+  module _ (is : marks.items ≡ map (is_other image_key (ns ∷ name ∷ [])) records.tables.images) where
+    pub other_images_are : (named : Option Named) → named ≡ Some (N.Image ns name)
+        → AreOthers named records.tables.images records.leases (O.Images marks)
+    other_images_are named e =
+        let told = marks_keep (is_other image_key (ns ∷ name ∷ [])) records.tables.images
+        marks.items is in
+        subst (λ (n : Option Named).
+        AreOthers n records.tables.images records.leases (O.Images marks)) (sym e)
+        (record { fit = told.0; images_are = told.1; leases_are = refl })
+
+    pub images_left : (new : Records)
+        → new ≡ record records { tables = record records.tables { images = images_less } }
+        → new ≡ listed_by (O.Images marks) records
+    images_left new e =
+        let told = marks_keep (is_other image_key (ns ∷ name ∷ [])) records.tables.images
+        marks.items is in
+        e ∙ (λ k. record records {
+          tables = record records.tables { images = sym told.1 k };
+        })
+
+  module _ (is : marks.items ≡ map (is_other lease_key (ns ∷ name ∷ [])) records.leases) where
+    pub other_leases_are : (named : Option Named) → named ≡ Some (N.Lease ns name)
+        → AreOthers named records.tables.images records.leases (O.Leases marks)
+    other_leases_are named e =
+        let told = marks_keep (is_other lease_key (ns ∷ name ∷ [])) records.leases marks.items is in
+        subst (λ (n : Option Named).
+        AreOthers n records.tables.images records.leases (O.Leases marks)) (sym e)
+        (record { fit = told.0; images_are = refl; leases_are = told.1 })
+
+    pub leases_left : (new : Records) → new ≡ record records { leases = leases_less }
+        → new ≡ listed_by (O.Leases marks) records
+    leases_left new e =
+        let told = marks_keep (is_other lease_key (ns ∷ name ∷ [])) records.leases marks.items is in
+        e ∙ (λ k. record records { leases = sym told.1 k })
 
 -- ---- sweeps
 

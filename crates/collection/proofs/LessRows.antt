@@ -1,5 +1,5 @@
 -- Rows that are listed without one: in order they are the records without it.
-use Rattle.std.proofs.Common.{◌≡◌, ◌∙◌, true, false, [], ◌∷◌, ap, refl, length}
+use Rattle.std.proofs.Common.{◌≡◌, ◌∙◌, false, [], ◌∷◌, ap, refl, length}
 use Rattle.std.specs.Prelude.{IsTrue}
 use Rattle.meta_types.specs.Keys.{remove_row, are_in_order}
 use Rattle.meta_types.specs.Limits.{is_too_large}

@@ -16,7 +16,6 @@ use Rattle.meta_types.specs.declared.request.Removal.{Removal}
 use Rattle.meta_types.specs.declared.request.Removal.TheVariants as R
 use Rattle.collection.specs.Removing.{is_readable, named_in, is_missing, without}
 use Rattle.collection.specs.declared.removal.Named.{Named}
-use Rattle.collection.specs.declared.removal.Named.TheVariants as N
 
 -- with texts that are allowed, the tests are those of the code
 pub fault_is : (state : State) (removal : Removal) (workers : ℕ) → is_readable removal ≡ true

@@ -211,6 +211,74 @@ pub(crate) fn dry_alone<R: Threads + Sync>(
     Ok(report)
 }
 
+// What a collection of these records would report, after the row is taken away.
+fn dry_removed<R: Threads + Sync>(
+    rt: &R,
+    alloc: Global,
+    records: &mut Records,
+    back: &BackRows<'_>,
+    row: &RowName,
+    at: Instant,
+) -> Result<Report, Fault>
+    requires parent { is_parent (records_in records.old) row.now ≡ false }
+    requires few { is_too_large (records_in records.old) ≡ false }
+    ensures fault { Refuses result None }
+    ensures ok { IfOk result (λ report. Plans (record {
+      records = less_row (records_in records.old) row.now;
+      backends = lists_of back.now;
+    }) at.0 report) }
+{
+    row.remove(records);
+    let report = dry_alone(rt, alloc, records, back, at)?;
+    Ok(report)
+}
+
+// The same of records that stay as they are: their rows are copied.
+fn dry_copied<R: Threads + Sync>(
+    rt: &R,
+    alloc: Global,
+    records: &Records,
+    back: &BackRows<'_>,
+    row: &RowName,
+    at: Instant,
+) -> Result<Report, Fault>
+    requires parent { is_parent (records_in records.now) row.now ≡ false }
+    requires few { is_too_large (records_in records.now) ≡ false }
+    ensures fault { Refuses result None }
+    ensures ok { IfOk result (λ report. Plans (record {
+      records = less_row (records_in records.now) row.now;
+      backends = lists_of back.now;
+    }) at.0 report) }
+{
+    let mut left = records.copy(alloc)?;
+    dry_removed(rt, alloc, &mut left, back, row, at)
+}
+
+// The same of a row without a number: it isn't listed.
+fn dry_unlisted<R: Threads + Sync>(
+    rt: &R,
+    alloc: Global,
+    records: &Records,
+    back: &BackRows<'_>,
+    row: &RowName,
+    at: Instant,
+) -> Result<Report, Fault>
+    requires unnumbered { has_number row.now ≡ false }
+    requires few { is_too_large (records_in records.now) ≡ false }
+    ensures fault { Refuses result None }
+    ensures ok { IfOk result (λ report. Plans (record {
+      records = less_row (records_in records.now) row.now;
+      backends = lists_of back.now;
+    }) at.0 report) }
+{
+    let Plan {
+        masks: _,
+        blobs: _,
+        report,
+    } = plan_left(rt, alloc, records, back, row, at)?;
+    Ok(report)
+}
+
 // What a collection of these records without the row would report. Rows are copied only where the
 // row has a number.
 pub(crate) fn dry_less<R: Threads + Sync>(
@@ -230,15 +298,9 @@ pub(crate) fn dry_less<R: Threads + Sync>(
     }) at.0 report) }
 {
     if row.has_number() {
-        let mut left = records.copy(alloc)?;
-        row.remove(&mut left);
-        let report = dry_alone(rt, alloc, &left, back, at)?;
+        let report = dry_copied(rt, alloc, records, back, row, at)?;
         return Ok(report);
     }
-    let Plan {
-        masks: _,
-        blobs: _,
-        report,
-    } = plan_left(rt, alloc, records, back, row, at)?;
+    let report = dry_unlisted(rt, alloc, records, back, row, at)?;
     Ok(report)
 }

@@ -1,5 +1,5 @@
 //! The row that is removed with a collection: it isn't listed, and goes with the sweep.
-ghost use Rattle.std.specs.Prelude.{◌≡◌, None, IfOk, option_copied};
+ghost use Rattle.std.specs.Prelude.{◌≡◌, Some, None, IfOk, option_copied};
 ghost use Rattle.meta_types.specs.Collected.{collected_records};
 ghost use Rattle.meta_types.specs.Faults.{Refuses};
 ghost use Rattle.meta_types.specs.Rows.{lease_key};
@@ -41,28 +41,43 @@ impl Others {
     }
 }
 
-/// Takes what is named out of the list, and tells which rows are left in it.
+// Takes what is named out of the list, and tells which rows are left in it.
+fn leave_named(alloc: Global, listed: &mut ListedRows<'_>, named: &Named) -> Result<Others, Fault>
+    ensures fault { Refuses result None }
+    ensures others { IfOk result (AreOthers (Some named.now) listed.old.tables.images
+        listed.old.leases) }
+    ensures left { IfOk result (λ others. listed.new ≡ listed_by others listed.old) }
+{
+    match named {
+        Named::Image(ns, name) => {
+            let marks = listed.other_images(alloc, ns, name)?;
+            listed.leave_image(ns, name);
+            Ok(Others::Images(marks))
+        }
+        Named::Lease(ns, id) => {
+            let marks = listed.other_leases(alloc, ns, id)?;
+            listed.leave_lease(ns, id);
+            Ok(Others::Leases(marks))
+        }
+    }
+}
+
+/// Takes what is named, if anything is, out of the list, and tells which rows are left in it.
 pub(crate) fn leave(
     alloc: Global,
     listed: &mut ListedRows<'_>,
     named: Option<&Named>,
 ) -> Result<Others, Fault>
     ensures fault { Refuses result None }
-    ensures others { IfOk result (AreOthers (option_copied named) listed.old.tables.images
+    ensures others { IfOk result (AreOthers (option_copied named.entry) listed.old.tables.images
         listed.old.leases) }
     ensures left { IfOk result (λ others. listed.new ≡ listed_by others listed.old) }
 {
     match named {
         None => Ok(Others::All),
-        Some(Named::Image(ns, name)) => {
-            let marks = listed.other_images(alloc, ns, name)?;
-            listed.leave_image(ns, name);
-            Ok(Others::Images(marks))
-        }
-        Some(Named::Lease(ns, id)) => {
-            let marks = listed.other_leases(alloc, ns, id)?;
-            listed.leave_lease(ns, id);
-            Ok(Others::Leases(marks))
+        Some(named) => {
+            let others = leave_named(alloc, listed, named)?;
+            Ok(others)
         }
     }
 }

@@ -1,4 +1,4 @@
-use Rattle.std.proofs.Common.{◌≡◌, ◌∙◌, ap, map, subst, List}
+use Rattle.std.proofs.Common.{◌∙◌, ap, map, subst, List}
 use Rattle.std.specs.Prelude.{option_copied}
 use Rattle.meta_types.specs.Rows.{BackLists}
 use Rattle.meta_types.specs.Text.{Text}

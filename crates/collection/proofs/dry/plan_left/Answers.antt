@@ -1,4 +1,4 @@
-use Rattle.std.proofs.Common.{◌≡◌, ◌∙◌, refl, ap, subst, length}
+use Rattle.std.proofs.Common.{◌∙◌, refl, ap, subst, length}
 use Rattle.meta_types.specs.Rows.{Records}
 use Rattle.gc_graph.specs.Lent.{lent_in}
 use Rattle.table_sweep.specs.Backed.{lists_of}

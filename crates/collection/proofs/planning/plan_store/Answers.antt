@@ -1,4 +1,4 @@
-use Rattle.std.proofs.Common.{◌≡◌, ◌∙◌, refl, subst, length}
+use Rattle.std.proofs.Common.{◌∙◌, refl, subst, length}
 use Rattle.meta_types.specs.Limits.{is_worker_count, is_too_large}
 use Rattle.meta_types.specs.Rows.{Records}
 use Rattle.table_sweep.specs.Backed.{lists_of}

@@ -1,7 +1,7 @@
 use Rattle.std.proofs.Common.{subst}
 use Rattle.meta_types.specs.Rows.{State}
 use Rattle.meta_types.specs.Reports.{Report, Collects}
-use Rattle.collection.specs.Stores.{records_in, store_in}
+use Rattle.collection.specs.Stores.{store_in}
 use Rattle.collection.proofs.Removing.{checked, none_applies, may_collect, later, left_is}
 use Rattle.collection.proofs.removal.remove_collect.Goals as goal
 
