@@ -56,6 +56,9 @@ module _ {S : Type 0} (contents : S → Snaps) (fails : S → ℕ) (names : List
         ∙ ap (λ first. first ++ all_snaps (map view es)) (sym (holds_none e f)))
   ]
 
+  with_none : (n rest : ℕ) → n ≡ 0 → rest ≡ n + rest
+  with_none n rest is = omega (arith, is)
+
   -- the same failures
   pub same_failures : (es : List (Text × S))
       → all_failures (map view (filter stays es)) ≡ all_failures (map view es)
@@ -63,7 +66,7 @@ module _ {S : Type 0} (contents : S → Snaps) (fails : S → ℕ) (names : List
   same_failures (e ∷ es) = elim (cases_Bool (stays e)) [
     | inl t ↦ rw t (ap (λ rest. fails e.1 + rest) (same_failures es))
     | inr f ↦ rw f (same_failures es
-        ∙ ap (λ first. first + all_failures (map view es)) (sym (failed_none e f)))
+        ∙ with_none (fails e.1) (all_failures (map view es)) (failed_none e f))
   ]
 
   abbrev Behind : Text → List Shard → Type 0
