@@ -8,7 +8,7 @@ ghost use Rattle.request_line.specs.Table.{members_of, row_view};
 ghost use Rattle.request_line.specs.Lines.{is_text, are_texts, are_labels, is_whole, has_kind, is_among, is_listed, has_required, op_in};
 ghost use Rattle.request_line.specs.LineMembers.{value_of, object_of, fits};
 
-use crate::members::{LineValue, Member, member, text_in};
+use crate::members::{LineValue, Member, is_same, member, text_in};
 use crate::op::{Op, OpForm};
 use serde_json::{Map, Value};
 
@@ -61,9 +61,9 @@ fn is_text(value: &LineValue<'_>) -> bool
 fn has_kind(key: &str, value: &LineValue<'_>) -> bool
     ensures { result ≡ has_kind key.now (value_of value.now) }
 {
-    if key == "labels" {
+    if is_same(key, "labels") {
         are_labels(value)
-    } else if key == "v" {
+    } else if is_same(key, "v") {
         is_whole(value)
     } else {
         is_text(value)
@@ -80,7 +80,7 @@ fn is_among(key: &str, keys: &[&str]) -> bool
 fn is_any(key: &str, keys: &[&str]) -> bool
     ensures { result ≡ list_any (λ k. bytes_eq k.now key.now) keys.now }
 {
-    keys.iter().any(|k| *k == key)
+    keys.iter().any(|k| is_same(*k, key))
 }
 
 // Whether a member is one of the op's.
@@ -95,7 +95,7 @@ fn is_for(row: &OpForm, key: &str) -> bool
 fn is_listed(row: &OpForm, key: &str) -> bool
     ensures { result ≡ is_listed (row_view row.now) key.now }
 {
-    key == "op" || is_for(row, key)
+    is_same(key, "op") || is_for(row, key)
 }
 
 // Whether a member may stand in the line, and is of its kind.

@@ -24,6 +24,16 @@ pub(crate) enum LineValue<'a> {
 
 pub(crate) type Member<'a> = (&'a str, LineValue<'a>);
 
+/// Whether two texts are the same. Of most names the length tells, without a call.
+pub(crate) fn is_same(one: &str, other: &str) -> bool
+    ensures { result ≡ bytes_eq one.now other.now }
+{
+    if one.len() != other.len() {
+        return false;
+    }
+    one == other
+}
+
 // The value of that name, or what was found before.
 fn later<'a, 'b>(
     found: Option<&'a LineValue<'b>>,
@@ -33,7 +43,7 @@ fn later<'a, 'b>(
     ensures { option_map (λ v. value_of v.now) result ≡ (if bytes_eq member.now.0.now name.now
         then Some (value_of member.now.1) else option_map (λ v. value_of v.now) found.entry) }
 {
-    if member.0 == name {
+    if is_same(member.0, name) {
         Some(&member.1)
     } else {
         found
