@@ -1,6 +1,7 @@
 pub mod LineAnswers
 mod Unchanged
 mod SameLines
+mod FirstBytes
 mod SaidTexts
 pub mod Scripts
 pub mod Writers

@@ -3,11 +3,13 @@ ghost use Rattle.std.specs.Prelude.{◌≡◌, ◌++◌, ◌∷◌, [], IfSome, 
 ghost use Rattle.std.specs.List.{list_any};
 ghost use Rattle.scripts.specs.Lines.{is_line_feed};
 
+use memchr::memchr;
+
 // Where the first line feed stands.
 fn find_line_feed(bytes: &[u8]) -> Option<usize>
     ensures { result ≡ position is_line_feed bytes.now }
 {
-    bytes.iter().position(|b| *b == b'\n')
+    memchr(b'\n', bytes)
 }
 
 /// What stands before the first line feed, and what follows it.
