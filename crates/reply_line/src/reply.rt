@@ -25,6 +25,10 @@ pub(crate) fn into_text(out: Writer) -> String
     unsafe { String::from_utf8_unchecked(out.into_inner()) }
 }
 
+// Room in which a row without labels is written: a writer asks for more than a text's length, as it
+// may have to escape all of it.
+const ROW_ROOM: usize = 1024;
+
 fn listing_text(alloc: Global, listing: &Listing) -> Result<String, AllocError>
     ensures { IfOk result (λ text. string_bytes text
         ≡ answer_text (answered (Reply.Names listing.now))) }
@@ -42,7 +46,7 @@ fn row_text(alloc: Global, row: &ReplyRow) -> Result<String, AllocError>
     ensures { IfOk result (λ text. string_bytes text
         ≡ answer_text (answered (Reply.Row row.now))) }
 {
-    let mut out = Writer::new(Vec::new(alloc));
+    let mut out = Writer::new(Vec::with_capacity(alloc, ROW_ROOM)?);
     out.begin_object()?;
     write_member(&mut out, "ok", &true)?;
     out.key("row")?;
