@@ -11,9 +11,10 @@ use std::io::{self, Write};
 const BLOCK: usize = 8192;
 
 /// Keeps bytes back until there is a block of them, or it is flushed. A write that takes less than
-/// it is given is followed by one of the rest. What is no smaller than a block isn't kept back. A write that fails, also one that is interrupted,
-/// fails here too, where the library's buffer would try an interrupted one again; what it left
-/// unwritten is kept back as before, and what it took is kept back no more.
+/// it is given is followed by one of the rest. What is no smaller than a block isn't kept back. A
+/// write that fails, also one that is interrupted, fails here too, where the library's buffer would
+/// try an interrupted one again; what it left unwritten is kept back as before, and what it took is
+/// kept back no more.
 #[derive(Drop)]
 pub struct Blocks<W: Write + Drop> {
     writer: W,

@@ -107,7 +107,8 @@ fn text_or_refusal(made: Result<String, Fault>) -> Said
     }
 }
 
-// The text of a reply. Where it can't be made for one that names something, memory refuses the line.
+// The text of a reply. Where it can't be made for one that names something, memory refuses the
+// line.
 fn replied(alloc: Global, reply: &Reply) -> Said
     ensures said { IsSaid (of_event (answered reply.now)) (said_bytes result) }
     ensures text { is_dry_run (Some result) ≡ false }
