@@ -82,22 +82,17 @@ impl Reserve {
     }
 
     // Counts labels and resources anew.
-    fn count(&mut self, alloc: Global, stored: &Stored<'_>) {
+    fn count(&mut self, stored: &Stored<'_>) {
         self.counted = Weight {
             labels: count_labels(stored.tables),
-            resources: count_resources(alloc, stored.leases),
+            resources: count_resources(stored.leases),
         };
         self.since = Weight::none();
     }
 
     /// Keeps what a collection may take once the request is done. An addition calls it before it
     /// changes the store, and is refused where the block can't grow, or where each one is.
-    pub fn hold(
-        &mut self,
-        alloc: Global,
-        stored: &Stored<'_>,
-        request: &Request,
-    ) -> Result<(), Fault>
+    pub fn hold(&mut self, stored: &Stored<'_>, request: &Request) -> Result<(), Fault>
         ensures fault { Refuses result None }
         ensures refused { self.old.refuses_additions ≡ true → IsErr result }
     {
@@ -111,7 +106,7 @@ impl Reserve {
         // What arrived since the last count may have gone again. So that a count costs no more than the
         // requests before it, it is made only where much arrived.
         if self.since.is_much_beside(&self.counted) {
-            self.count(alloc, stored);
+            self.count(stored);
             if self.keep(self.wanted(stored)) {
                 return Ok(());
             }
@@ -158,9 +153,9 @@ impl Reserve {
     }
 
     /// Counts anew after a collection, which left this number of objects beside blobs.
-    pub fn collected(&mut self, alloc: Global, stored: &Stored<'_>, objects: u64) {
+    pub fn collected(&mut self, stored: &Stored<'_>, objects: u64) {
         self.next = stored.next;
         self.objects = objects as usize;
-        self.count(alloc, stored);
+        self.count(stored);
     }
 }

@@ -189,7 +189,7 @@ pub fn answer_line<L: Ledger, K: Keeps, R: Threads + Wait + Sync>(
         return Ok(None);
     }
     let answer = line_outcome(locked, rt, alloc, session, line, workers, memory);
-    take_in(&mut memory.reserve, alloc, &stored_in(locked), &answer);
+    take_in(&mut memory.reserve, &stored_in(locked), &answer);
     Ok(Some(said(alloc, answer)))
 }
 

@@ -96,6 +96,6 @@ pub(crate) fn make_room(
         room.give_up(alloc);
         return Ok(());
     }
-    reserve.hold(alloc, stored, request)?;
+    reserve.hold(stored, request)?;
     room.hold(alloc)
 }

@@ -49,19 +49,14 @@ pub(crate) fn make_way(
 }
 
 /// Takes in what a line did: an addition, or a collection, after which no object is without a row.
-pub(crate) fn take_in(
-    reserve: &mut Reserve,
-    alloc: Global,
-    stored: &Stored<'_>,
-    answer: &LineAnswer,
-) {
+pub(crate) fn take_in(reserve: &mut Reserve, stored: &Stored<'_>, answer: &LineAnswer) {
     match answer {
         LineAnswer::Replied(_) => reserve.settle(true),
         LineAnswer::Reported(report) => {
             reserve.settle(false);
             if !report.dry {
                 let objects = report.kept.snapshots.saturating_add(report.kept.ingests);
-                reserve.collected(alloc, stored, objects);
+                reserve.collected(stored, objects);
             }
         }
         _ => reserve.settle(false),
