@@ -17,6 +17,7 @@ use back_model::{BlobBackend, IngestBackend, SnapBackend};
 use gc_report::Report;
 use meta_types::{Fault, Instant, is_worker_count};
 use std::alloc::Global;
+use std::mem::drop;
 use std::sync::Wait;
 use std::sync::ledger::Ledger;
 use std::thread::Threads;
@@ -75,7 +76,7 @@ impl<L: Ledger, S: SnapBackend, B: BlobBackend, I: IngestBackend> Store<L, S, B,
             return Err(Fault::InvalidArgument);
         }
         let Copied { cut, now } = self.inner.lock(rt).copies(alloc, session)?;
-        let report = collection::dry_report(
+        let made = collection::dry_report(
             rt,
             alloc,
             &now.records,
@@ -83,7 +84,15 @@ impl<L: Ledger, S: SnapBackend, B: BlobBackend, I: IngestBackend> Store<L, S, B,
             at,
             workers,
             gate,
-        )?;
+        );
+        drop(now);
+        let report = match made {
+            Ok(report) => report,
+            Err(fault) => {
+                drop(cut);
+                return Err(fault);
+            }
+        };
         Ok(Planned { report, cut })
     }
 }

@@ -13,6 +13,7 @@ use crate::session::Session;
 use back_model::{BlobBackend, IngestBackend, SnapBackend};
 use meta_types::Fault;
 use std::alloc::Global;
+use std::mem::drop;
 use std::sync::ledger::Ledger;
 
 impl<L: Ledger, S: SnapBackend, B: BlobBackend, I: IngestBackend> Locked<L, S, B, I> {
@@ -46,7 +47,11 @@ impl<L: Ledger, S: SnapBackend, B: BlobBackend, I: IngestBackend> Locked<L, S, B
         ensures each { (result ≡ Err InvalidArgument) ↔ ¬ (AreEach self.opened sessions.items) }
         ensures err { IfErr result (λ f. FinishFails f self.opened self.log sessions.items) }
     {
-        check_sessions(alloc, self.opened, &sessions, &self.log)?;
+        let checked = check_sessions(alloc, self.opened, &sessions, &self.log);
+        if let Err(fault) = checked {
+            drop(self);
+            return Err(fault);
+        }
         Ok(self.into_history())
     }
 
