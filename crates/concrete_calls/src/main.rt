@@ -13,6 +13,7 @@ mod questions;
 mod requests;
 mod sessions;
 
+use collections::Outcomes;
 use meta_types::Fault;
 use std::alloc::Global;
 use std::env;
@@ -56,8 +57,7 @@ fn asks_for_collections(rt: &HostRuntime, alloc: Global) -> Result<bool, Fault> 
 }
 
 // Tells how the collections went.
-fn tell_collections(rt: &HostRuntime) -> ExitCode {
-    let outcomes = collections::calls(rt, rt.alloc());
+fn tell_collections(rt: &HostRuntime, outcomes: Outcomes) -> ExitCode {
     let answered = outcomes.answered;
     let refused = outcomes.refused;
     let changed = outcomes.changed;
@@ -67,7 +67,7 @@ fn tell_collections(rt: &HostRuntime) -> ExitCode {
 
 fn main(rt: HostRuntime) -> ExitCode {
     match asks_for_collections(&rt, rt.alloc()) {
-        Ok(true) => return tell_collections(&rt),
+        Ok(true) => return tell_collections(&rt, collections::calls(&rt, rt.alloc())),
         Ok(false) => {}
         Err(_) => {
             let _told = eprintln!(rt; "concrete_calls: the words can't be read");
