@@ -264,6 +264,7 @@ fn run_named<L: Ledger, T: Threads + Wait + Sync, R: Read, W: Write>(
             }
         }
     }
+    leave(store);
     Err(Fault::ReadFailed)
 }
 
