@@ -76,15 +76,7 @@ impl<L: Ledger, S: SnapBackend, B: BlobBackend, I: IngestBackend> Store<L, S, B,
             return Err(Fault::InvalidArgument);
         }
         let Copied { cut, now } = self.inner.lock(rt).copies(alloc, session)?;
-        let made = collection::dry_report(
-            rt,
-            alloc,
-            &now.records,
-            &now.lists,
-            at,
-            workers,
-            gate,
-        );
+        let made = collection::dry_report(rt, alloc, &now.records, &now.lists, at, workers, gate);
         drop(now);
         let report = match made {
             Ok(report) => report,
