@@ -15,6 +15,7 @@ use crate::replaying::replay;
 use crate::store::KeptStore;
 use journal::{Log, Sound, check, recover};
 use std::alloc::Global;
+use std::mem::drop;
 use std::sync::Wait;
 use std::sync::ledger::{Blank, Ledger};
 use std::thread::Threads;
@@ -75,7 +76,13 @@ fn read_store<L: Ledger, D: Log, T: Threads + Wait + Sync>(
     let Ok(mut store) = KeptStore::<L>::empty(alloc, blank) else {
         return Err(StartError::OutOfMemory);
     };
-    let lines = replay(&mut store, rt, alloc, log, end)?;
+    let lines = match replay(&mut store, rt, alloc, log, end) {
+        Ok(lines) => lines,
+        Err(error) => {
+            drop(store);
+            return Err(error);
+        }
+    };
     Ok(Replayed { store, lines })
 }
 
@@ -131,7 +138,13 @@ pub fn open<L: Ledger, D: Log, T: Threads + Wait + Sync>(
         → found first.now c ≡ found first.now (D.text log.old) }
 {
     let replayed = read_store::<L, D, T>(rt, alloc, blank, first, log)?;
-    let sound = end_of_groups(alloc, first, log)?;
+    let sound = match end_of_groups(alloc, first, log) {
+        Ok(sound) => sound,
+        Err(error) => {
+            drop(replayed);
+            return Err(error);
+        }
+    };
     let lines = replayed.lines;
     let mut store = replayed.store;
     store.set_workers(workers);

@@ -13,6 +13,7 @@ use crate::{CheckpointError, NotTaken};
 use checkpoint::{is_same, write_checkpoint};
 use journal::{Journal, Log};
 use std::alloc::Global;
+use std::mem::drop;
 use std::sync::Wait;
 use std::sync::ledger::{Blank, Ledger};
 use std::thread::Threads;
@@ -97,7 +98,10 @@ fn made_again<N: Ledger, E: Log + Drop, T: Threads + Wait + Sync>(
     let Ok(mut store) = KeptStore::<N>::empty(alloc, blank) else {
         return Err(CheckpointError::OutOfMemory);
     };
-    replay_journal(&mut store, rt, alloc, journal)?;
+    if let Err(error) = replay_journal(&mut store, rt, alloc, journal) {
+        drop(store);
+        return Err(error);
+    }
     Ok(store)
 }
 
@@ -121,7 +125,11 @@ fn compare<L: Ledger, N: Ledger, E: Log + Drop, T: Threads + Wait + Sync>(
     ensures clean { IsTrue (E.is_clean journal.new.log) → IsTrue (E.is_clean journal.old.log) }
 {
     let other = made_again::<N, E, T>(rt, alloc, blank, journal)?;
-    are_same(alloc, store, &other)?;
+    if let Err(error) = are_same(alloc, store, &other) {
+        drop(other);
+        return Err(error);
+    }
+    drop(other);
     Ok(())
 }
 

@@ -1,8 +1,8 @@
-use Rattle.std.proofs.Common.{◌≡◌, ◌∙◌, ap, sym, subst, ℕ, List, false}
+use Rattle.std.proofs.Common.{◌≡◌, ◌∙◌, ap, refl, sym, subst, ℕ, List, false}
 use Rattle.std.specs.Prelude.{Err}
 use Rattle.journal.specs.Reading.{found, Found}
 use Rattle.journal.specs.Groups.{HasGroups}
-use Rattle.kept_store.proofs.PassedOn.{nothing_given, same_refusal}
+use Rattle.kept_store.proofs.PassedOn.{same_refusal}
 use Rattle.kept_store.proofs.opening.open.Goals as goal
 
 pub returns-clause-ok : goal.returns-clause-ok
@@ -11,12 +11,12 @@ returns-clause-ok g c clean =
     let before = c.end_of_groups.ensures.clean clean in
     record {
       sound = ap (λ (t : List ℕ). (found c.args.first.now t).is_damaged) (sym same)
-          ∙ c.in_ok-sound.ensures.sound clean;
+          ∙ c.in-Ok.ensures.sound clean;
       replayed = c.set_workers.ensures ∙ c.in_ok-replayed.ensures.ok before;
       has = subst (λ (t : List ℕ). HasGroups (g.D.Log.text c.end_of_groups.new.log)
-          (g.D.Log.may_leave c.end_of_groups.new.log) c.in_ok-sound.sound.last
-          c.in_ok-sound.sound.end c.args.first.now (found c.args.first.now t).groups) same
-          (c.in_ok-sound.ensures.groups clean);
+          (g.D.Log.may_leave c.end_of_groups.new.log) c.in-Ok.sound.last
+          c.in-Ok.sound.end c.args.first.now (found c.args.first.now t).groups) same
+          (c.in-Ok.ensures.groups clean);
     }
 
 -- while the file is read, a crash leaves it
@@ -26,8 +26,8 @@ returns-in_err-replayed-clause-crash g c clean out left =
     (g.met.D.Log.rested c.args.log.now out c.requires.rests (c.read_store.ensures.crash out left))
 
 -- while what was never committed is blanked
-pub returns-in_err-sound-clause-crash : goal.returns-in_err-sound-clause-crash
-returns-in_err-sound-clause-crash g c clean out left =
+pub returns-in-Err-clause-crash : goal.returns-in-Err-clause-crash
+returns-in-Err-clause-crash g c clean out left =
     c.end_of_groups.ensures.crash clean out left
     ∙ ap (found c.args.first.now) c.read_store.ensures.same
 
@@ -40,19 +40,7 @@ pub returns-clause-lines : goal.returns-clause-lines
 returns-clause-lines g c clean =
     c.in_ok-replayed.ensures.lines (c.end_of_groups.ensures.clean clean)
 
--- where the groups' end is refused, nothing is promised of a store, and no line was refused
-pub returns-in_err-sound-clause-ok : goal.returns-in_err-sound-clause-ok
-returns-in_err-sound-clause-ok g c =
-    let passed = c.from_residual-in_err-sound in
-    nothing_given passed.result _ _ passed.ensures.1
-
-pub returns-in_err-sound-clause-lines : goal.returns-in_err-sound-clause-lines
-returns-in_err-sound-clause-lines g c =
-    let passed = c.from_residual-in_err-sound in
-    nothing_given passed.result _ _ passed.ensures.1
-
-pub returns-in_err-sound-clause-refused : goal.returns-in_err-sound-clause-refused
-returns-in_err-sound-clause-refused g c is =
-    let passed = c.from_residual-in_err-sound in
-    absurd (c.in_err-sound.ensures.willing
-    (ap Err (same_refusal passed.result _ _ passed.ensures.1 is)))
+-- where the groups' end is refused, no line was
+pub returns-in-Err-clause-refused : goal.returns-in-Err-clause-refused
+returns-in-Err-clause-refused g c is =
+    absurd (c.in-Err.ensures.willing (ap Err (same_refusal (Err c.in-Err.error) _ _ refl is)))

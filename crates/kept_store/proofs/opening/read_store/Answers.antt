@@ -3,14 +3,13 @@ use Rattle.meta_types.specs.Rows.{State, empty_store}
 use Rattle.journal.specs.Reading.{found}
 use Rattle.kept_run.specs.Runs.{lines_of}
 use Rattle.kept_store.specs.Replays.{store_after, requests_in}
-use Rattle.kept_store.proofs.PassedOn.{nothing_given}
 use Rattle.kept_store.proofs.Replayed.{requests_in-journal}
 use Rattle.kept_store.proofs.opening.read_store.Goals as goal
 
 pub returns-clause-ok : goal.returns-clause-ok
 returns-clause-ok g c clean =
     let sound = c.in_ok-end.ensures.sound (c.replay.ensures.clean clean) in
-    c.in_ok-lines.ensures.ok clean
+    c.in-Ok-replay.ensures.ok clean
     ∙ ap (λ (t : List ℕ). store_after c.in-Ok.store (requests_in (take c.in_ok-end.end t)))
     c.sound_part.ensures.same
     ∙ ap (λ (t : List ℕ). store_after c.in-Ok.store (requests_in t)) sound.1
@@ -22,19 +21,8 @@ returns-clause-ok g c clean =
 pub returns-clause-lines : goal.returns-clause-lines
 returns-clause-lines g c clean =
     let sound = c.in_ok-end.ensures.sound (c.replay.ensures.clean clean) in
-    c.in_ok-lines.ensures.counts clean
+    c.in-Ok-replay.ensures.counts clean
     ∙ ap (λ (t : List ℕ). length (requests_in (take c.in_ok-end.end t))) c.sound_part.ensures.same
     ∙ ap (λ (t : List ℕ). length (requests_in t)) sound.1
     ∙ ap (λ (ls : List (List ℕ)). length ls) (requests_in-journal c.args.first.now
     (found c.args.first.now (g.D.Log.text c.args.log.now)).groups sound.0)
-
--- where the lines are refused, nothing is promised of a store
-pub returns-in_err-lines-clause-ok : goal.returns-in_err-lines-clause-ok
-returns-in_err-lines-clause-ok g c =
-    let passed = c.from_residual-in_err-lines in
-    nothing_given passed.result _ _ passed.ensures.1
-
-pub returns-in_err-lines-clause-lines : goal.returns-in_err-lines-clause-lines
-returns-in_err-lines-clause-lines g c =
-    let passed = c.from_residual-in_err-lines in
-    nothing_given passed.result _ _ passed.ensures.1

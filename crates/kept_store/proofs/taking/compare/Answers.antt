@@ -6,4 +6,4 @@ returns-clause-ok g c clean groups has =
     let same = c.made_again.ensures.same in
     rw (same.0, same.1)
     (makes_again _ _ _ _ _ _ groups _ _ has c.made_again.ensures.text c.made_again.ensures.crash
-    (c.in_ok-other.ensures.ok clean) c.in_ok-are_same.ensures.ok)
+    (c.in_ok-other.ensures.ok clean) c.in_default.ensures.ok)
