@@ -46,7 +46,10 @@ impl<L: Ledger> SessionStore<L> {
         requires parts { (blank.parts ≡ L.parts) × (blank.parts ≡ 65536) }
     {
         let mut locked = Locked::open(alloc, blank, State::empty(alloc))?;
-        let session = locked.session(alloc)?;
+        let Ok(session) = locked.session(alloc) else {
+            drop(locked);
+            return Err(Fault::OutOfMemory);
+        };
         Ok(SessionStore { locked, session })
     }
 
@@ -192,6 +195,18 @@ fn is_entered<L: Ledger>(session_store: &SessionStore<L>, alloc: Global, before:
 
 // ---- a collection, judged
 
+// What it reports on this store.
+fn reported_on<L: Ledger, R: Threads + Wait + Sync>(
+    rt: &R,
+    alloc: Global,
+    session_store: &mut SessionStore<L>,
+    kind: u32,
+) -> Result<Report, Fault> {
+    session_store.fill(alloc)?;
+    let removal = removal(alloc, kind)?;
+    session_store.collect(rt, alloc, kind, removal)
+}
+
 // What it reports on a store of its own.
 fn reported<L: Ledger, R: Threads + Wait + Sync>(
     rt: &R,
@@ -203,9 +218,9 @@ fn reported<L: Ledger, R: Threads + Wait + Sync>(
     requires parts { (blank.parts ≡ L.parts) × (blank.parts ≡ 65536) }
 {
     let mut session_store = SessionStore::<L>::open(alloc, blank)?;
-    session_store.fill(alloc)?;
-    let removal = removal(alloc, kind)?;
-    session_store.collect(rt, alloc, kind, removal)
+    let reported = reported_on(rt, alloc, &mut session_store, kind);
+    drop(session_store);
+    reported
 }
 
 // 0 where the collection was answered as expected, 1 where it was refused for want of memory or of
@@ -231,7 +246,21 @@ fn outcome_on<L: Ledger, R: Threads + Wait + Sync>(
     2
 }
 
-// The same on a store of its own, and an error where that couldn't be made.
+// The same once the store is filled, and an error where that couldn't be done.
+fn judged_on<L: Ledger, R: Threads + Wait + Sync>(
+    rt: &R,
+    alloc: Global,
+    session_store: &mut SessionStore<L>,
+    kind: u32,
+    expected: &Report,
+) -> Result<u8, Fault> {
+    session_store.fill(alloc)?;
+    let removals = (removal(alloc, kind)?, removal(alloc, kind)?);
+    let before = session_store.seen(alloc)?;
+    Ok(outcome_on(rt, alloc, session_store, kind, removals, &before, expected))
+}
+
+// The same on a store of its own.
 fn judged<L: Ledger, R: Threads + Wait + Sync>(
     rt: &R,
     alloc: Global,
@@ -243,18 +272,9 @@ fn judged<L: Ledger, R: Threads + Wait + Sync>(
     requires parts { (blank.parts ≡ L.parts) × (blank.parts ≡ 65536) }
 {
     let mut session_store = SessionStore::<L>::open(alloc, blank)?;
-    session_store.fill(alloc)?;
-    let removals = (removal(alloc, kind)?, removal(alloc, kind)?);
-    let before = session_store.seen(alloc)?;
-    Ok(outcome_on(
-        rt,
-        alloc,
-        &mut session_store,
-        kind,
-        removals,
-        &before,
-        expected,
-    ))
+    let judged = judged_on(rt, alloc, &mut session_store, kind, expected);
+    drop(session_store);
+    judged
 }
 
 // The outcome of one kind of collection.
