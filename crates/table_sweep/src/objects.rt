@@ -43,13 +43,26 @@ fn push_ingest(owned: &[u64], number: u64, numbers: &mut Vec<u64>) -> Result<(),
     Ok(())
 }
 
+// How many ingests go.
+fn count_ingests(owned: &[u64], numbers: &[u64]) -> usize
+    requires { IsSorted nat_cmp owned.now }
+{
+    let mut count: usize = 0;
+    for number in numbers {
+        if begun_goes(owned, *number) {
+            count = count.saturating_add(1);
+        }
+    }
+    count
+}
+
 fn ingests_gone(alloc: Global, owned: &[u64], numbers: &[u64]) -> Result<Vec<u64>, Fault>
     requires { IsSorted nat_cmp owned.now }
     ensures fault { Refuses result None }
     ensures ok { IfOk result (λ v. v.items ≡ flat_map
         (λ number. if begun_goes owned.now number then number ∷ [] else []) numbers.now) }
 {
-    let mut gone = Vec::new(alloc);
+    let mut gone = Vec::with_capacity(alloc, count_ingests(owned, numbers))?;
     for number in numbers {
         push_ingest(owned, *number, &mut gone)?;
     }
@@ -79,6 +92,20 @@ fn push_key(
     Ok(())
 }
 
+// How many snapshots go.
+fn count_keys(owners: &[&SnapRow], snapshots: &[BackSnap]) -> usize
+    requires { IsSorted (λ a b. object_cmp (object_of a.now) (object_of b.now)) owners.now }
+{
+    let mut count: usize = 0;
+    let mut next = 0;
+    for snap in snapshots {
+        if snap_goes(owners, &mut next, snap) {
+            count = count.saturating_add(1);
+        }
+    }
+    count
+}
+
 fn keys_in(
     alloc: Global,
     owners: &[&SnapRow],
@@ -91,7 +118,7 @@ fn keys_in(
     ensures ok { IfOk result (λ v. v.items ≡ flat_map
         (λ s. if snap_goes (map (λ owner. owner.now) owners.now) s then key_of snapshots.now s ∷ [] else []) snapshots.now) }
 {
-    let mut keys = Vec::new(alloc);
+    let mut keys = Vec::with_capacity(alloc, count_keys(owners, snapshots))?;
     let mut next = 0;
     for (i, snap) in snapshots.iter().enumerate() {
         push_key(owners, &mut next, snap, depths[i], &mut keys)?;
