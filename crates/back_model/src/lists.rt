@@ -17,6 +17,18 @@ pub struct BackLists {
     pub ingests: Vec<u64>,
 }
 
+// Makes room for more snapshots: for just these, but at least an eighth of what is listed, so that
+// many small shards don't move the list each.
+fn make_room(into: &mut Vec<(ShortName, u64, Option<u64>)>, more: usize) -> Result<(), Fault>
+    ensures fault { Refuses result None }
+    ensures ok { OnOk result (into.new.items ≡ into.old.items) }
+{
+    if into.capacity().saturating_sub(into.len()) < more {
+        into.reserve_exact(more.max(into.len() / 8))?;
+    }
+    Ok(())
+}
+
 // Lists the snapshots of one shard behind the others.
 pub(crate) fn push_snaps<S: SnapBackend>(
     alloc: Global,
@@ -29,6 +41,7 @@ pub(crate) fn push_snaps<S: SnapBackend>(
         ++ snaps_in (shown S.contents S.fails (snapshotter.now, shard.now))) }
 {
     let numbers = shard.numbers(alloc)?;
+    make_room(into, numbers.len())?;
     for number in &numbers {
         into.push((snapshotter.copy()?, *number, shard.parent(*number)))?;
     }

@@ -184,7 +184,7 @@ impl SnapBackend for MemBackend {
     }
 
     fn numbers(&self, alloc: Global) -> Result<Vec<u64>, Fault> {
-        let mut numbers = Vec::new(alloc);
+        let mut numbers = Vec::with_capacity(alloc, self.nodes.len())?;
         for number in self.nodes.keys() {
             numbers.push(*number)?;
         }

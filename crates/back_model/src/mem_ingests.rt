@@ -57,7 +57,7 @@ impl IngestBackend for MemIngests {
     }
 
     fn numbers(&self, alloc: Global) -> Result<Vec<u64>, Fault> {
-        let mut numbers = Vec::new(alloc);
+        let mut numbers = Vec::with_capacity(alloc, self.numbers.len())?;
         for number in &self.numbers {
             numbers.push(*number)?;
         }
