@@ -31,6 +31,10 @@ make_fails (Err M.Missing) = 0
 make_fails (Err M.Device) = 1
 make_fails (Err M.Memory) = 0
 
+-- no device of this kind ever fails
+abbrev pub NeverFails : {Backend : Type 0} → (Backend → ℕ) → Type 0
+NeverFails fails = (backend : _) → fails backend ≡ 0
+
 -- how many failures of the device a removal adds
 abbrev pub remove_fails : Result (Unit {0}) RemoveFault → ℕ
 remove_fails (Ok _) = 0

@@ -34,6 +34,10 @@ impl SnapBackend for FuseBackend {
 
     ghost fails = { λ b. b.fuse.fails };
 
+    fn never_fails() -> bool {
+        false
+    }
+
     fn fresh(alloc: Global) -> FuseBackend {
         FuseBackend {
             inner: MemBackend::fresh(alloc),

@@ -39,6 +39,10 @@ impl BlobBackend for FuseBlobs {
 
     ghost fails = { λ b. b.fuse.fails };
 
+    fn never_fails() -> bool {
+        false
+    }
+
     fn fresh(alloc: Global) -> FuseBlobs {
         FuseBlobs {
             inner: MemBlobs::fresh(alloc),

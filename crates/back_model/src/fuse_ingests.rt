@@ -34,6 +34,10 @@ impl IngestBackend for FuseIngests {
 
     ghost fails = { λ b. b.fuse.fails };
 
+    fn never_fails() -> bool {
+        false
+    }
+
     fn fresh(alloc: Global) -> FuseIngests {
         FuseIngests {
             inner: MemIngests::fresh(alloc),

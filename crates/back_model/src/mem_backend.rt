@@ -131,6 +131,10 @@ impl SnapBackend for MemBackend {
 
     ghost fails = { λ _. 0 };
 
+    fn never_fails() -> bool {
+        true
+    }
+
     fn fresh(alloc: Global) -> MemBackend {
         MemBackend {
             nodes: BTreeMap::new(alloc),

@@ -30,6 +30,10 @@ impl BlobBackend for MemBlobs {
 
     ghost fails = { λ _. 0 };
 
+    fn never_fails() -> bool {
+        true
+    }
+
     fn fresh(alloc: Global) -> MemBlobs {
         MemBlobs {
             digests: RowTable::new(alloc),

@@ -25,6 +25,10 @@ impl IngestBackend for MemIngests {
 
     ghost fails = { λ _. 0 };
 
+    fn never_fails() -> bool {
+        true
+    }
+
     fn fresh(alloc: Global) -> MemIngests {
         MemIngests {
             numbers: BTreeSet::new(alloc),

@@ -4,7 +4,7 @@ ghost use Rattle.meta_types.specs.Faults.{Refuses};
 ghost use Rattle.meta_types.specs.Text.{text_cmp};
 ghost use Rattle.meta_types.specs.Keys.{put_in_order};
 ghost use Rattle.meta_types.specs.Changes.{stands_before};
-ghost use Rattle.back_model.specs.Answers.{Makes, make_fails};
+ghost use Rattle.back_model.specs.Answers.{Makes, make_fails, NeverFails};
 ghost use Rattle.back_model.specs.Snaps.{is_held, is_parent_held};
 ghost use Rattle.back_model.specs.Shown.{AreApart, shard_at, snaps_at, put_shard, shown, back_snap, listed_snap, all_snaps, all_failures, shard_after, IsPlace};
 
@@ -165,6 +165,16 @@ impl<S: SnapBackend> Shards<S> {
         ensures { self.new ≡ map (shown S.contents S.fails) shards.items }
     {
         self.shards = shards;
+    }
+}
+
+impl<S: SnapBackend> Shards<S> {
+    // Where no device ever fails, none has. It does nothing, and serves a proof alone.
+    pub(crate) fn none_failed(&self)
+        ensures { NeverFails S.fails → all_failures self.now ≡ 0 }
+    {
+        // To read the shards opens what the type keeps of them.
+        let _ = &self.shards;
     }
 }
 

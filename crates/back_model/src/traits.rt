@@ -5,7 +5,7 @@ ghost use Rattle.meta_types.specs.Text.{Text};
 ghost use Rattle.meta_types.specs.Changes.{put_blob};
 ghost use Rattle.meta_types.specs.Faults.{Refuses};
 ghost use Rattle.row_tables.specs.Arrived.{one_text, sorted};
-ghost use Rattle.back_model.specs.Answers.{Makes, Removes, make_fails, remove_fails};
+ghost use Rattle.back_model.specs.Answers.{Makes, Removes, make_fails, remove_fails, NeverFails};
 ghost use Rattle.back_model.specs.Snaps.{Snaps, is_held, is_parent_held, parent_of, has_child, is_empty};
 ghost use Rattle.back_model.specs.Objects.{has_blob, without_blob, AreOrderedBlobs, has_number, put_number, without_number, AreOrderedNumbers};
 
@@ -21,6 +21,10 @@ pub trait SnapBackend: Send + Drop {
 
     /// How often its device has failed.
     ghost fails: { Self → ℕ };
+
+    /// Whether no device of its kind ever fails.
+    fn never_fails() -> bool
+        ensures { result ≡ true → NeverFails fails };
 
     /// An empty one. It touches no device.
     fn fresh(alloc: Global) -> Self
@@ -77,6 +81,10 @@ pub trait BlobBackend: Send + Drop {
     /// How often its device has failed.
     ghost fails: { Self → ℕ };
 
+    /// Whether no device of its kind ever fails.
+    fn never_fails() -> bool
+        ensures { result ≡ true → NeverFails fails };
+
     /// An empty one. It touches no device.
     fn fresh(alloc: Global) -> Self
         ensures empty { contents result ≡ [] }
@@ -128,6 +136,10 @@ pub trait IngestBackend: Send + Drop {
 
     /// How often its device has failed.
     ghost fails: { Self → ℕ };
+
+    /// Whether no device of its kind ever fails.
+    fn never_fails() -> bool
+        ensures { result ≡ true → NeverFails fails };
 
     /// An empty one. It touches no device.
     fn fresh(alloc: Global) -> Self
