@@ -1,0 +1,66 @@
+-- What a `TableHasher` computes. Only the code's own proofs read it: no clause of a table speaks of
+-- hashes.
+use Rattle.std.specs.Prelude.{ℕ, zero, suc, ◌+◌, ◌-◌, ◌*◌, ◌/◌, ◌%◌, ◌^◌, List, length, if◌then◌else◌, nat_le, nat_lt, slice_index, bit_and, bit_or, bit_xor}
+use Rattle.table_seed.specs.declared.folded.TableHasher.{TableHasher}
+use Rattle.table_seed.specs.declared.seed.Seed.{Seed}
+use Rattle.table_seed.specs.declared.seed.Seed.TheVariants.{Fixed, Secret}
+
+abbrev pub from : ℕ → ℕ → TableHasher
+from state key = record { state = state; key = key }
+
+-- the hasher of a seed
+abbrev pub started : Seed → TableHasher
+started Fixed = from 0x243f_6a88_85a3_08d3 0x9e37_79b9_7f4a_7c15
+started (Secret state key) = from state key
+
+-- the two halves of the 128 bits of a * b, joined by xor
+unfoldable pub folded_multiply : ℕ → ℕ → ℕ
+folded_multiply a b = bit_xor (bit_and (a * b) (2 ^ 64 - 1)) (a * b / 2 ^ 64)
+
+-- the four bytes from i on, the lowest first
+unfoldable pub read_u32 : List ℕ → ℕ → ℕ
+read_u32 bs i =
+    slice_index bs i + slice_index bs (i + 1) * 256 + slice_index bs (i + 2) * 65536
+    + slice_index bs (i + 3) * 16777216
+
+-- `x << by` at `u64`
+abbrev pub shl : ℕ → ℕ → ℕ
+shl x by = (x * 2 ^ by) % 2 ^ 64
+
+unfoldable pub read_u64 : List ℕ → ℕ → ℕ
+read_u64 bs i = bit_or (read_u32 bs i) (shl (read_u32 bs (i + 4)) 32)
+
+-- one to three bytes as one number
+abbrev pub read_few : List ℕ → ℕ → ℕ
+read_few bs n =
+    bit_or (bit_or (slice_index bs 0) (shl (slice_index bs (n / 2)) 8))
+    (shl (slice_index bs (n - 1)) 16)
+
+-- up to eight bytes as one number
+unfoldable pub read_short : List ℕ → ℕ
+read_short bs =
+    let n = length bs in
+    if nat_le 4 n then bit_or (read_u32 bs 0) (shl (read_u32 bs (n - 4)) 32)
+    else (if nat_lt 0 n then read_few bs n else 0)
+
+-- the state after the words at i and at j
+abbrev pub mix : List ℕ → ℕ → ℕ → ℕ → ℕ → ℕ
+mix bs key state i j = folded_multiply (bit_xor (read_u64 bs i) state) (bit_xor (read_u64 bs j) key)
+
+-- the state after the first n blocks of 16 bytes
+unfoldable pub mix_blocks : List ℕ → ℕ → ℕ → ℕ → ℕ
+mix_blocks bs key state zero = state
+mix_blocks bs key state (suc n) = mix bs key (mix_blocks bs key state n) (16 * n) (16 * n + 8)
+
+-- the state after `write(bs)`
+unfoldable pub write : TableHasher → List ℕ → TableHasher
+write h bs =
+    let n = length bs in
+    let short = folded_multiply (bit_xor h.state (read_short bs)) (bit_xor h.key (2 * n)) in
+    let blocks = mix_blocks bs h.key ((h.state + n) % 2 ^ 64) ((n - 1) / 16) in
+    let long = mix bs h.key blocks (n - 16) (n - 8) in
+    record { state = if nat_le n 8 then short else long; key = h.key }
+
+-- what `finish` returns
+abbrev pub finish : TableHasher → ℕ
+finish h = h.state

@@ -1,0 +1,8 @@
+-- Seeds that nobody knows who picks names.
+use Rattle.std.specs.Prelude.{⊤}
+use Rattle.table_seed.specs.declared.seed.Seed.{Seed}
+use Rattle.table_seed.specs.declared.seed.Seed.TheVariants.{Fixed, Secret}
+
+abbrev pub IsSecret : Seed → Type 0
+IsSecret Fixed = ⊥
+IsSecret (Secret state key) = ⊤
