@@ -14,6 +14,7 @@ use crate::traits::BlobBackend;
 use meta_types::Digest;
 use row_tables::RowTable;
 use std::alloc::Global;
+use table_seed::Seed;
 
 /// Blobs in memory, with a device that fails once where it is armed.
 #[derive(Drop)]
@@ -43,9 +44,9 @@ impl BlobBackend for FuseBlobs {
         false
     }
 
-    fn fresh(alloc: Global) -> FuseBlobs {
+    fn fresh(alloc: Global, seed: Seed) -> FuseBlobs {
         FuseBlobs {
-            inner: MemBlobs::fresh(alloc),
+            inner: MemBlobs::fresh(alloc, seed),
             fuse: Fuse::new(),
         }
     }

@@ -7,6 +7,7 @@ use meta_types::{Digest, Fault};
 use row_tables::RowTable;
 use std::alloc::Global;
 use std::marker::Model;
+use table_seed::Seed;
 
 /// Blobs in memory, each found by a hash of its digest. No device fails.
 #[derive(Drop)]
@@ -34,9 +35,9 @@ impl BlobBackend for MemBlobs {
         true
     }
 
-    fn fresh(alloc: Global) -> MemBlobs {
+    fn fresh(alloc: Global, seed: Seed) -> MemBlobs {
         MemBlobs {
-            digests: RowTable::new(alloc),
+            digests: RowTable::new(alloc, seed),
         }
     }
 

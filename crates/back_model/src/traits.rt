@@ -13,6 +13,7 @@ use crate::faults::{MakeFault, RemoveFault};
 use meta_types::{Digest, Fault};
 use row_tables::RowTable;
 use std::alloc::Global;
+use table_seed::Seed;
 
 /// The snapshots of one snapshotter, by number.
 pub trait SnapBackend: Send + Drop {
@@ -85,8 +86,8 @@ pub trait BlobBackend: Send + Drop {
     fn never_fails() -> bool
         ensures { result ≡ true → NeverFails fails };
 
-    /// An empty one. It touches no device.
-    fn fresh(alloc: Global) -> Self
+    /// An empty one, whose table hashes by the seed. It touches no device.
+    fn fresh(alloc: Global, seed: Seed) -> Self
         ensures empty { contents result ≡ [] }
         ensures none { fails result ≡ 0 };
 

@@ -5,6 +5,7 @@ use back_model::{
 };
 use meta_types::{Digest, Fault, ShortName};
 use std::alloc::Global;
+use table_seed::Seed;
 
 type Fuses = Backends<FuseBackend, FuseBlobs, FuseIngests>;
 
@@ -37,6 +38,10 @@ fn objects(backends: &mut Fuses, alloc: Global, digest: &Digest) -> Result<bool,
 pub(crate) fn calls(alloc: Global) -> Result<bool, Fault> {
     let by = ShortName::read(alloc, "overlayfs")?;
     let digest = Digest::read(alloc, DIGEST)?;
-    let mut backends = Backends::new(alloc, FuseBlobs::fresh(alloc), FuseIngests::fresh(alloc));
+    let mut backends = Backends::new(
+        alloc,
+        FuseBlobs::fresh(alloc, Seed::Fixed),
+        FuseIngests::fresh(alloc),
+    );
     Ok(shards(&mut backends, alloc, &by)? && objects(&mut backends, alloc, &digest)?)
 }

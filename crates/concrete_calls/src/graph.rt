@@ -7,6 +7,7 @@ use object_tables::Tables;
 use std::alloc::Global;
 use std::mem::drop;
 use std::thread::Threads;
+use table_seed::Seed;
 
 // Whether the graph of these rows is made.
 fn makes_graph(
@@ -26,8 +27,8 @@ fn makes_graph(
 
 /// Makes the graph of a store that holds nothing.
 pub(crate) fn calls(rt: &(impl Threads + Sync), alloc: Global) -> bool {
-    let tables = Tables::new(alloc);
-    let leases = Leases::new(alloc);
+    let tables = Tables::new(alloc, Seed::Fixed);
+    let leases = Leases::new(alloc, Seed::Fixed);
     let is_made = makes_graph(rt, alloc, &tables, &leases);
     drop(leases);
     drop(tables);

@@ -11,6 +11,7 @@ use meta_types::{Fault, Labels, Name, Resource, ShortName};
 use row_tables::{GroupedRow, NamedRow, RowTable, in_key_order};
 use std::alloc::Global;
 use std::marker::Model;
+use table_seed::Seed;
 
 /// A lease, with what it holds (containerd leases service).
 #[derive(Drop)]
@@ -38,14 +39,14 @@ impl Model for Lease {
 
 impl Lease {
     /// A lease that holds nothing yet.
-    pub(crate) fn new(alloc: Global, ns: ShortName, id: Name, labels: Labels) -> Lease
+    pub(crate) fn new(alloc: Global, seed: Seed, ns: ShortName, id: Name, labels: Labels) -> Lease
         ensures { result ≡ record { ns = ns; id = id; labels = labels; resources = [] } }
     {
         Lease {
             ns,
             id,
             labels,
-            resources: RowTable::new(alloc),
+            resources: RowTable::new(alloc, seed),
         }
     }
 

@@ -14,6 +14,7 @@ use meta_types::{Fault, Labels, Name, Resource, ShortName};
 use row_tables::{ArrivedByNamespace, ByNamespace};
 use std::alloc::Global;
 use std::marker::Model;
+use table_seed::Seed;
 
 /// The leases of all namespaces, in the order of namespaces and ids (containerd leases service).
 /// Each is found by a hash of its id.
@@ -33,11 +34,11 @@ impl Model for Leases {
 
 impl Leases {
     /// No lease.
-    pub fn new(alloc: Global) -> Leases
+    pub fn new(alloc: Global, seed: Seed) -> Leases
         ensures { result ≡ [] }
     {
         Leases {
-            rows: ByNamespace::new(alloc),
+            rows: ByNamespace::new(alloc, seed),
         }
     }
 
@@ -120,9 +121,11 @@ impl Leases {
         if self.has(ns, id) {
             return Err(Fault::AlreadyExists);
         }
+        let seed = self.rows.seed();
         let ns = ns.copy()?;
         let id = id.copy()?;
-        self.rows.add(alloc, Lease::new(alloc, ns, id, labels))
+        self.rows
+            .add(alloc, Lease::new(alloc, seed, ns, id, labels))
     }
 
     /// Takes a lease away, with what it holds.

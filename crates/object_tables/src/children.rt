@@ -18,6 +18,7 @@ use meta_types::{Fault, Name, SnapKey, SnapRow};
 use row_tables::{ArrivedBySnapshotter, BySnapshotter, RemovedRows};
 use std::alloc::Global;
 use std::marker::Model;
+use table_seed::Seed;
 
 /// The snapshots, with the names of each one's children.
 #[derive(Drop)]
@@ -39,12 +40,12 @@ impl Model for Snapshots {
 }
 
 impl Snapshots {
-    pub(crate) fn new(alloc: Global) -> Snapshots
+    pub(crate) fn new(alloc: Global, seed: Seed) -> Snapshots
         ensures { result ≡ [] }
     {
         Snapshots {
-            rows: BySnapshotter::new(alloc),
-            families: Families::new(alloc),
+            rows: BySnapshotter::new(alloc, seed),
+            families: Families::new(alloc, seed),
         }
     }
 

@@ -11,6 +11,7 @@ use meta_types::{Fault, Name, ShortName, SnapKey};
 use row_tables::{BySnapshotter, Change, GroupedRow, NamedRow, SnapshotterRow};
 use std::alloc::Global;
 use std::marker::Model;
+use table_seed::Seed;
 
 /// A snapshot that has children, and their names.
 #[derive(Drop)]
@@ -69,6 +70,7 @@ impl SnapshotterRow<Name> for Family {
 /// Adds a child to a family.
 #[derive(Drop)]
 struct OneMore {
+    seed: Seed,
     name: Name,
 }
 
@@ -78,7 +80,7 @@ impl Change<Name, Family, Result<(), Fault>> for OneMore {
     ghost keeps_name = { λ c. enters_keep c.name (λ family. family.parent) (λ family. refl) };
 
     fn change(self, family: &mut Family) -> Result<(), Fault> {
-        family.children.add(self.name)
+        family.children.add(self.seed, self.name)
     }
 }
 
@@ -115,11 +117,11 @@ impl Model for Families {
 }
 
 impl Families {
-    pub(crate) fn new(alloc: Global) -> Families
+    pub(crate) fn new(alloc: Global, seed: Seed) -> Families
         ensures { result ≡ [] }
     {
         Families {
-            rows: BySnapshotter::new(alloc),
+            rows: BySnapshotter::new(alloc, seed),
         }
     }
 
@@ -179,15 +181,16 @@ impl Families {
             ≡ entered key.now parent.now (family_names self.old)) }
         ensures err { OnErr result (self.new ≡ self.old) }
     {
+        let seed = self.rows.seed();
         let name = key.name.copy()?;
         match self
             .rows
-            .change(&key.ns, &key.snapshotter, parent, OneMore { name })
+            .change(&key.ns, &key.snapshotter, parent, OneMore { seed, name })
         {
             Some(Ok(())) => Ok(()),
             Some(Err(fault)) => Err(fault),
             None => {
-                let family = first_child(alloc, key, parent)?;
+                let family = first_child(alloc, seed, key, parent)?;
                 self.rows.add(alloc, family)
             }
         }
@@ -215,7 +218,7 @@ impl Families {
 }
 
 // A family of one child.
-fn first_child(alloc: Global, key: &SnapKey, parent: &Name) -> Result<Family, Fault>
+fn first_child(alloc: Global, seed: Seed, key: &SnapKey, parent: &Name) -> Result<Family, Fault>
     ensures fault { Refuses result None }
     ensures ok { IfOk result (λ family. family ≡ first_family key.now parent.now) }
 {
@@ -224,7 +227,7 @@ fn first_child(alloc: Global, key: &SnapKey, parent: &Name) -> Result<Family, Fa
     let parent = parent.copy()?;
     let name = key.name.copy()?;
     let mut children = Names::new(alloc);
-    children.add(name)?;
+    children.add(seed, name)?;
     Ok(Family {
         ns,
         snapshotter,

@@ -11,6 +11,7 @@ use std::alloc::Global;
 use std::boxed::Box;
 use std::marker::Model;
 use std::mem;
+use table_seed::Seed;
 
 /// Names in arrival order, each found by a hash; contracts see them by their bytes.
 #[derive(Drop)]
@@ -55,14 +56,14 @@ impl<N: Named + NamedRow<N>> Model for Several<N> {
 
 impl<N: Named + NamedRow<N>> Several<N> {
     // Two names that are no one.
-    fn two(alloc: Global, first: N, second: N) -> Result<Several<N>, Fault>
+    fn two(alloc: Global, seed: Seed, first: N, second: N) -> Result<Several<N>, Fault>
         requires { has_row (by_name N.texts_of N.name_of) (N.texts_of (N.name_of second))
             (first ∷ []) ≡ false }
         ensures fault { Refuses result None }
         ensures ok { IfOk result (λ names. sorted (by_name N.texts_of N.name_of) names
             ≡ add_row (by_name N.texts_of N.name_of) second (first ∷ [])) }
     {
-        let mut table = RowTable::new(alloc);
+        let mut table = RowTable::new(alloc, seed);
         table.add(first)?;
         table.add(second)?;
         let table = Box::new(alloc, table)?;
@@ -166,15 +167,15 @@ impl<N: Named + NamedRow<N>> Names<N> {
         }
     }
 
-    /// Adds a name where it isn't there.
-    pub(crate) fn add(&mut self, name: N) -> Result<(), Fault>
+    /// Adds a name where it isn't there. A table that it makes has the seed.
+    pub(crate) fn add(&mut self, seed: Seed, name: N) -> Result<(), Fault>
         ensures fault { Refuses result
             (least_of false false (has_row (by_name N.texts_of N.name_of) (N.texts_of (N.name_of name)) self.old) false) }
         ensures ok { OnOk result (self.new ≡ add_row (by_name N.texts_of N.name_of) name self.old) }
         ensures err { OnErr result (self.new ≡ self.old) }
     {
         let held = mem::replace(&mut self.held, Held::Nothing);
-        let (held, added) = with_name(held, self.alloc, name);
+        let (held, added) = with_name(held, self.alloc, seed, name);
         self.held = held;
         added
     }
@@ -219,6 +220,7 @@ fn alone<N>(alloc: Global, one: &N) -> Result<Vec<&N>, Fault>
 fn with_name<N: Named + NamedRow<N>>(
     held: Held<N>,
     alloc: Global,
+    seed: Seed,
     name: N,
 ) -> (Held<N>, Result<(), Fault>)
     ensures fault { Refuses result.1 (least_of false false (has_row (by_name N.texts_of N.name_of)
@@ -231,7 +233,7 @@ fn with_name<N: Named + NamedRow<N>>(
 {
     match held {
         Held::Nothing => (Held::One(name), Ok(())),
-        Held::One(first) => with_second(first, alloc, name),
+        Held::One(first) => with_second(first, alloc, seed, name),
         Held::Several(mut names) => {
             let added = names.add(name);
             (Held::Several(names), added)
@@ -243,6 +245,7 @@ fn with_name<N: Named + NamedRow<N>>(
 fn with_second<N: Named + NamedRow<N>>(
     first: N,
     alloc: Global,
+    seed: Seed,
     name: N,
 ) -> (Held<N>, Result<(), Fault>)
     ensures fault { Refuses result.1 (least_of false false (has_row (by_name N.texts_of N.name_of)
@@ -257,7 +260,7 @@ fn with_second<N: Named + NamedRow<N>>(
     let Ok(copy) = first.copy_row(alloc) else {
         return (Held::One(first), Err(Fault::OutOfMemory));
     };
-    match Several::two(alloc, copy, name) {
+    match Several::two(alloc, seed, copy, name) {
         Ok(names) => (Held::Several(names), Ok(())),
         Err(_) => (Held::One(first), Err(Fault::OutOfMemory)),
     }

@@ -17,6 +17,7 @@ use meta_types::{
 use row_tables::ByNamespace;
 use std::alloc::Global;
 use std::marker::Model;
+use table_seed::Seed;
 
 /// Rows of all kinds, by namespace.
 #[derive(Drop)]
@@ -67,7 +68,7 @@ pub struct Counts {
 
 impl Tables {
     /// No namespace, and no row.
-    pub fn new(alloc: Global) -> Tables
+    pub fn new(alloc: Global, seed: Seed) -> Tables
         ensures { result ≡ record {
           namespaces = [];
           images = [];
@@ -79,11 +80,11 @@ impl Tables {
     {
         Tables {
             namespaces: Names::new(alloc),
-            images: ByNamespace::new(alloc),
-            containers: ByNamespace::new(alloc),
-            content: ByNamespace::new(alloc),
-            ingests: ByNamespace::new(alloc),
-            snapshots: Snapshots::new(alloc),
+            images: ByNamespace::new(alloc, seed),
+            containers: ByNamespace::new(alloc, seed),
+            content: ByNamespace::new(alloc, seed),
+            ingests: ByNamespace::new(alloc, seed),
+            snapshots: Snapshots::new(alloc, seed),
         }
     }
 
@@ -168,7 +169,7 @@ impl Tables {
             { namespaces = add_row namespace_key ns self.old.namespaces }) }
         ensures err { OnErr result (self.new ≡ self.old) }
     {
-        self.namespaces.add(ns)
+        self.namespaces.add(self.images.seed(), ns)
     }
 
     /// Removes a namespace that has no row. Whether a lease is in it, the caller asks.

@@ -13,6 +13,7 @@ use meta_types::{Fault, Name, ShortName};
 use object_tables::Tables;
 use std::alloc::Global;
 use std::marker::Model;
+use table_seed::Seed;
 
 /// All rows and leases, the next backend number, from 1 on, and the profile, 1 or 2.
 #[derive(Drop)]
@@ -24,7 +25,7 @@ pub struct Records {
 }
 
 impl Records {
-    /// No row and no lease, in the first profile.
+    /// No row and no lease, in the first profile. The hashes of its tables are the same in each run.
     pub fn empty(alloc: Global) -> Records
         ensures { result ≡ record {
           tables = record {
@@ -40,9 +41,28 @@ impl Records {
           profile = 1;
         } }
     {
+        Records::empty_with(alloc, Seed::Fixed)
+    }
+
+    /// No row and no lease, in the first profile. All tables hash by the seed.
+    pub fn empty_with(alloc: Global, seed: Seed) -> Records
+        ensures { result ≡ record {
+          tables = record {
+            namespaces = [];
+            images = [];
+            containers = [];
+            content = [];
+            ingests = [];
+            snapshots = [];
+          };
+          leases = [];
+          next = 1;
+          profile = 1;
+        } }
+    {
         Records {
-            tables: Tables::new(alloc),
-            leases: Leases::new(alloc),
+            tables: Tables::new(alloc, seed),
+            leases: Leases::new(alloc, seed),
             next: 1,
             profile: 1,
         }
@@ -85,7 +105,8 @@ impl<S: SnapBackend, B: BlobBackend, I: IngestBackend> Model for State<S, B, I> 
 }
 
 impl<S: SnapBackend, B: BlobBackend, I: IngestBackend> State<S, B, I> {
-    /// Nothing stored, over fresh backends, in the first profile.
+    /// Nothing stored, over fresh backends, in the first profile. The hashes of its tables are the
+    /// same in each run, so who picks names can pick some that clash.
     pub fn empty(alloc: Global) -> State<S, B, I>
         ensures empty { result ≡ record {
           state = record {
@@ -108,9 +129,36 @@ impl<S: SnapBackend, B: BlobBackend, I: IngestBackend> State<S, B, I> {
         } }
         ensures sound { IsSound result.state }
     {
+        State::empty_with(alloc, Seed::Fixed)
+    }
+
+    /// Nothing stored, over fresh backends, in the first profile. All tables hash by the seed, those
+    /// made later and those of copies too.
+    pub fn empty_with(alloc: Global, seed: Seed) -> State<S, B, I>
+        ensures empty { result ≡ record {
+          state = record {
+            records = record {
+              tables = record {
+                namespaces = [];
+                images = [];
+                containers = [];
+                content = [];
+                ingests = [];
+                snapshots = [];
+              };
+              leases = [];
+              next = 1;
+              profile = 1;
+            };
+            backends = record { blobs = []; snapshots = []; ingests = [] };
+          };
+          failures = 0;
+        } }
+        ensures sound { IsSound result.state }
+    {
         State {
-            records: Records::empty(alloc),
-            backends: Backends::new(alloc, B::fresh(alloc), I::fresh(alloc)),
+            records: Records::empty_with(alloc, seed),
+            backends: Backends::new(alloc, B::fresh(alloc, seed), I::fresh(alloc)),
         }
     }
 

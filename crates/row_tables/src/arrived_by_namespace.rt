@@ -17,13 +17,14 @@ use indexmap::IndexMap;
 use meta_types::{Fault, ShortName};
 use std::alloc::Global;
 use std::marker::Model;
+use table_seed::Seed;
 
 /// Rows of all namespaces, as they arrived: those of one namespace stand together. A row's place is
 /// its number. Where one goes, the last of its namespace takes its place. A namespace comes with its
 /// first row, and goes with its last; then the last namespace takes its place.
 #[derive(Drop)]
 pub struct ArrivedByNamespace<K: Named, R: GroupedRow<K>> {
-    groups: IndexMap<ShortName, RowTable<K, R>>,
+    groups: IndexMap<ShortName, RowTable<K, R>, Seed>,
     count: usize,
 }
 
@@ -42,13 +43,17 @@ impl<K: Named, R: GroupedRow<K>> Model for ArrivedByNamespace<K, R> {
 
 impl<K: Named, R: GroupedRow<K>> ArrivedByNamespace<K, R> {
     /// No row.
-    pub fn new(alloc: Global) -> ArrivedByNamespace<K, R>
+    pub fn new(alloc: Global, seed: Seed) -> ArrivedByNamespace<K, R>
         ensures { result ≡ [] }
     {
         ArrivedByNamespace {
-            groups: IndexMap::new(alloc),
+            groups: IndexMap::with_hasher(alloc, seed),
             count: 0,
         }
+    }
+
+    pub(crate) fn seed(&self) -> Seed {
+        *self.groups.hasher()
     }
 
     /// How many rows there are. Each caller learns here that no key stands twice.

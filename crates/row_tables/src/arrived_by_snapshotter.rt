@@ -17,6 +17,7 @@ use indexmap::IndexMap;
 use meta_types::{Fault, ShortName};
 use std::alloc::Global;
 use std::marker::Model;
+use table_seed::Seed;
 
 /// Rows of all namespaces, by snapshotter, as they arrived: those of one snapshotter in a namespace
 /// stand together. A row's place is its number. Where one goes, the last of its snapshotter and
@@ -24,7 +25,7 @@ use std::marker::Model;
 /// with their last.
 #[derive(Drop)]
 pub struct ArrivedBySnapshotter<K: Named, R: SnapshotterRow<K>> {
-    groups: IndexMap<ShortName, ArrivedByNamespace<K, R>>,
+    groups: IndexMap<ShortName, ArrivedByNamespace<K, R>, Seed>,
     count: usize,
 }
 
@@ -43,13 +44,17 @@ impl<K: Named, R: SnapshotterRow<K>> Model for ArrivedBySnapshotter<K, R> {
 
 impl<K: Named, R: SnapshotterRow<K>> ArrivedBySnapshotter<K, R> {
     /// No row.
-    pub fn new(alloc: Global) -> ArrivedBySnapshotter<K, R>
+    pub fn new(alloc: Global, seed: Seed) -> ArrivedBySnapshotter<K, R>
         ensures { result ≡ [] }
     {
         ArrivedBySnapshotter {
-            groups: IndexMap::new(alloc),
+            groups: IndexMap::with_hasher(alloc, seed),
             count: 0,
         }
+    }
+
+    pub(crate) fn seed(&self) -> Seed {
+        *self.groups.hasher()
     }
 
     /// How many rows there are. Each caller learns here that no key stands twice.

@@ -13,6 +13,7 @@ use crate::row::{Change, GroupedRow, Test};
 use meta_types::{Fault, ShortName};
 use std::alloc::Global;
 use std::marker::Model;
+use table_seed::Seed;
 
 /// Rows by namespace and name, which contracts see in the order of their keys. A row is found in
 /// its namespace by a hash of its name.
@@ -33,12 +34,17 @@ impl<K: Named, R: GroupedRow<K>> Model for ByNamespace<K, R> {
 
 impl<K: Named, R: GroupedRow<K>> ByNamespace<K, R> {
     /// No row.
-    pub fn new(alloc: Global) -> ByNamespace<K, R>
+    pub fn new(alloc: Global, seed: Seed) -> ByNamespace<K, R>
         ensures { result ≡ [] }
     {
         ByNamespace {
-            arrived: ArrivedByNamespace::new(alloc),
+            arrived: ArrivedByNamespace::new(alloc, seed),
         }
+    }
+
+    /// The seed of its hashes, for tables that stand beside it or in its rows.
+    pub fn seed(&self) -> Seed {
+        self.arrived.seed()
     }
 
     /// Lends the rows as they arrived.

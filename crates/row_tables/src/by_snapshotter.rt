@@ -13,6 +13,7 @@ use crate::row::{Change, SnapshotterRow, Test};
 use meta_types::{Fault, ShortName};
 use std::alloc::Global;
 use std::marker::Model;
+use table_seed::Seed;
 
 /// Rows by namespace, snapshotter and name, which contracts see in the order of their keys. A row
 /// is found by a hash of its name.
@@ -33,12 +34,17 @@ impl<K: Named, R: SnapshotterRow<K>> Model for BySnapshotter<K, R> {
 
 impl<K: Named, R: SnapshotterRow<K>> BySnapshotter<K, R> {
     /// No row.
-    pub fn new(alloc: Global) -> BySnapshotter<K, R>
+    pub fn new(alloc: Global, seed: Seed) -> BySnapshotter<K, R>
         ensures { result ≡ [] }
     {
         BySnapshotter {
-            arrived: ArrivedBySnapshotter::new(alloc),
+            arrived: ArrivedBySnapshotter::new(alloc, seed),
         }
+    }
+
+    /// The seed of its hashes, for tables that stand beside it or in its rows.
+    pub fn seed(&self) -> Seed {
+        self.arrived.seed()
     }
 
     /// Lends the rows as they arrived.

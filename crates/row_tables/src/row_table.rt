@@ -18,12 +18,13 @@ use meta_types::Fault;
 use std::alloc::{AllocFailed, Global};
 use std::hash::Hash;
 use std::marker::Model;
+use table_seed::Seed;
 
 /// Rows in the order in which they arrived, each found by its name. Where one goes, the last takes its
 /// place.
 #[derive(Drop)]
 pub struct RowTable<K: Named, R: NamedRow<K>> {
-    rows: IndexMap<K, R>,
+    rows: IndexMap<K, R, Seed>,
 }
 
 impl<K: Named, R: NamedRow<K>> Model for RowTable<K, R> {
@@ -40,11 +41,11 @@ impl<K: Named, R: NamedRow<K>> Model for RowTable<K, R> {
 
 impl<K: Named, R: NamedRow<K>> RowTable<K, R> {
     /// No row.
-    pub fn new(alloc: Global) -> RowTable<K, R>
+    pub fn new(alloc: Global, seed: Seed) -> RowTable<K, R>
         ensures { result ≡ [] }
     {
         RowTable {
-            rows: IndexMap::new(alloc),
+            rows: IndexMap::with_hasher(alloc, seed),
         }
     }
 
@@ -190,7 +191,7 @@ impl<K: Named, R: NamedRow<K>> RowTable<K, R> {
         ensures fault { Refuses result None }
         ensures ok { IfOk result (λ table. table ≡ self.now) }
     {
-        copy_rows(self.rows(), alloc)
+        copy_rows(self.rows(), alloc, *self.rows.hasher())
     }
 
     /// Shows the visitor each row whose mark is unset, from the first to the last.
@@ -215,7 +216,7 @@ impl<K: Named, R: NamedRow<K>> RowTable<K, R> {
 
 // One look for the name gives its row's place, or the one where a row goes.
 fn insert_new<K: Named, R: NamedRow<K>>(
-    rows: &mut IndexMap<K, R>,
+    rows: &mut IndexMap<K, R, Seed>,
     name: K,
     row: R,
 ) -> Result<(), Fault>
@@ -244,12 +245,16 @@ fn all_pass<R, T: Test<R>>(rows: &[R], test: &T) -> bool
     rows.iter().all(|row| test.test(row))
 }
 
-fn copy_rows<K: Named, R: NamedRow<K>>(rows: &[R], alloc: Global) -> Result<RowTable<K, R>, Fault>
+fn copy_rows<K: Named, R: NamedRow<K>>(
+    rows: &[R],
+    alloc: Global,
+    seed: Seed,
+) -> Result<RowTable<K, R>, Fault>
     requires { IsDistinct (same_key (by_name K.texts_of R.name_of)) rows.now }
     ensures fault { Refuses result None }
     ensures ok { IfOk result (λ copies. copies ≡ rows.now) }
 {
-    let mut copies = RowTable::new(alloc);
+    let mut copies = RowTable::new(alloc, seed);
     for row in rows {
         let copy = row.copy_row(alloc)?;
         copies.add(copy)?;
@@ -258,7 +263,7 @@ fn copy_rows<K: Named, R: NamedRow<K>>(rows: &[R], alloc: Global) -> Result<RowT
 }
 
 // Keeps the rows whose mark is set, in their order.
-fn retain_rows<K: Named, R: NamedRow<K>>(rows: &mut IndexMap<K, R>, marks: &[bool])
+fn retain_rows<K: Named, R: NamedRow<K>>(rows: &mut IndexMap<K, R, Seed>, marks: &[bool])
     requires { length marks.now ≡ length rows.old.entries }
     ensures kept { rows.new.entries ≡ kept marks.now rows.old.entries }
     ensures unique { IsUnique K.eq rows.new }
@@ -274,7 +279,10 @@ fn retain_rows<K: Named, R: NamedRow<K>>(rows: &mut IndexMap<K, R>, marks: &[boo
 }
 
 // Takes out a row by its place; the last takes it.
-pub(crate) fn take_at<K: Eq + Hash, V>(rows: &mut IndexMap<K, V>, place: usize) -> Option<(K, V)>
+pub(crate) fn take_at<K: Eq + Hash, V>(
+    rows: &mut IndexMap<K, V, Seed>,
+    place: usize,
+) -> Option<(K, V)>
     ensures entry { result ≡ slice_get rows.old.entries place }
     ensures entries { IfSome result (λ entry. rows.new.entries
         ≡ swap_remove rows.old.entries place entry) }
@@ -287,7 +295,7 @@ pub(crate) fn take_at<K: Eq + Hash, V>(rows: &mut IndexMap<K, V>, place: usize) 
 
 // Gives back memory where less than a quarter of it is in use: half of what is left stays free, so
 // that tables which grow and shrink by turns rarely move.
-pub(crate) fn give_back<K: Eq + Hash, V>(rows: &mut IndexMap<K, V>)
+pub(crate) fn give_back<K: Eq + Hash, V>(rows: &mut IndexMap<K, V, Seed>)
     ensures entries { rows.new.entries ≡ rows.old.entries }
 {
     let len = rows.len();

@@ -18,6 +18,7 @@ use row_tables::RowTable;
 use std::alloc::Global;
 use std::marker::{Model, PhantomData};
 use std::sync::ledger::{Blank, Book, Ledger, Share};
+use table_seed::Seed;
 
 /// How many sessions a store may open.
 pub const SESSIONS: u32 = 65536;
@@ -172,14 +173,14 @@ impl<L: Ledger, S: SnapBackend, B: BlobBackend, I: IngestBackend, K: Keeps> Lock
     }
 }
 
-// Nothing stored. It takes no memory.
+// Nothing stored. It takes no memory, and nothing is ever added to it, so any seed serves.
 fn empty_base(alloc: Global) -> Base
     ensures { result ≡ empty_store }
 {
     Base {
         records: Records::empty(alloc),
         lists: BackLists {
-            blobs: RowTable::new(alloc),
+            blobs: RowTable::new(alloc, Seed::Fixed),
             snapshots: Vec::new(alloc),
             ingests: Vec::new(alloc),
         },

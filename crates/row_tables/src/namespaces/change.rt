@@ -16,10 +16,11 @@ use crate::row_table::{RowTable, take_at};
 use indexmap::IndexMap;
 use meta_types::{Fault, ShortName};
 use std::alloc::Global;
+use table_seed::Seed;
 
 /// Adds a row where none has its key; one look in its namespace finds whether one has.
 pub(crate) fn add_new_row<K: Named, R: GroupedRow<K>>(
-    groups: &mut IndexMap<ShortName, RowTable<K, R>>,
+    groups: &mut IndexMap<ShortName, RowTable<K, R>, Seed>,
     alloc: Global,
     row: R,
 ) -> Result<(), Fault>
@@ -43,7 +44,7 @@ pub(crate) fn add_new_row<K: Named, R: GroupedRow<K>>(
 }
 
 fn add_there<K: Named, R: GroupedRow<K>>(
-    groups: &mut IndexMap<ShortName, RowTable<K, R>>,
+    groups: &mut IndexMap<ShortName, RowTable<K, R>, Seed>,
     home: usize,
     row: R,
 ) -> Result<(), Fault>
@@ -80,7 +81,7 @@ fn with_text<K: Named, R: GroupedRow<K>>(ns: &ShortName, mut row: R) -> R
 
 // The namespace comes with its first row.
 fn open<K: Named, R: GroupedRow<K>>(
-    groups: &mut IndexMap<ShortName, RowTable<K, R>>,
+    groups: &mut IndexMap<ShortName, RowTable<K, R>, Seed>,
     alloc: Global,
     row: R,
 ) -> Result<(), Fault>
@@ -97,7 +98,7 @@ fn open<K: Named, R: GroupedRow<K>>(
     ensures full { AreFull groups.old.entries → AreFull groups.new.entries }
 {
     let ns = row.group().copy()?;
-    let rows = only(alloc, row)?;
+    let rows = only(alloc, *groups.hasher(), row)?;
     match groups.insert(ns, rows) {
         Ok(_) => Ok(()),
         Err(_) => Err(Fault::OutOfMemory),
@@ -105,11 +106,15 @@ fn open<K: Named, R: GroupedRow<K>>(
 }
 
 // A table of one row.
-fn only<K: Named, R: GroupedRow<K>>(alloc: Global, row: R) -> Result<RowTable<K, R>, Fault>
+fn only<K: Named, R: GroupedRow<K>>(
+    alloc: Global,
+    seed: Seed,
+    row: R,
+) -> Result<RowTable<K, R>, Fault>
     ensures fault { Refuses result None }
     ensures ok { IfOk result (λ rows. rows ≡ row ∷ []) }
 {
-    let mut rows = RowTable::new(alloc);
+    let mut rows = RowTable::new(alloc, seed);
     rows.add(row)?;
     Ok(rows)
 }
@@ -117,7 +122,7 @@ fn only<K: Named, R: GroupedRow<K>>(alloc: Global, row: R) -> Result<RowTable<K,
 /// Takes out the row of a namespace and a name; the last row of its namespace takes its place. With
 /// its last row a namespace goes, and the last namespace takes its place.
 pub(crate) fn take_row<K: Named, R: GroupedRow<K>>(
-    groups: &mut IndexMap<ShortName, RowTable<K, R>>,
+    groups: &mut IndexMap<ShortName, RowTable<K, R>, Seed>,
     ns: &ShortName,
     name: &K,
 ) -> Option<R>
@@ -143,7 +148,10 @@ pub(crate) fn take_row<K: Named, R: GroupedRow<K>>(
 }
 
 // A namespace that has no row goes.
-fn close<K: Named, R: GroupedRow<K>>(groups: &mut IndexMap<ShortName, RowTable<K, R>>, home: usize)
+fn close<K: Named, R: GroupedRow<K>>(
+    groups: &mut IndexMap<ShortName, RowTable<K, R>, Seed>,
+    home: usize,
+)
     requires { home < length groups.old.entries }
     ensures { (group : Text × List R) → slice_get groups.old.entries home ≡ Some group
         → groups.new.entries ≡ (if has_rows group then groups.old.entries
@@ -156,7 +164,7 @@ fn close<K: Named, R: GroupedRow<K>>(groups: &mut IndexMap<ShortName, RowTable<K
 
 /// Changes the row of a namespace and a name in its place.
 pub(crate) fn change_row<K: Named, R: GroupedRow<K>, A, C: Change<K, R, A>>(
-    groups: &mut IndexMap<ShortName, RowTable<K, R>>,
+    groups: &mut IndexMap<ShortName, RowTable<K, R>, Seed>,
     ns: &ShortName,
     name: &K,
     change: C,

@@ -15,10 +15,11 @@ use crate::row_table::RowTable;
 use indexmap::IndexMap;
 use meta_types::{Fault, ShortName};
 use std::alloc::Global;
+use table_seed::Seed;
 
 /// Where the rows of each namespace begin.
 pub(crate) fn starts_of<K: Named, R: GroupedRow<K>>(
-    groups: &IndexMap<ShortName, RowTable<K, R>>,
+    groups: &IndexMap<ShortName, RowTable<K, R>, Seed>,
     alloc: Global,
 ) -> Result<Vec<usize>, Fault>
     requires { length (all_rows groups.now.entries) < 2 ^ 64 }
@@ -36,7 +37,7 @@ pub(crate) fn starts_of<K: Named, R: GroupedRow<K>>(
 
 /// The place of the row of a namespace and a name.
 pub(crate) fn place_of<K: Named, R: GroupedRow<K>>(
-    groups: &IndexMap<ShortName, RowTable<K, R>>,
+    groups: &IndexMap<ShortName, RowTable<K, R>, Seed>,
     starts: &[usize],
     ns: &ShortName,
     name: &K,
@@ -59,7 +60,7 @@ pub(crate) fn place_of<K: Named, R: GroupedRow<K>>(
 
 /// The row of a namespace and a name.
 pub(crate) fn row_in<'a, K: Named, R: GroupedRow<K>>(
-    groups: &'a IndexMap<ShortName, RowTable<K, R>>,
+    groups: &'a IndexMap<ShortName, RowTable<K, R>, Seed>,
     ns: &ShortName,
     name: &K,
 ) -> Option<&'a R>
@@ -77,7 +78,7 @@ pub(crate) fn row_in<'a, K: Named, R: GroupedRow<K>>(
 
 /// Whether the row is there.
 pub(crate) fn has_row<K: Named, R: GroupedRow<K>>(
-    groups: &IndexMap<ShortName, RowTable<K, R>>,
+    groups: &IndexMap<ShortName, RowTable<K, R>, Seed>,
     ns: &ShortName,
     name: &K,
 ) -> bool
@@ -95,7 +96,7 @@ pub(crate) fn has_row<K: Named, R: GroupedRow<K>>(
 
 /// The rows of a namespace as they arrived.
 pub(crate) fn rows_of<'a, K: Named, R: GroupedRow<K>>(
-    groups: &'a IndexMap<ShortName, RowTable<K, R>>,
+    groups: &'a IndexMap<ShortName, RowTable<K, R>, Seed>,
     ns: &ShortName,
 ) -> Option<&'a [R]>
     requires { AreApart (full_key K.texts_of R.name_of R.group_of)
@@ -113,7 +114,7 @@ pub(crate) fn rows_of<'a, K: Named, R: GroupedRow<K>>(
 
 /// The place of the first row of a namespace.
 pub(crate) fn first_in<K: Named, R: GroupedRow<K>>(
-    groups: &IndexMap<ShortName, RowTable<K, R>>,
+    groups: &IndexMap<ShortName, RowTable<K, R>, Seed>,
     starts: &[usize],
     ns: &ShortName,
 ) -> Option<usize>
@@ -136,7 +137,7 @@ pub(crate) fn first_in<K: Named, R: GroupedRow<K>>(
 
 /// Whether some row is in the namespace.
 pub(crate) fn any_in<K: Named, R: GroupedRow<K>>(
-    groups: &IndexMap<ShortName, RowTable<K, R>>,
+    groups: &IndexMap<ShortName, RowTable<K, R>, Seed>,
     ns: &ShortName,
 ) -> bool
     requires are { AreApart (full_key K.texts_of R.name_of R.group_of) R.group_of

@@ -5,9 +5,10 @@ ghost use Rattle.meta_types.specs.Rows.{namespace_key};
 
 use indexmap::IndexMap;
 use meta_types::ShortName;
+use table_seed::Seed;
 
 /// Where the namespace is, if it has rows.
-pub(crate) fn home<G>(groups: &IndexMap<ShortName, G>, ns: &ShortName) -> Option<usize>
+pub(crate) fn home<G>(groups: &IndexMap<ShortName, G, Seed>, ns: &ShortName) -> Option<usize>
     ensures found { IfSome result (λ place. (rows : G)
         × (slice_get groups.now.entries place ≡ Some (ns.now, rows))) }
     ensures none { IfNone result (has_row (λ group. namespace_key group.0)
@@ -18,7 +19,7 @@ pub(crate) fn home<G>(groups: &IndexMap<ShortName, G>, ns: &ShortName) -> Option
 }
 
 /// The name of the namespace at a place.
-pub(crate) fn name_at<G>(groups: &IndexMap<ShortName, G>, home: usize) -> &ShortName
+pub(crate) fn name_at<G>(groups: &IndexMap<ShortName, G, Seed>, home: usize) -> &ShortName
     requires { home < length groups.now.entries }
     ensures { (group : _ × G) → slice_get groups.now.entries home ≡ Some group → result.now
         ≡ group.0 }

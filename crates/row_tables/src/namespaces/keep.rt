@@ -11,10 +11,11 @@ use crate::row::{GroupedRow, RemovedRows};
 use crate::row_table::{RowTable, give_back};
 use indexmap::IndexMap;
 use meta_types::ShortName;
+use table_seed::Seed;
 
 /// Keeps the rows whose mark is set.
 pub(crate) fn retain_all<K: Named, R: GroupedRow<K>>(
-    groups: &mut IndexMap<ShortName, RowTable<K, R>>,
+    groups: &mut IndexMap<ShortName, RowTable<K, R>, Seed>,
     marks: &[bool],
 )
     requires groups { AreApart (full_key K.texts_of R.name_of R.group_of) R.group_of
@@ -30,7 +31,7 @@ pub(crate) fn retain_all<K: Named, R: GroupedRow<K>>(
 }
 
 fn retain_rows<K: Named, R: GroupedRow<K>>(
-    groups: &mut IndexMap<ShortName, RowTable<K, R>>,
+    groups: &mut IndexMap<ShortName, RowTable<K, R>, Seed>,
     marks: &[bool],
 )
     requires groups { AreApart (full_key K.texts_of R.name_of R.group_of) R.group_of
@@ -49,7 +50,7 @@ fn retain_rows<K: Named, R: GroupedRow<K>>(
 }
 
 // The namespaces that have no row go.
-fn close_all<K: Named, R: GroupedRow<K>>(groups: &mut IndexMap<ShortName, RowTable<K, R>>)
+fn close_all<K: Named, R: GroupedRow<K>>(groups: &mut IndexMap<ShortName, RowTable<K, R>, Seed>)
     ensures { groups.new.entries ≡ filter has_rows groups.old.entries }
 {
     groups.retain(

@@ -15,12 +15,13 @@ use indexmap::IndexMap;
 use meta_types::{Fault, ShortName};
 use std::alloc::Global;
 use std::marker::Model;
+use table_seed::Seed;
 
 /// The places of a table's rows, which it borrows. It knows where each namespace begins, so a
 /// look-up takes the same time in the last one as in the first.
 #[derive(Drop)]
 pub struct PlacesByNamespace<'a, K: Named, R: GroupedRow<K>> {
-    groups: &'a IndexMap<ShortName, RowTable<K, R>>,
+    groups: &'a IndexMap<ShortName, RowTable<K, R>, Seed>,
     starts: Vec<usize>,
     count: usize,
 }
@@ -43,7 +44,7 @@ impl<'a, K: Named, R: GroupedRow<K>> Model for PlacesByNamespace<'a, K, R> {
 impl<'a, K: Named, R: GroupedRow<K>> PlacesByNamespace<'a, K, R> {
     /// The places of the rows of all namespaces.
     pub(crate) fn new(
-        groups: &'a IndexMap<ShortName, RowTable<K, R>>,
+        groups: &'a IndexMap<ShortName, RowTable<K, R>, Seed>,
         count: usize,
         alloc: Global,
     ) -> Result<PlacesByNamespace<'a, K, R>, Fault>

@@ -17,10 +17,11 @@ use crate::row_table::take_at;
 use indexmap::IndexMap;
 use meta_types::{Fault, ShortName};
 use std::alloc::Global;
+use table_seed::Seed;
 
 /// Adds a row where none has its key; one look in its namespace finds whether one has.
 pub(crate) fn add_new_row<K: Named, R: SnapshotterRow<K>>(
-    groups: &mut IndexMap<ShortName, ArrivedByNamespace<K, R>>,
+    groups: &mut IndexMap<ShortName, ArrivedByNamespace<K, R>, Seed>,
     alloc: Global,
     row: R,
 ) -> Result<(), Fault>
@@ -48,7 +49,7 @@ pub(crate) fn add_new_row<K: Named, R: SnapshotterRow<K>>(
 }
 
 fn add_there<K: Named, R: SnapshotterRow<K>>(
-    groups: &mut IndexMap<ShortName, ArrivedByNamespace<K, R>>,
+    groups: &mut IndexMap<ShortName, ArrivedByNamespace<K, R>, Seed>,
     alloc: Global,
     home: usize,
     row: R,
@@ -89,7 +90,7 @@ fn with_text<K: Named, R: SnapshotterRow<K>>(ns: &ShortName, mut row: R) -> R
 
 // The namespace comes with its first row.
 fn open<K: Named, R: SnapshotterRow<K>>(
-    groups: &mut IndexMap<ShortName, ArrivedByNamespace<K, R>>,
+    groups: &mut IndexMap<ShortName, ArrivedByNamespace<K, R>, Seed>,
     alloc: Global,
     row: R,
 ) -> Result<(), Fault>
@@ -108,7 +109,7 @@ fn open<K: Named, R: SnapshotterRow<K>>(
     ensures full { AreFull groups.old.entries → AreFull groups.new.entries }
 {
     let ns = row.ns().copy()?;
-    let rows = only(alloc, row)?;
+    let rows = only(alloc, *groups.hasher(), row)?;
     match groups.insert(ns, rows) {
         Ok(_) => Ok(()),
         Err(_) => Err(Fault::OutOfMemory),
@@ -118,12 +119,13 @@ fn open<K: Named, R: SnapshotterRow<K>>(
 // A table of one row.
 fn only<K: Named, R: SnapshotterRow<K>>(
     alloc: Global,
+    seed: Seed,
     row: R,
 ) -> Result<ArrivedByNamespace<K, R>, Fault>
     ensures fault { Refuses result None }
     ensures ok { IfOk result (λ rows. rows ≡ row ∷ []) }
 {
-    let mut rows = ArrivedByNamespace::new(alloc);
+    let mut rows = ArrivedByNamespace::new(alloc, seed);
     rows.add_new(alloc, row)?;
     Ok(rows)
 }
@@ -131,7 +133,7 @@ fn only<K: Named, R: SnapshotterRow<K>>(
 /// Takes out the row of a namespace, a snapshotter and a name; the last row of its snapshotter
 /// takes its place. With its last row a namespace goes, and the last namespace takes its place.
 pub(crate) fn take_row<K: Named, R: SnapshotterRow<K>>(
-    groups: &mut IndexMap<ShortName, ArrivedByNamespace<K, R>>,
+    groups: &mut IndexMap<ShortName, ArrivedByNamespace<K, R>, Seed>,
     ns: &ShortName,
     snapshotter: &ShortName,
     name: &K,
@@ -164,7 +166,7 @@ pub(crate) fn take_row<K: Named, R: SnapshotterRow<K>>(
 
 // A namespace that has no row goes.
 fn close<K: Named, R: SnapshotterRow<K>>(
-    groups: &mut IndexMap<ShortName, ArrivedByNamespace<K, R>>,
+    groups: &mut IndexMap<ShortName, ArrivedByNamespace<K, R>, Seed>,
     home: usize,
 )
     requires { home < length groups.old.entries }
@@ -179,7 +181,7 @@ fn close<K: Named, R: SnapshotterRow<K>>(
 
 /// Changes the row of a namespace, a snapshotter and a name in its place.
 pub(crate) fn change_row<K: Named, R: SnapshotterRow<K>, A, C: Change<K, R, A>>(
-    groups: &mut IndexMap<ShortName, ArrivedByNamespace<K, R>>,
+    groups: &mut IndexMap<ShortName, ArrivedByNamespace<K, R>, Seed>,
     ns: &ShortName,
     snapshotter: &ShortName,
     name: &K,

@@ -16,10 +16,11 @@ use crate::row::{SnapshotterRow, Test};
 use indexmap::IndexMap;
 use meta_types::{Fault, ShortName};
 use std::alloc::Global;
+use table_seed::Seed;
 
 /// Where the rows of each namespace begin.
 pub(crate) fn starts_of<K: Named, R: SnapshotterRow<K>>(
-    groups: &IndexMap<ShortName, ArrivedByNamespace<K, R>>,
+    groups: &IndexMap<ShortName, ArrivedByNamespace<K, R>, Seed>,
     alloc: Global,
 ) -> Result<Vec<usize>, Fault>
     requires { length (all_rows groups.now.entries) < 2 ^ 64 }
@@ -52,7 +53,7 @@ pub(crate) fn places_in_each<'a, K: Named, R: SnapshotterRow<K>>(
 
 /// The place of the row of a namespace, a snapshotter and a name.
 pub(crate) fn place_of<K: Named, R: SnapshotterRow<K>>(
-    groups: &IndexMap<ShortName, ArrivedByNamespace<K, R>>,
+    groups: &IndexMap<ShortName, ArrivedByNamespace<K, R>, Seed>,
     starts: &[usize],
     each: &[PlacesByNamespace<'_, K, R>],
     ns: &ShortName,
@@ -78,7 +79,7 @@ pub(crate) fn place_of<K: Named, R: SnapshotterRow<K>>(
 
 /// The row of a namespace, a snapshotter and a name.
 pub(crate) fn row_in<'a, K: Named, R: SnapshotterRow<K>>(
-    groups: &'a IndexMap<ShortName, ArrivedByNamespace<K, R>>,
+    groups: &'a IndexMap<ShortName, ArrivedByNamespace<K, R>, Seed>,
     ns: &ShortName,
     snapshotter: &ShortName,
     name: &K,
@@ -98,7 +99,7 @@ pub(crate) fn row_in<'a, K: Named, R: SnapshotterRow<K>>(
 
 /// Whether the row is there.
 pub(crate) fn has_row<K: Named, R: SnapshotterRow<K>>(
-    groups: &IndexMap<ShortName, ArrivedByNamespace<K, R>>,
+    groups: &IndexMap<ShortName, ArrivedByNamespace<K, R>, Seed>,
     ns: &ShortName,
     snapshotter: &ShortName,
     name: &K,
@@ -118,7 +119,7 @@ pub(crate) fn has_row<K: Named, R: SnapshotterRow<K>>(
 
 /// The rows of a snapshotter in a namespace, as they arrived.
 pub(crate) fn rows_of<'a, K: Named, R: SnapshotterRow<K>>(
-    groups: &'a IndexMap<ShortName, ArrivedByNamespace<K, R>>,
+    groups: &'a IndexMap<ShortName, ArrivedByNamespace<K, R>, Seed>,
     ns: &ShortName,
     snapshotter: &ShortName,
 ) -> Option<&'a [R]>
@@ -139,7 +140,7 @@ pub(crate) fn rows_of<'a, K: Named, R: SnapshotterRow<K>>(
 
 /// Whether some row is in the namespace.
 pub(crate) fn any_in<K: Named, R: SnapshotterRow<K>>(
-    groups: &IndexMap<ShortName, ArrivedByNamespace<K, R>>,
+    groups: &IndexMap<ShortName, ArrivedByNamespace<K, R>, Seed>,
     ns: &ShortName,
 ) -> bool
     requires are { AreApart (layered_key K.texts_of R.name_of R.group_of R.ns_of) R.ns_of

@@ -12,10 +12,11 @@ use crate::row::{RemovedRows, SnapshotterRow};
 use crate::row_table::give_back;
 use indexmap::IndexMap;
 use meta_types::ShortName;
+use table_seed::Seed;
 
 /// Keeps the rows whose mark is set.
 pub(crate) fn retain_all<K: Named, R: SnapshotterRow<K>>(
-    groups: &mut IndexMap<ShortName, ArrivedByNamespace<K, R>>,
+    groups: &mut IndexMap<ShortName, ArrivedByNamespace<K, R>, Seed>,
     marks: &[bool],
 )
     requires groups { AreApart (layered_key K.texts_of R.name_of R.group_of R.ns_of) R.ns_of
@@ -31,7 +32,7 @@ pub(crate) fn retain_all<K: Named, R: SnapshotterRow<K>>(
 }
 
 fn retain_rows<K: Named, R: SnapshotterRow<K>>(
-    groups: &mut IndexMap<ShortName, ArrivedByNamespace<K, R>>,
+    groups: &mut IndexMap<ShortName, ArrivedByNamespace<K, R>, Seed>,
     marks: &[bool],
 )
     requires groups { AreApart (layered_key K.texts_of R.name_of R.group_of R.ns_of) R.ns_of
@@ -51,7 +52,7 @@ fn retain_rows<K: Named, R: SnapshotterRow<K>>(
 
 // The namespaces that have no row go.
 fn close_all<K: Named, R: SnapshotterRow<K>>(
-    groups: &mut IndexMap<ShortName, ArrivedByNamespace<K, R>>,
+    groups: &mut IndexMap<ShortName, ArrivedByNamespace<K, R>, Seed>,
 )
     ensures { groups.new.entries ≡ filter has_rows groups.old.entries }
 {

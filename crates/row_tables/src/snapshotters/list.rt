@@ -19,10 +19,11 @@ use indexmap::IndexMap;
 use meta_types::{Fault, ShortName};
 use std::alloc::Global;
 use std::cmp::Ordering;
+use table_seed::Seed;
 
 /// The rows of a namespace, in the order of their names.
 pub(crate) fn rows_in<'a, K: Named, R: SnapshotterRow<K>>(
-    groups: &'a IndexMap<ShortName, ArrivedByNamespace<K, R>>,
+    groups: &'a IndexMap<ShortName, ArrivedByNamespace<K, R>, Seed>,
     alloc: Global,
     ns: &ShortName,
 ) -> Result<Vec<&'a R>, Fault>
@@ -41,7 +42,7 @@ pub(crate) fn rows_in<'a, K: Named, R: SnapshotterRow<K>>(
 
 /// The rows of a snapshotter in a namespace, in the order of their names.
 pub(crate) fn rows_of<'a, K: Named, R: SnapshotterRow<K>>(
-    groups: &'a IndexMap<ShortName, ArrivedByNamespace<K, R>>,
+    groups: &'a IndexMap<ShortName, ArrivedByNamespace<K, R>, Seed>,
     alloc: Global,
     ns: &ShortName,
     snapshotter: &ShortName,
@@ -119,15 +120,15 @@ pub(crate) fn rows_arrived<'a, K: Named, R: SnapshotterRow<K>>(
 
 /// A copy of the namespaces and of their rows, which shares their texts.
 pub(crate) fn copy_groups<K: Named, R: SnapshotterRow<K>>(
-    groups: &IndexMap<ShortName, ArrivedByNamespace<K, R>>,
+    groups: &IndexMap<ShortName, ArrivedByNamespace<K, R>, Seed>,
     alloc: Global,
-) -> Result<IndexMap<ShortName, ArrivedByNamespace<K, R>>, Fault>
+) -> Result<IndexMap<ShortName, ArrivedByNamespace<K, R>, Seed>, Fault>
     requires { AreApart
         (layered_key K.texts_of R.name_of R.group_of R.ns_of) R.ns_of groups.now.entries }
     ensures fault { Refuses result None }
     ensures ok { IfOk result (λ copies. copies.entries ≡ groups.now.entries) }
 {
-    let mut copies = IndexMap::with_capacity(alloc, groups.len())?;
+    let mut copies = IndexMap::with_capacity_and_hasher(alloc, groups.len(), *groups.hasher())?;
     for at in 0..groups.len() {
         let ns = name_at(groups, at).copy()?;
         let rows = groups[at].copy(alloc)?;

@@ -16,12 +16,13 @@ use indexmap::IndexMap;
 use meta_types::{Fault, ShortName};
 use std::alloc::Global;
 use std::marker::Model;
+use table_seed::Seed;
 
 /// The places of a table's rows, which it borrows. It knows where each namespace, and in it each
 /// snapshotter, begins.
 #[derive(Drop)]
 pub struct PlacesBySnapshotter<'a, K: Named, R: SnapshotterRow<K>> {
-    groups: &'a IndexMap<ShortName, ArrivedByNamespace<K, R>>,
+    groups: &'a IndexMap<ShortName, ArrivedByNamespace<K, R>, Seed>,
     starts: Vec<usize>,
     each: Vec<PlacesByNamespace<'a, K, R>>,
     count: usize,
@@ -46,7 +47,7 @@ impl<'a, K: Named, R: SnapshotterRow<K>> Model for PlacesBySnapshotter<'a, K, R>
 impl<'a, K: Named, R: SnapshotterRow<K>> PlacesBySnapshotter<'a, K, R> {
     /// The places of the rows of all namespaces.
     pub(crate) fn new(
-        groups: &'a IndexMap<ShortName, ArrivedByNamespace<K, R>>,
+        groups: &'a IndexMap<ShortName, ArrivedByNamespace<K, R>, Seed>,
         count: usize,
         alloc: Global,
     ) -> Result<PlacesBySnapshotter<'a, K, R>, Fault>

@@ -5,4 +5,4 @@ use Rattle.row_tables.proofs.arrived_by_snapshotter.ArrivedBySnapshotter.new.Goa
 pub invariant_of-result : goal.invariant_of-result
 invariant_of-result g c =
     nothing_housed own_texts
-    (full_key g.K.Named.texts_of g.R.NamedRow.name_of g.R.GroupedRow.group_of) g.R.SnapshotterRow.ns_of c.new.result.entries c.new.ensures.empty
+    (full_key g.K.Named.texts_of g.R.NamedRow.name_of g.R.GroupedRow.group_of) g.R.SnapshotterRow.ns_of c.with_hasher.result.entries c.with_hasher.ensures.empty
