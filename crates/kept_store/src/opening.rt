@@ -14,10 +14,11 @@ use crate::error::start_error;
 use crate::replaying::replay;
 use crate::store::KeptStore;
 use journal::{Log, Sound, check, recover};
+use scripts::Fresh;
 use std::alloc::Global;
 use std::mem::drop;
 use std::sync::Wait;
-use std::sync::ledger::{Blank, Ledger};
+use std::sync::ledger::Ledger;
 use std::thread::Threads;
 
 /// A store as its journal tells it, how far the journal goes, and how many lines it has.
@@ -56,12 +57,12 @@ fn sound_part<D: Log>(alloc: Global, first: &[u8; 64], log: &mut D) -> Result<us
 fn read_store<L: Ledger, D: Log, T: Threads + Wait + Sync>(
     rt: &T,
     alloc: Global,
-    blank: Blank,
+    fresh: Fresh,
     first: &[u8; 64],
     log: &mut D,
 ) -> Result<Replayed<L>, StartError>
-    requires name { blank.name ≡ L.name }
-    requires parts { (blank.parts ≡ L.parts) × (blank.parts ≡ 65536) }
+    requires name { fresh.blank.name ≡ L.name }
+    requires parts { (fresh.blank.parts ≡ L.parts) × (fresh.blank.parts ≡ 65536) }
     ensures ok { IfOk result (λ replayed. IsTrue (D.is_clean log.new)
         → replayed.store ≡ store_after empty_store
         (lines_of (found first.now (D.text log.old)).groups)) }
@@ -73,7 +74,7 @@ fn read_store<L: Ledger, D: Log, T: Threads + Wait + Sync>(
     ensures crash { (c : List ℕ) → D.may_leave log.new c → D.may_leave log.old c }
 {
     let end = sound_part(alloc, first, log)?;
-    let Ok(mut store) = KeptStore::<L>::empty(alloc, blank) else {
+    let Ok(mut store) = KeptStore::<L>::empty(alloc, fresh) else {
         return Err(StartError::OutOfMemory);
     };
     let lines = match replay(&mut store, rt, alloc, log, end) {
@@ -112,13 +113,13 @@ fn end_of_groups<D: Log>(alloc: Global, first: &[u8; 64], log: &mut D) -> Result
 pub fn open<L: Ledger, D: Log, T: Threads + Wait + Sync>(
     rt: &T,
     alloc: Global,
-    blank: Blank,
+    fresh: Fresh,
     first: &[u8; 64],
     log: &mut D,
     workers: usize,
 ) -> Result<Opened<L>, StartError>
-    requires name { blank.name ≡ L.name }
-    requires parts { (blank.parts ≡ L.parts) × (blank.parts ≡ 65536) }
+    requires name { fresh.blank.name ≡ L.name }
+    requires parts { (fresh.blank.parts ≡ L.parts) × (fresh.blank.parts ≡ 65536) }
     requires workers { is_worker_count workers ≡ true }
 
     // After a restart, what is read is what is on the disk.
@@ -137,7 +138,7 @@ pub fn open<L: Ledger, D: Log, T: Threads + Wait + Sync>(
     ensures crash { IsTrue (D.is_clean log.new) → (c : List ℕ) → D.may_leave log.new c
         → found first.now c ≡ found first.now (D.text log.old) }
 {
-    let replayed = read_store::<L, D, T>(rt, alloc, blank, first, log)?;
+    let replayed = read_store::<L, D, T>(rt, alloc, fresh, first, log)?;
     let sound = match end_of_groups(alloc, first, log) {
         Ok(sound) => sound,
         Err(error) => {

@@ -17,19 +17,21 @@ use kept_run::Service;
 use meta_types::Fault;
 use reply_line::{BLOCK_ROOM, refusal_text};
 use request_core::State;
-use scripts::{LineMemory, Said, answer_line};
+use scripts::{Fresh, LineMemory, Said, answer_line};
 use std::alloc::{AllocError, Global};
 use std::marker::Model;
 use std::sync::Wait;
-use std::sync::ledger::{Blank, Ledger};
+use std::sync::ledger::Ledger;
 use std::thread::Threads;
 use store_front::{Locked, MemLocked, Session, Unkept};
+use table_seed::Seed;
 
 /// The longest line that can be a request, in bytes without its line feed.
 pub(crate) const LINE_LIMIT: usize = 65536;
 
 /// A store in memory with its one session, and how many workers collect. The block has room for the
-/// text of a report while it is written. A run is due by the size of the last checkpoint.
+/// text of a report while it is written. A run is due by the size of the last checkpoint. Its tables
+/// hash by the seed.
 #[derive(Drop)]
 pub struct KeptStore<L: Ledger> {
     alloc: Global,
@@ -39,6 +41,7 @@ pub struct KeptStore<L: Ledger> {
     memory: LineMemory,
     block: Vec<u8>,
     checkpoint: Option<usize>,
+    pub(crate) seed: Seed,
 }
 
 impl<L: Ledger> Model for KeptStore<L> {
@@ -58,15 +61,16 @@ impl<L: Ledger> Model for KeptStore<L> {
 
 impl<L: Ledger> KeptStore<L> {
     /// An empty store, which collects with one worker. The blank has 65,536 parts.
-    pub(crate) fn empty(alloc: Global, blank: Blank) -> Result<KeptStore<L>, Fault>
-        requires name { blank.name ≡ L.name }
-        requires parts { (blank.parts ≡ L.parts) × (blank.parts ≡ 65536) }
+    pub(crate) fn empty(alloc: Global, fresh: Fresh) -> Result<KeptStore<L>, Fault>
+        requires name { fresh.blank.name ≡ L.name }
+        requires parts { (fresh.blank.parts ≡ L.parts) × (fresh.blank.parts ≡ 65536) }
         ensures fault { Refuses result None }
         ensures ok { IfOk result (λ store. store ≡ empty_store) }
     {
         let block = Vec::with_capacity(alloc, BLOCK_ROOM)?;
         let memory = LineMemory::open(alloc)?;
-        let mut locked = Locked::open_unkept(alloc, blank, State::empty(alloc));
+        let Fresh { blank, seed } = fresh;
+        let mut locked = Locked::open_unkept(alloc, blank, State::empty_with(alloc, seed));
         let Ok(session) = locked.session(alloc) else {
             unreachable!()
         };
@@ -78,6 +82,7 @@ impl<L: Ledger> KeptStore<L> {
             memory,
             block,
             checkpoint: None,
+            seed,
         })
     }
 

@@ -12,6 +12,7 @@ use crate::store::KeptStore;
 use crate::{CheckpointError, NotTaken};
 use checkpoint::{is_same, write_checkpoint};
 use journal::{Journal, Log};
+use scripts::Fresh;
 use std::alloc::Global;
 use std::mem::drop;
 use std::sync::Wait;
@@ -82,11 +83,11 @@ fn replay_journal<N: Ledger, E: Log + Drop, T: Threads + Wait + Sync>(
 fn made_again<N: Ledger, E: Log + Drop, T: Threads + Wait + Sync>(
     rt: &T,
     alloc: Global,
-    blank: Blank,
+    fresh: Fresh,
     journal: &mut Journal<E>,
 ) -> Result<KeptStore<N>, CheckpointError>
-    requires name { blank.name ≡ N.name }
-    requires parts { (blank.parts ≡ N.parts) × (blank.parts ≡ 65536) }
+    requires name { fresh.blank.name ≡ N.name }
+    requires parts { (fresh.blank.parts ≡ N.parts) × (fresh.blank.parts ≡ 65536) }
     ensures ok { IfOk result (λ store. IsTrue (E.is_clean journal.new.log) → store
         ≡ store_after empty_store (requests_in (take journal.old.end (E.text journal.old.log)))) }
     ensures clean { IsTrue (E.is_clean journal.new.log) → IsTrue (E.is_clean journal.old.log) }
@@ -95,7 +96,7 @@ fn made_again<N: Ledger, E: Log + Drop, T: Threads + Wait + Sync>(
     ensures same { (journal.new.last ≡ journal.old.last) × (journal.new.end ≡ journal.old.end)
         × (journal.new.pending.items ≡ journal.old.pending.items) }
 {
-    let Ok(mut store) = KeptStore::<N>::empty(alloc, blank) else {
+    let Ok(mut store) = KeptStore::<N>::empty(alloc, fresh) else {
         return Err(CheckpointError::OutOfMemory);
     };
     if let Err(error) = replay_journal(&mut store, rt, alloc, journal) {
@@ -124,7 +125,11 @@ fn compare<L: Ledger, N: Ledger, E: Log + Drop, T: Threads + Wait + Sync>(
     ensures waits { journal.new.pending.items ≡ journal.old.pending.items }
     ensures clean { IsTrue (E.is_clean journal.new.log) → IsTrue (E.is_clean journal.old.log) }
 {
-    let other = made_again::<N, E, T>(rt, alloc, blank, journal)?;
+    let fresh = Fresh {
+        blank,
+        seed: store.seed,
+    };
+    let other = made_again::<N, E, T>(rt, alloc, fresh, journal)?;
     if let Err(error) = are_same(alloc, store, &other) {
         drop(other);
         return Err(error);

@@ -18,4 +18,5 @@ mod writing;
 pub use answering::answer_line;
 pub use line_memory::LineMemory;
 pub use said::Said;
-pub use script::run_script;
+pub use script::{run_script, run_script_with};
+pub use script_store::Fresh;

@@ -16,7 +16,7 @@ use crate::answering::too_long;
 use crate::line_buffer::{LINE_LIMIT, MOST_KEPT, keep};
 use crate::lines::cut_line;
 use crate::said::Said;
-use crate::script_store::ScriptStore;
+use crate::script_store::{Fresh, ScriptStore};
 use crate::writing::flush;
 use meta_types::{Fault, is_worker_count};
 use std::alloc::Global;
@@ -26,6 +26,7 @@ use std::mem::ManuallyDrop;
 use std::sync::Wait;
 use std::sync::ledger::{Blank, Ledger};
 use std::thread::Threads;
+use table_seed::Seed;
 
 /// A run makes fewer reads than this, which no run comes to.
 const READ_LIMIT: u64 = 1 << 62;
@@ -227,13 +228,13 @@ fn leave<L: Ledger>(store: ScriptStore<L>) {
 fn run_named<L: Ledger, T: Threads + Wait + Sync, R: Read, W: Write>(
     rt: &T,
     alloc: Global,
-    blank: Blank,
+    fresh: Fresh,
     reader: &mut R,
     writer: &mut W,
     workers: usize,
 ) -> Result<(), Fault>
-    requires name { blank.name ≡ L.name }
-    requires parts { (blank.parts ≡ L.parts) × (blank.parts ≡ 65536) }
+    requires name { fresh.blank.name ≡ L.name }
+    requires parts { (fresh.blank.parts ≡ L.parts) × (fresh.blank.parts ≡ 65536) }
     requires workers { is_worker_count workers ≡ true }
     ensures end { OnOk result (IsAtEnd (R.remaining reader.new)) }
     ensures ok { OnOk result (Exchanges IsOutput (R.remaining reader.old)
@@ -250,7 +251,7 @@ fn run_named<L: Ledger, T: Threads + Wait + Sync, R: Read, W: Write>(
         block: [0; 65536],
         kept,
     };
-    let mut store = ScriptStore::<L>::open(alloc, blank, workers)?;
+    let mut store = ScriptStore::<L>::open(alloc, fresh, workers)?;
     'reads: for _ in 1..READ_LIMIT {
         match take_block(rt, alloc, &mut store, &mut input, reader, writer) {
             Ok(Run::GoesOn) => {}
@@ -272,6 +273,7 @@ fn run_named<L: Ledger, T: Threads + Wait + Sync, R: Read, W: Write>(
 /// what is written answers what was read, line by line. A collection removes exactly what no path of
 /// references reaches. A line may also be refused with 7, for memory, or a collection with 8, for a
 /// thread; then it changes nothing. The store's memory isn't freed: it goes with the process.
+/// Its tables hash alike in each run, so who picks names can pick some that clash.
 pub fn run_script<T: Threads + Wait + Sync, R: Read, W: Write>(
     rt: &T,
     alloc: Global,
@@ -294,8 +296,39 @@ pub fn run_script<T: Threads + Wait + Sync, R: Read, W: Write>(
         (reader.new ≡ reader.old) × (writer.new ≡ writer.old) }
     ensures faults { IfErr result IsRunFault }
 {
+    run_script_with(rt, alloc, Seed::Fixed, reader, writer, workers)
+}
+
+/// The same, over a store whose tables hash by the seed. No reply rests on it.
+pub fn run_script_with<T: Threads + Wait + Sync, R: Read, W: Write>(
+    rt: &T,
+    alloc: Global,
+    seed: Seed,
+    reader: &mut R,
+    writer: &mut W,
+    workers: usize,
+) -> Result<(), Fault>
+    ensures end { OnOk result (IsAtEnd (R.remaining reader.new)) }
+    ensures ok { OnOk result (Exchanges AnswersScript (R.remaining reader.old)
+        (R.remaining reader.new) (W.contents writer.old) (W.contents writer.new)) }
+
+    // A line that isn't whole when the reader fails isn't answered.
+    ensures read_failed { IsErrOf result Fault.ReadFailed → Exchanges AnswersWholeLines
+        (R.remaining reader.old) (R.remaining reader.new)
+        (W.contents writer.old) (W.contents writer.new) }
+    ensures err { OnErr result (Exchanges BeginsAnswers (R.remaining reader.old)
+        (R.remaining reader.new) (W.contents writer.old) (W.contents writer.new)) }
+    ensures workers { IsErrOf result Fault.InvalidArgument ↔ is_worker_count workers ≡ false }
+    ensures unread { IsErrOf result Fault.InvalidArgument →
+        (reader.new ≡ reader.old) × (writer.new ≡ writer.old) }
+    ensures faults { IfErr result IsRunFault }
+{
     if !is_worker_count(workers) {
         return Err(Fault::InvalidArgument);
     }
-    run_named::<Brand, T, R, W>(rt, alloc, Blank::new(65536), reader, writer, workers)
+    let fresh = Fresh {
+        blank: Blank::new(65536),
+        seed,
+    };
+    run_named::<Brand, T, R, W>(rt, alloc, fresh, reader, writer, workers)
 }

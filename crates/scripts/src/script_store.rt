@@ -24,6 +24,14 @@ use std::sync::Wait;
 use std::sync::ledger::{Blank, Ledger};
 use std::thread::Threads;
 use store_front::{Locked, MemLocked, Session, Unkept};
+use table_seed::Seed;
+
+/// What a new store is made of: the ledger of its sessions, and what its tables hash by.
+#[derive(Drop)]
+pub struct Fresh {
+    pub blank: Blank,
+    pub seed: Seed,
+}
 
 /// The store of a script, in memory, with its one session, and how many workers collect. It keeps
 /// no history, since nobody can ask for one. The block has room for the text of a report while it
@@ -54,16 +62,17 @@ impl<L: Ledger> Model for ScriptStore<L> {
 
 impl<L: Ledger> ScriptStore<L> {
     /// An empty store. The blank has 65,536 parts.
-    pub fn open(alloc: Global, blank: Blank, workers: usize) -> Result<ScriptStore<L>, Fault>
-        requires name { blank.name ≡ L.name }
-        requires parts { (blank.parts ≡ L.parts) × (blank.parts ≡ 65536) }
+    pub fn open(alloc: Global, fresh: Fresh, workers: usize) -> Result<ScriptStore<L>, Fault>
+        requires name { fresh.blank.name ≡ L.name }
+        requires parts { (fresh.blank.parts ≡ L.parts) × (fresh.blank.parts ≡ 65536) }
         requires workers { is_worker_count workers ≡ true }
         ensures fault { Refuses result None }
         ensures ok { IfOk result (λ store. store ≡ empty_store) }
     {
         let block = Vec::with_capacity(alloc, BLOCK_ROOM)?;
         let memory = LineMemory::open(alloc)?;
-        let mut locked = Locked::open_unkept(alloc, blank, State::empty(alloc));
+        let Fresh { blank, seed } = fresh;
+        let mut locked = Locked::open_unkept(alloc, blank, State::empty_with(alloc, seed));
         let Ok(session) = locked.session(alloc) else {
             unreachable!()
         };

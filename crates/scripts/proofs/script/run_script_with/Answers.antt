@@ -3,7 +3,7 @@ use Rattle.std.proofs.lemmas.Result.{on_ok_weaker, on_err_weaker}
 use Rattle.std.specs.Prelude.{IfErr}
 use Rattle.meta_types.specs.declared.fault.Fault.{Fault}
 use Rattle.scripts.proofs.AnsweredRuns.{all_answered, whole_answered, front_answered, nothing_answered}
-use Rattle.scripts.proofs.script.run_script.Goals as goal
+use Rattle.scripts.proofs.script.run_script_with.Goals as goal
 
 -- what holds at a fault, where it is the fault
 at_fault : {T : Type 0} (result : Result T Fault) (fault : Fault) (P : Type 0) → IfErr result (λ other. other ≡ fault → P) → result ≡ Err fault → P

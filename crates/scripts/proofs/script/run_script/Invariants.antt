@@ -1,5 +1,0 @@
-use Rattle.scripts.proofs.script.run_script.Given as goal
-
--- the ledger is named as the blank is
-abbrev pub ghosts-run_named : goal.ghosts-run_named
-ghosts-run_named g a = record { name = a.blank.name; parts = a.blank.parts }
