@@ -21,13 +21,14 @@ mod tests_flush;
 use crate::blocks::Blocks;
 use command_line::{ArgFault, parse_args};
 use meta_types::Fault;
-use scripts::run_script;
+use scripts::run_script_with;
 use std::alloc::Global;
 use std::io::ErrorKind;
 use std::process::ExitCode;
 use std::sync::Wait;
 use std::thread::Threads;
 use std::{env, io};
+use table_seed::Seed;
 
 // Why the program's words can't be had: one of them isn't UTF-8, so they ask for no run, or memory
 // runs out.
@@ -76,6 +77,7 @@ fn flush<W: io::Write + Drop>(writer: &mut Blocks<W>) -> Result<(), Fault>
 fn run<T: Threads + Wait + Sync, R: io::Read + Drop, W: io::Write + Drop>(
     rt: &T,
     alloc: Global,
+    seed: Seed,
     reader: R,
     writer: &mut Blocks<W>,
     workers: usize,
@@ -99,7 +101,7 @@ fn run<T: Threads + Wait + Sync, R: io::Read + Drop, W: io::Write + Drop>(
     let Ok(mut reader) = io::BufReader::new(alloc, reader) else {
         return Err(Fault::OutOfMemory);
     };
-    match run_script(rt, alloc, &mut reader, writer, workers) {
+    match run_script_with(rt, alloc, seed, &mut reader, writer, workers) {
         Err(Fault::WriteFailed) => Err(Fault::WriteFailed),
         ran => {
             flush(writer)?;
@@ -131,7 +133,10 @@ fn main(rt: HostRuntime) -> ExitCode {
     let Ok(mut writer) = Blocks::new(alloc, io::writer(&rt)) else {
         return ended(&rt, Fault::OutOfMemory);
     };
-    match run(&rt, alloc, rt.reader(), &mut writer, workers) {
+    let Ok(seed) = Seed::secret(&rt) else {
+        return ended(&rt, Fault::ReadFailed);
+    };
+    match run(&rt, alloc, seed, rt.reader(), &mut writer, workers) {
         Ok(()) => ExitCode::SUCCESS,
         Err(fault) => ended(&rt, fault),
     }

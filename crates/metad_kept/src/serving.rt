@@ -14,6 +14,7 @@ use journal::{Journal, Log, Sound};
 use kept_run::Input;
 use kept_store::{KeptStore, StartError, open};
 use meta_types::Fault;
+use scripts::Fresh;
 use sqlite_disk::Disk;
 use sqlite_std_file::Start;
 use std::alloc::Global;
@@ -24,6 +25,7 @@ use std::process::ExitCode;
 use std::sync::Wait;
 use std::sync::ledger::{Blank, Ledger};
 use std::thread::Threads;
+use table_seed::Seed;
 use zero_file::{This, ZeroFile};
 
 // What a start takes beside its store. A run keeps it free where it can be had, so that a store which
@@ -58,18 +60,18 @@ struct NotStarted<E: Log + Drop> {
 fn begin<L: Ledger, T: Threads + Wait + Sync, E: Log + Drop>(
     threads: &T,
     alloc: Global,
-    blank: Blank,
+    fresh: Fresh,
     workers: usize,
     log: E,
 ) -> Result<Started<L, E>, NotStarted<E>>
-    requires name { blank.name ≡ L.name }
-    requires parts { (blank.parts ≡ L.parts) × (blank.parts ≡ 65536) }
+    requires name { fresh.blank.name ≡ L.name }
+    requires parts { (fresh.blank.parts ≡ L.parts) × (fresh.blank.parts ≡ 65536) }
     requires workers { is_worker_count workers ≡ true }
     requires rests { E.rests log }
     ensures { IfOk result (λ started. started.journal.pending.items ≡ []) }
 {
     let mut log = log;
-    let opened = match open::<L, E, T>(threads, alloc, blank, &FIRST, &mut log, workers) {
+    let opened = match open::<L, E, T>(threads, alloc, fresh, &FIRST, &mut log, workers) {
         Ok(opened) => opened,
         Err(error) => return Err(NotStarted { error, log }),
     };
@@ -132,13 +134,13 @@ fn serve_named<
     N: Teller + Drop,
 >(
     threads: &T,
-    blank: Blank,
+    fresh: Fresh,
     serving: Serving,
     disks: Disks<'a, D>,
     streams: &mut Streams<R, W, N>,
 ) -> Result<(), Failure<'a, D>>
-    requires name { blank.name ≡ L.name }
-    requires parts { (blank.parts ≡ L.parts) × (blank.parts ≡ 65536) }
+    requires name { fresh.blank.name ≡ L.name }
+    requires parts { (fresh.blank.parts ≡ L.parts) × (fresh.blank.parts ≡ 65536) }
 {
     let Disks {
         rt,
@@ -154,7 +156,7 @@ fn serve_named<
     }
     let file = telling(rt, path, log);
     let workers = serving.workers.count;
-    let started = match begin::<L, T, _>(threads, rt.alloc(), blank, workers, file) {
+    let started = match begin::<L, T, _>(threads, rt.alloc(), fresh, workers, file) {
         Ok(started) => started,
         Err(not) => return Err(Failure::Start(not.error, not.log)),
     };
@@ -189,12 +191,16 @@ fn serve_disks<
     N: Teller + Drop,
 >(
     threads: &T,
+    seed: Seed,
     serving: Serving,
     disks: Disks<'a, D>,
     streams: &mut Streams<R, W, N>,
 ) -> Result<(), Failure<'a, D>> {
-    let blank = Blank::new(65536);
-    serve_named::<Brand, T, D, R, W, N>(threads, blank, serving, disks, streams)
+    let fresh = Fresh {
+        blank: Blank::new(65536),
+        seed,
+    };
+    serve_named::<Brand, T, D, R, W, N>(threads, fresh, serving, disks, streams)
 }
 
 // Serves the store of the file that counts over the standard streams.
@@ -207,12 +213,15 @@ fn serve_streams<'a, T: Threads + Wait + Sync, D: Disk + Drop>(
     let Ok(input) = Input::new(rt.alloc(), rt.reader()) else {
         return tell(rt, Fault::OutOfMemory);
     };
+    let Ok(seed) = Seed::secret(rt) else {
+        return tell(rt, Fault::ReadFailed);
+    };
     let mut streams = Streams {
         input,
         writer: io::writer(rt),
         teller: Errors { rt },
     };
-    match serve_disks(threads, serving, disks, &mut streams) {
+    match serve_disks(threads, seed, serving, disks, &mut streams) {
         Ok(()) => ExitCode::SUCCESS,
         Err(Failure::Head(path, error)) => not_read(rt, path, error),
         Err(Failure::Empty(path)) => tell_missing(rt, path),

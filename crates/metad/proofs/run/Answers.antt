@@ -20,14 +20,14 @@ returns-in-Err-WriteFailed-clause-err g c =
     (_, of_reader BeginsAnswers _ _ _ _ _ same c.in-Err-WriteFailed.ensures.err)
 
 -- the flush at the end failed
-pub returns-in_err-flush-in_default-run_script-clause-err : goal.returns-in_err-flush-in_default-run_script-clause-err
-returns-in_err-flush-in_default-run_script-clause-err g c =
+pub returns-in_err-flush-in_default-run_script_with-clause-err : goal.returns-in_err-flush-in_default-run_script_with-clause-err
+returns-in_err-flush-in_default-run_script_with-clause-err g c =
     let same =
     new_buffer g.R.Read.remaining c.in-Ok.reader c.args.reader c.in-Ok.ensures.inner
     c.in-Ok.ensures.empty c.in-Ok.ensures.capacity in
     some_left _ BeginsAnswers _ _ _ _
     (then_flushed BeginsAnswers _ _ _ _ _ _ same
-    (begins_anyway _ _ _ _ _ c.run_script.ensures.ok c.run_script.ensures.err)
+    (begins_anyway _ _ _ _ _ c.run_script_with.ensures.ok c.run_script_with.ensures.err)
     c.flush.ensures.kept)
 
 -- the run ended, and all was flushed
@@ -36,20 +36,20 @@ returns-clause-ok g c =
     let same =
     new_buffer g.R.Read.remaining c.in-Ok.reader c.args.reader c.in-Ok.ensures.inner
     c.in-Ok.ensures.empty c.in-Ok.ensures.capacity in
-    let is : c.run_script.result ≡ c.in_default-run_script-1.ran = search rules in
+    let is : c.run_script_with.result ≡ c.in_default-run_script_with-1.ran = search rules in
     ran_ok _ _ is _
-    (ended_ok AnswersScript _ _ _ _ _ _ _ same c.run_script.ensures.end
-    c.run_script.ensures.ok c.flush.ensures.kept)
+    (ended_ok AnswersScript _ _ _ _ _ _ _ same c.run_script_with.ensures.end
+    c.run_script_with.ensures.ok c.flush.ensures.kept)
 
 pub returns-clause-read_failed : goal.returns-clause-read_failed
 returns-clause-read_failed g c = λ read.
     let same =
     new_buffer g.R.Read.remaining c.in-Ok.reader c.args.reader c.in-Ok.ensures.inner
     c.in-Ok.ensures.empty c.in-Ok.ensures.capacity in
-    let is : c.run_script.result ≡ c.in_default-run_script-1.ran = search rules in (
+    let is : c.run_script_with.result ≡ c.in_default-run_script_with-1.ran = search rules in (
       _,
       then_flushed AnswersWholeLines _ _ _ _ _ _ same
-          (c.run_script.ensures.read_failed (ran_of _ _ is _ read)) c.flush.ensures.kept,
+          (c.run_script_with.ensures.read_failed (ran_of _ _ is _ read)) c.flush.ensures.kept,
     )
 
 pub returns-clause-err : goal.returns-clause-err
@@ -57,6 +57,6 @@ returns-clause-err g c =
     let same =
     new_buffer g.R.Read.remaining c.in-Ok.reader c.args.reader c.in-Ok.ensures.inner
     c.in-Ok.ensures.empty c.in-Ok.ensures.capacity in
-    let is : c.run_script.result ≡ c.in_default-run_script-1.ran = search rules in
+    let is : c.run_script_with.result ≡ c.in_default-run_script_with-1.ran = search rules in
     ran_err _ _ is _
-    (ended_err BeginsAnswers _ _ _ _ _ _ _ same c.run_script.ensures.err c.flush.ensures.kept)
+    (ended_err BeginsAnswers _ _ _ _ _ _ _ same c.run_script_with.ensures.err c.flush.ensures.kept)
