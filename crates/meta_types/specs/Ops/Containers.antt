@@ -6,12 +6,11 @@ use Rattle.meta_types.specs.Keys.{row_at, has_row, add_row, remove_row, change_r
 use Rattle.meta_types.specs.Labels.{labels_of, are_labels, put_label}
 use Rattle.meta_types.specs.Rows.{State, container_key}
 use Rattle.meta_types.specs.Changes.{with_containers, is_allowed_if, all_of}
-use Rattle.meta_types.specs.Ops.{Outcome, done, labelled, row_reply, names_in, lacks}
+use Rattle.meta_types.specs.Ops.{Outcome, done, labelled, row_reply, lacks, is_allowed_name, name_key, lists_names}
 use Rattle.meta_types.specs.declared.raw.RawLabel.{RawLabel}
 use Rattle.meta_types.specs.declared.request.RawName.{RawName}
 use Rattle.meta_types.specs.declared.request.ContainerAdd.{ContainerAdd}
 use Rattle.meta_types.specs.declared.reply.ReplyRow.TheVariants as W
-use Rattle.meta_types.specs.declared.reply.Reply.TheVariants as R
 
 -- adds a container; snapshotter and key stand together or not at all, and the
 -- snapshot needn't be stored (Create)
@@ -22,7 +21,7 @@ adds_container state asked =
     record (done state) {
       invalid = not (all_of (is_short_name asked.container.ns ∷ is_name asked.container.name ∷ is_allowed_if is_short_name asked.snapshotter ∷ is_allowed_if is_name asked.key ∷ (if is_some asked.key then is_some asked.snapshotter else is_none asked.snapshotter) ∷ are_labels asked.labels ∷ []));
       missing = lacks state asked.container.ns None;
-      there = has_row container_key (asked.container.ns ∷ asked.container.name ∷ []) rows;
+      there = has_row container_key (name_key asked.container) rows;
       after = with_containers state (add_row container_key (record { ns = asked.container.ns; name = asked.container.name; snapshot = snapshot; labels = labels_of asked.labels }) rows);
     }
 
@@ -31,19 +30,19 @@ abbrev pub removes_container : State → RawName → Outcome
 removes_container state container =
     let rows = state.records.tables.containers in
     record (done state) {
-      invalid = not (all_of (is_short_name container.ns ∷ is_name container.name ∷ []));
-      missing = not (has_row container_key (container.ns ∷ container.name ∷ []) rows);
+      invalid = not (is_allowed_name container);
+      missing = not (has_row container_key (name_key container) rows);
       after = with_containers state
-          (remove_row container_key (container.ns ∷ container.name ∷ []) rows);
+          (remove_row container_key (name_key container) rows);
     }
 
 -- shows a container (Get)
 abbrev pub gets_container : State → RawName → Outcome
 gets_container state container =
     let found =
-    row_at container_key (container.ns ∷ container.name ∷ []) state.records.tables.containers in
+    row_at container_key (name_key container) state.records.tables.containers in
     record (done state) {
-      invalid = not (all_of (is_short_name container.ns ∷ is_name container.name ∷ []));
+      invalid = not (is_allowed_name container);
       missing = is_none found;
       reply = row_reply W.Container found;
     }
@@ -51,19 +50,15 @@ gets_container state container =
 -- the names of a namespace's containers (List)
 abbrev pub lists_containers : State → Text → Outcome
 lists_containers state ns =
-    record (done state) {
-      invalid = not (all_of (is_short_name ns ∷ []));
-      missing = lacks state ns None;
-      reply = R.Names (names_in (λ row. row.ns) (λ row. row.name) ns state.records.tables.containers);
-    }
+    lists_names (λ row. row.ns) (λ row. row.name) state ns state.records.tables.containers
 
 -- puts one label on a container (Update)
 abbrev pub labels_container : State → RawName → RawLabel → Outcome
 labels_container state container label =
     let rows = state.records.tables.containers in
-    let found = row_at container_key (container.ns ∷ container.name ∷ []) rows in
+    let found = row_at container_key (name_key container) rows in
     record (done state) {
-      invalid = not (all_of (is_short_name container.ns ∷ is_name container.name ∷ [])) || not (all_of (labelled (λ row. row.labels) label.key label.value found));
+      invalid = not (is_allowed_name container) || not (all_of (labelled (λ row. row.labels) label.key label.value found));
       missing = is_none found;
-      after = with_containers state (change_row container_key (container.ns ∷ container.name ∷ []) (λ row. record row { labels = put_label label.key label.value row.labels }) rows);
+      after = with_containers state (change_row container_key (name_key container) (λ row. record row { labels = put_label label.key label.value row.labels }) rows);
     }

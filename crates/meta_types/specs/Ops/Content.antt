@@ -1,18 +1,17 @@
 -- What requests on content do. A call in brackets is of containerd's content store. Ours, unless a
 -- source stands beside.
-use Rattle.std.specs.Prelude.{not, ◌||◌, [], ◌∷◌, None, is_none}
+use Rattle.std.specs.Prelude.{not, ◌||◌, [], ◌∷◌, is_none}
 use Rattle.meta_types.specs.Text.{Text, is_short_name, is_name, is_digest}
 use Rattle.meta_types.specs.Keys.{row_at, has_row, add_row, remove_row, change_row}
 use Rattle.meta_types.specs.Labels.{labels_of, are_labels, put_label}
 use Rattle.meta_types.specs.Rows.{State, content_key}
 use Rattle.meta_types.specs.Changes.{with_content, with_blob, holding, is_allowed_if, all_of}
-use Rattle.meta_types.specs.Ops.{Outcome, done, labelled, row_reply, names_in, lacks}
+use Rattle.meta_types.specs.Ops.{Outcome, done, labelled, row_reply, lacks, digest_key, lists_names}
 use Rattle.meta_types.specs.declared.resource.Resource.TheVariants.{Content}
 use Rattle.meta_types.specs.declared.raw.RawLabel.{RawLabel}
 use Rattle.meta_types.specs.declared.request.RawContent.{RawContent}
 use Rattle.meta_types.specs.declared.request.ContentAdd.{ContentAdd}
 use Rattle.meta_types.specs.declared.reply.ReplyRow.TheVariants as W
-use Rattle.meta_types.specs.declared.reply.Reply.TheVariants as R
 
 -- adds content to a namespace, makes its blob where the backend doesn't hold it, and gives it to
 -- the lease (containerd content-flow.md)
@@ -22,7 +21,7 @@ adds_content state asked =
     record (done state) {
       invalid = not (all_of (is_short_name asked.content.ns ∷ is_digest asked.content.digest ∷ are_labels asked.labels ∷ is_allowed_if is_name asked.lease ∷ []));
       missing = lacks state asked.content.ns asked.lease;
-      there = has_row content_key (asked.content.ns ∷ asked.content.digest ∷ []) rows;
+      there = has_row content_key (digest_key asked.content) rows;
       after = holding asked.content.ns asked.lease (Content asked.content.digest) (with_blob asked.content.digest (with_content state (add_row content_key (record { ns = asked.content.ns; digest = asked.content.digest; labels = labels_of asked.labels }) rows)));
     }
 
@@ -32,16 +31,16 @@ removes_content state content =
     let rows = state.records.tables.content in
     record (done state) {
       invalid = not (all_of (is_short_name content.ns ∷ is_digest content.digest ∷ []));
-      missing = not (has_row content_key (content.ns ∷ content.digest ∷ []) rows);
+      missing = not (has_row content_key (digest_key content) rows);
       after = with_content state
-          (remove_row content_key (content.ns ∷ content.digest ∷ []) rows);
+          (remove_row content_key (digest_key content) rows);
     }
 
 -- shows content (Info)
 abbrev pub gets_content : State → RawContent → Outcome
 gets_content state content =
     let found =
-    row_at content_key (content.ns ∷ content.digest ∷ []) state.records.tables.content in
+    row_at content_key (digest_key content) state.records.tables.content in
     record (done state) {
       invalid = not (all_of (is_short_name content.ns ∷ is_digest content.digest ∷ []));
       missing = is_none found;
@@ -52,18 +51,14 @@ gets_content state content =
 abbrev pub labels_content : State → RawContent → RawLabel → Outcome
 labels_content state content label =
     let rows = state.records.tables.content in
-    let found = row_at content_key (content.ns ∷ content.digest ∷ []) rows in
+    let found = row_at content_key (digest_key content) rows in
     record (done state) {
       invalid = not (all_of (is_short_name content.ns ∷ is_digest content.digest ∷ [])) || not (all_of (labelled (λ row. row.labels) label.key label.value found));
       missing = is_none found;
-      after = with_content state (change_row content_key (content.ns ∷ content.digest ∷ []) (λ row. record row { labels = put_label label.key label.value row.labels }) rows);
+      after = with_content state (change_row content_key (digest_key content) (λ row. record row { labels = put_label label.key label.value row.labels }) rows);
     }
 
 -- the digests of a namespace's content (Walk)
 abbrev pub lists_content : State → Text → Outcome
 lists_content state ns =
-    record (done state) {
-      invalid = not (all_of (is_short_name ns ∷ []));
-      missing = lacks state ns None;
-      reply = R.Names (names_in (λ row. row.ns) (λ row. row.digest) ns state.records.tables.content);
-    }
+    lists_names (λ row. row.ns) (λ row. row.digest) state ns state.records.tables.content

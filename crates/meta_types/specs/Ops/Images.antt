@@ -6,13 +6,12 @@ use Rattle.meta_types.specs.Keys.{row_at, has_row, add_row, remove_row, change_r
 use Rattle.meta_types.specs.Labels.{labels_of, are_labels, put_label}
 use Rattle.meta_types.specs.Rows.{State, image_key}
 use Rattle.meta_types.specs.Changes.{with_images, all_of}
-use Rattle.meta_types.specs.Ops.{Outcome, done, labelled, row_reply, names_in, lacks}
+use Rattle.meta_types.specs.Ops.{Outcome, done, labelled, row_reply, lacks, is_allowed_name, name_key, lists_names}
 use Rattle.meta_types.specs.declared.raw.RawLabel.{RawLabel}
 use Rattle.meta_types.specs.declared.request.RawName.{RawName}
 use Rattle.meta_types.specs.declared.request.ImageAdd.{ImageAdd}
 use Rattle.meta_types.specs.declared.request.ImageTarget.{ImageTarget}
 use Rattle.meta_types.specs.declared.reply.ReplyRow.TheVariants as W
-use Rattle.meta_types.specs.declared.reply.Reply.TheVariants as R
 
 -- adds an image; its target needn't be stored (Create)
 abbrev pub adds_image : State → ImageAdd → Outcome
@@ -21,7 +20,7 @@ adds_image state asked =
     record (done state) {
       invalid = not (all_of (is_short_name asked.image.ns ∷ is_name asked.image.name ∷ is_digest asked.target ∷ are_labels asked.labels ∷ []));
       missing = lacks state asked.image.ns None;
-      there = has_row image_key (asked.image.ns ∷ asked.image.name ∷ []) rows;
+      there = has_row image_key (name_key asked.image) rows;
       after = with_images state (add_row image_key (record { ns = asked.image.ns; name = asked.image.name; target = asked.target; labels = labels_of asked.labels }) rows);
     }
 
@@ -31,8 +30,8 @@ targets_image state asked =
     let rows = state.records.tables.images in
     record (done state) {
       invalid = not (all_of (is_short_name asked.image.ns ∷ is_name asked.image.name ∷ is_digest asked.target ∷ []));
-      missing = not (has_row image_key (asked.image.ns ∷ asked.image.name ∷ []) rows);
-      after = with_images state (change_row image_key (asked.image.ns ∷ asked.image.name ∷ []) (λ row. record row { target = asked.target }) rows);
+      missing = not (has_row image_key (name_key asked.image) rows);
+      after = with_images state (change_row image_key (name_key asked.image) (λ row. record row { target = asked.target }) rows);
     }
 
 -- removes an image's row (Delete)
@@ -40,17 +39,17 @@ abbrev pub removes_image : State → RawName → Outcome
 removes_image state image =
     let rows = state.records.tables.images in
     record (done state) {
-      invalid = not (all_of (is_short_name image.ns ∷ is_name image.name ∷ []));
-      missing = not (has_row image_key (image.ns ∷ image.name ∷ []) rows);
-      after = with_images state (remove_row image_key (image.ns ∷ image.name ∷ []) rows);
+      invalid = not (is_allowed_name image);
+      missing = not (has_row image_key (name_key image) rows);
+      after = with_images state (remove_row image_key (name_key image) rows);
     }
 
 -- shows an image (Get)
 abbrev pub gets_image : State → RawName → Outcome
 gets_image state image =
-    let found = row_at image_key (image.ns ∷ image.name ∷ []) state.records.tables.images in
+    let found = row_at image_key (name_key image) state.records.tables.images in
     record (done state) {
-      invalid = not (all_of (is_short_name image.ns ∷ is_name image.name ∷ []));
+      invalid = not (is_allowed_name image);
       missing = is_none found;
       reply = row_reply W.Image found;
     }
@@ -58,19 +57,15 @@ gets_image state image =
 -- the names of a namespace's images (List)
 abbrev pub lists_images : State → Text → Outcome
 lists_images state ns =
-    record (done state) {
-      invalid = not (all_of (is_short_name ns ∷ []));
-      missing = lacks state ns None;
-      reply = R.Names (names_in (λ row. row.ns) (λ row. row.name) ns state.records.tables.images);
-    }
+    lists_names (λ row. row.ns) (λ row. row.name) state ns state.records.tables.images
 
 -- puts one label on an image (Update)
 abbrev pub labels_image : State → RawName → RawLabel → Outcome
 labels_image state image label =
     let rows = state.records.tables.images in
-    let found = row_at image_key (image.ns ∷ image.name ∷ []) rows in
+    let found = row_at image_key (name_key image) rows in
     record (done state) {
-      invalid = not (all_of (is_short_name image.ns ∷ is_name image.name ∷ [])) || not (all_of (labelled (λ row. row.labels) label.key label.value found));
+      invalid = not (is_allowed_name image) || not (all_of (labelled (λ row. row.labels) label.key label.value found));
       missing = is_none found;
-      after = with_images state (change_row image_key (image.ns ∷ image.name ∷ []) (λ row. record row { labels = put_label label.key label.value row.labels }) rows);
+      after = with_images state (change_row image_key (name_key image) (λ row. record row { labels = put_label label.key label.value row.labels }) rows);
     }

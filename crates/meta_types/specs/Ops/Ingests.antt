@@ -8,14 +8,13 @@ use Rattle.meta_types.specs.Labels.{labels_of, are_labels}
 use Rattle.meta_types.specs.Rows.{State, content_key, ingest_key}
 use Rattle.meta_types.specs.Limits.{is_out_of_numbers}
 use Rattle.meta_types.specs.Changes.{with_content, with_ingests, with_blob, with_ingest_object, holding, is_allowed_if, all_of}
-use Rattle.meta_types.specs.Ops.{Outcome, Findings, in_store, done, row_reply, names_in, lacks}
+use Rattle.meta_types.specs.Ops.{Outcome, Findings, in_store, done, row_reply, lacks, is_allowed_name, name_key, lists_names}
 use Rattle.meta_types.specs.declared.instant.Instant.{Instant}
 use Rattle.meta_types.specs.declared.resource.Resource.TheVariants.{Content, Ingest}
 use Rattle.meta_types.specs.declared.request.RawName.{RawName}
 use Rattle.meta_types.specs.declared.request.IngestBegin.{IngestBegin}
 use Rattle.meta_types.specs.declared.request.IngestCommit.{IngestCommit}
 use Rattle.meta_types.specs.declared.reply.ReplyRow.TheVariants as W
-use Rattle.meta_types.specs.declared.reply.Reply.TheVariants as R
 
 -- an ingest that was begun at this time ends 24 hours later (containerd content-flow.md: ingests
 -- are cleaned up after a day)
@@ -33,7 +32,7 @@ begins_ingest state asked =
     record (done state) {
       invalid = not (all_of (is_short_name asked.ingest.ns ∷ is_name asked.ingest.name ∷ is_some (instant_of asked.at) ∷ is_allowed_if is_digest asked.expected ∷ is_allowed_if is_name asked.lease ∷ []));
       missing = lacks state asked.ingest.ns asked.lease;
-      there = has_row ingest_key (asked.ingest.ns ∷ asked.ingest.name ∷ []) rows;
+      there = has_row ingest_key (name_key asked.ingest) rows;
       forbidden = is_out_of_numbers state;
       after = holding asked.ingest.ns asked.lease (Ingest asked.ingest.name) (with_ingest_object (with_ingests state (add_row ingest_key (record { ns = asked.ingest.ns; name = asked.ingest.name; expected = asked.expected; expires = own_end asked.lease asked.at; number = state.records.next }) rows)));
     }
@@ -61,7 +60,7 @@ commits_ingest state asked =
       missing = found.missing;
       there = found.there;
       forbidden = found.forbidden;
-      after = holding asked.ingest.ns asked.lease (Content asked.digest) (with_blob asked.digest (with_content (with_ingests state (remove_row ingest_key (asked.ingest.ns ∷ asked.ingest.name ∷ []) rows)) (add_row content_key (record { ns = asked.ingest.ns; digest = asked.digest; labels = labels_of asked.labels }) content)));
+      after = holding asked.ingest.ns asked.lease (Content asked.digest) (with_blob asked.digest (with_content (with_ingests state (remove_row ingest_key (name_key asked.ingest) rows)) (add_row content_key (record { ns = asked.ingest.ns; digest = asked.digest; labels = labels_of asked.labels }) content)));
     }
 
 -- aborts an ingest; its backend object goes at a later collection (containerd content-flow.md)
@@ -69,17 +68,17 @@ abbrev pub aborts_ingest : State → RawName → Outcome
 aborts_ingest state ingest =
     let rows = state.records.tables.ingests in
     record (done state) {
-      invalid = not (all_of (is_short_name ingest.ns ∷ is_name ingest.name ∷ []));
-      missing = not (has_row ingest_key (ingest.ns ∷ ingest.name ∷ []) rows);
-      after = with_ingests state (remove_row ingest_key (ingest.ns ∷ ingest.name ∷ []) rows);
+      invalid = not (is_allowed_name ingest);
+      missing = not (has_row ingest_key (name_key ingest) rows);
+      after = with_ingests state (remove_row ingest_key (name_key ingest) rows);
     }
 
 -- shows an ingest (containerd content store, Status)
 abbrev pub gets_ingest : State → RawName → Outcome
 gets_ingest state ingest =
-    let found = row_at ingest_key (ingest.ns ∷ ingest.name ∷ []) state.records.tables.ingests in
+    let found = row_at ingest_key (name_key ingest) state.records.tables.ingests in
     record (done state) {
-      invalid = not (all_of (is_short_name ingest.ns ∷ is_name ingest.name ∷ []));
+      invalid = not (is_allowed_name ingest);
       missing = is_none found;
       reply = row_reply W.Ingest found;
     }
@@ -87,8 +86,4 @@ gets_ingest state ingest =
 -- the names of a namespace's ingests (containerd content store, ListStatuses)
 abbrev pub lists_ingests : State → Text → Outcome
 lists_ingests state ns =
-    record (done state) {
-      invalid = not (all_of (is_short_name ns ∷ []));
-      missing = lacks state ns None;
-      reply = R.Names (names_in (λ row. row.ns) (λ row. row.name) ns state.records.tables.ingests);
-    }
+    lists_names (λ row. row.ns) (λ row. row.name) state ns state.records.tables.ingests

@@ -8,7 +8,7 @@ use Rattle.meta_types.specs.Labels.{labels_of, are_labels, put_label}
 use Rattle.meta_types.specs.Resources.{resource_of}
 use Rattle.meta_types.specs.Rows.{State, lease_key}
 use Rattle.meta_types.specs.Changes.{with_leases, lease_holds, hold_in_lease, release_in_lease, all_of}
-use Rattle.meta_types.specs.Ops.{Outcome, done, labelled, row_reply, names_in, lacks}
+use Rattle.meta_types.specs.Ops.{Outcome, done, labelled, row_reply, lacks, is_allowed_name, name_key, lists_names}
 use Rattle.meta_types.specs.declared.raw.RawLabel.{RawLabel}
 use Rattle.meta_types.specs.declared.request.RawName.{RawName}
 use Rattle.meta_types.specs.declared.request.LeaseAdd.{LeaseAdd}
@@ -23,7 +23,7 @@ adds_lease state asked =
     record (done state) {
       invalid = not (all_of (is_short_name asked.lease.ns ∷ is_name asked.lease.name ∷ are_labels asked.labels ∷ []));
       missing = lacks state asked.lease.ns None;
-      there = has_row lease_key (asked.lease.ns ∷ asked.lease.name ∷ []) rows;
+      there = has_row lease_key (name_key asked.lease) rows;
       after = with_leases state (add_row lease_key (record { ns = asked.lease.ns; id = asked.lease.name; labels = labels_of asked.labels; resources = [] }) rows);
     }
 
@@ -32,17 +32,17 @@ abbrev pub removes_lease : State → RawName → Outcome
 removes_lease state lease =
     let rows = state.records.leases in
     record (done state) {
-      invalid = not (all_of (is_short_name lease.ns ∷ is_name lease.name ∷ []));
-      missing = not (has_row lease_key (lease.ns ∷ lease.name ∷ []) rows);
-      after = with_leases state (remove_row lease_key (lease.ns ∷ lease.name ∷ []) rows);
+      invalid = not (is_allowed_name lease);
+      missing = not (has_row lease_key (name_key lease) rows);
+      after = with_leases state (remove_row lease_key (name_key lease) rows);
     }
 
 -- shows a lease (containerd leases service), expired or not
 abbrev pub gets_lease : State → RawName → Outcome
 gets_lease state lease =
-    let found = row_at lease_key (lease.ns ∷ lease.name ∷ []) state.records.leases in
+    let found = row_at lease_key (name_key lease) state.records.leases in
     record (done state) {
-      invalid = not (all_of (is_short_name lease.ns ∷ is_name lease.name ∷ []));
+      invalid = not (is_allowed_name lease);
       missing = is_none found;
       reply = row_reply (λ row. W.Lease row.id row.labels) found;
     }
@@ -51,21 +51,17 @@ gets_lease state lease =
 abbrev pub labels_lease : State → RawName → RawLabel → Outcome
 labels_lease state lease label =
     let rows = state.records.leases in
-    let found = row_at lease_key (lease.ns ∷ lease.name ∷ []) rows in
+    let found = row_at lease_key (name_key lease) rows in
     record (done state) {
-      invalid = not (all_of (is_short_name lease.ns ∷ is_name lease.name ∷ [])) || not (all_of (labelled (λ row. row.labels) label.key label.value found));
+      invalid = not (is_allowed_name lease) || not (all_of (labelled (λ row. row.labels) label.key label.value found));
       missing = is_none found;
-      after = with_leases state (change_row lease_key (lease.ns ∷ lease.name ∷ []) (λ row. record row { labels = put_label label.key label.value row.labels }) rows);
+      after = with_leases state (change_row lease_key (name_key lease) (λ row. record row { labels = put_label label.key label.value row.labels }) rows);
     }
 
 -- the ids of a namespace's leases (List)
 abbrev pub lists_leases : State → Text → Outcome
 lists_leases state ns =
-    record (done state) {
-      invalid = not (all_of (is_short_name ns ∷ []));
-      missing = lacks state ns None;
-      reply = R.Names (names_in (λ row. row.ns) (λ row. row.id) ns state.records.leases);
-    }
+    lists_names (λ row. row.ns) (λ row. row.id) state ns state.records.leases
 
 -- gives a lease a resource, which needn't be there; held already, nothing changes (AddResource)
 abbrev pub holds_resource : State → LeaseResource → Outcome
@@ -73,8 +69,8 @@ holds_resource state asked =
     let rows = state.records.leases in
     record (done state) {
       invalid = not (all_of (is_short_name asked.lease.ns ∷ is_name asked.lease.name ∷ is_some (resource_of asked.kind asked.resource) ∷ []));
-      missing = not (has_row lease_key (asked.lease.ns ∷ asked.lease.name ∷ []) rows);
-      after = with_leases state (option_map_or (λ resource. hold_in_lease (asked.lease.ns ∷ asked.lease.name ∷ []) resource rows) (resource_of asked.kind asked.resource) rows);
+      missing = not (has_row lease_key (name_key asked.lease) rows);
+      after = with_leases state (option_map_or (λ resource. hold_in_lease (name_key asked.lease) resource rows) (resource_of asked.kind asked.resource) rows);
     }
 
 -- takes a resource from a lease that holds it (DeleteResource)
@@ -83,16 +79,16 @@ releases_resource state asked =
     let rows = state.records.leases in
     record (done state) {
       invalid = not (all_of (is_short_name asked.lease.ns ∷ is_name asked.lease.name ∷ is_some (resource_of asked.kind asked.resource) ∷ []));
-      missing = not (option_map_or (λ resource. lease_holds (asked.lease.ns ∷ asked.lease.name ∷ []) resource rows) (resource_of asked.kind asked.resource) false);
-      after = with_leases state (option_map_or (λ resource. release_in_lease (asked.lease.ns ∷ asked.lease.name ∷ []) resource rows) (resource_of asked.kind asked.resource) rows);
+      missing = not (option_map_or (λ resource. lease_holds (name_key asked.lease) resource rows) (resource_of asked.kind asked.resource) false);
+      after = with_leases state (option_map_or (λ resource. release_in_lease (name_key asked.lease) resource rows) (resource_of asked.kind asked.resource) rows);
     }
 
 -- what a lease holds, by types and ids (ListResources)
 abbrev pub lists_resources : State → RawName → Outcome
 lists_resources state lease =
-    let found = row_at lease_key (lease.ns ∷ lease.name ∷ []) state.records.leases in
+    let found = row_at lease_key (name_key lease) state.records.leases in
     record (done state) {
-      invalid = not (all_of (is_short_name lease.ns ∷ is_name lease.name ∷ []));
+      invalid = not (is_allowed_name lease);
       missing = is_none found;
       reply = option_map_or (λ row. R.Resources row.resources) found R.Done;
     }

@@ -9,7 +9,7 @@ use Rattle.meta_types.specs.Labels.{LabelList, labels_of, are_labels, put_label}
 use Rattle.meta_types.specs.Rows.{State, snap_key}
 use Rattle.meta_types.specs.Limits.{is_out_of_numbers}
 use Rattle.meta_types.specs.Changes.{with_snapshots, with_snapshot_object, holding, is_allowed_if, all_of}
-use Rattle.meta_types.specs.Ops.{Outcome, Findings, in_store, done, labelled, row_reply, lacks}
+use Rattle.meta_types.specs.Ops.{Outcome, Findings, in_store, done, labelled, row_reply, lacks, is_allowed_snapshot, snapshot_key}
 use Rattle.meta_types.specs.declared.rows.SnapRow.{SnapRow}
 use Rattle.meta_types.specs.declared.rows.SnapKind.{SnapKind}
 use Rattle.meta_types.specs.declared.rows.SnapKind.TheVariants.{Active, View, Committed}
@@ -111,20 +111,20 @@ abbrev pub removes_snapshot : State → RawSnapshot → Outcome
 removes_snapshot state snapshot =
     let rows = state.records.tables.snapshots in
     record (done state) {
-      invalid = not (all_of (is_short_name snapshot.ns ∷ is_short_name snapshot.snapshotter ∷ is_name snapshot.name ∷ []));
-      missing = not (has_row snap_key (snapshot.ns ∷ snapshot.snapshotter ∷ snapshot.name ∷ []) rows);
+      invalid = not (is_allowed_snapshot snapshot);
+      missing = not (has_row snap_key (snapshot_key snapshot) rows);
       forbidden = list_any (is_child_of snapshot.ns snapshot.snapshotter snapshot.name) rows;
       after = with_snapshots state
-          (remove_row snap_key (snapshot.ns ∷ snapshot.snapshotter ∷ snapshot.name ∷ []) rows);
+          (remove_row snap_key (snapshot_key snapshot) rows);
     }
 
 -- shows a snapshot (Stat)
 abbrev pub gets_snapshot : State → RawSnapshot → Outcome
 gets_snapshot state snapshot =
     let found =
-    row_at snap_key (snapshot.ns ∷ snapshot.snapshotter ∷ snapshot.name ∷ []) state.records.tables.snapshots in
+    row_at snap_key (snapshot_key snapshot) state.records.tables.snapshots in
     record (done state) {
-      invalid = not (all_of (is_short_name snapshot.ns ∷ is_short_name snapshot.snapshotter ∷ is_name snapshot.name ∷ []));
+      invalid = not (is_allowed_snapshot snapshot);
       missing = is_none found;
       reply = row_reply W.Snap found;
     }
@@ -133,11 +133,11 @@ gets_snapshot state snapshot =
 abbrev pub labels_snapshot : State → RawSnapshot → RawLabel → Outcome
 labels_snapshot state snapshot label =
     let rows = state.records.tables.snapshots in
-    let found = row_at snap_key (snapshot.ns ∷ snapshot.snapshotter ∷ snapshot.name ∷ []) rows in
+    let found = row_at snap_key (snapshot_key snapshot) rows in
     record (done state) {
-      invalid = not (all_of (is_short_name snapshot.ns ∷ is_short_name snapshot.snapshotter ∷ is_name snapshot.name ∷ [])) || not (all_of (labelled (λ row. row.labels) label.key label.value found));
+      invalid = not (is_allowed_snapshot snapshot) || not (all_of (labelled (λ row. row.labels) label.key label.value found));
       missing = is_none found;
-      after = with_snapshots state (change_row snap_key (snapshot.ns ∷ snapshot.snapshotter ∷ snapshot.name ∷ []) (λ row. record row { labels = put_label label.key label.value row.labels }) rows);
+      after = with_snapshots state (change_row snap_key (snapshot_key snapshot) (λ row. record row { labels = put_label label.key label.value row.labels }) rows);
     }
 
 -- the names of a snapshotter's snapshots in a namespace (List)
