@@ -11,7 +11,7 @@ ghost use Rattle.explaining.specs.Asked.{records_in, AreInOrder};
 use crate::asked::Question;
 use crate::explain_rows::explain_rows;
 use gc_graph::ListedRows;
-use meta_types::{Explanation, Fault, Instant, MAX_NODES, Object, Resource, ShortName};
+use meta_types::{Explanation, Fault, Instant, Object, Resource, ShortName};
 use request_core::Records;
 use std::alloc::Global;
 use std::thread::Threads;
@@ -45,18 +45,6 @@ fn has_row(records: &Records, ns: &ShortName, object: &Object) -> bool
     }
 }
 
-// Whether the rows are too many.
-fn is_too_large(records: &Records) -> bool
-    ensures { result ≡ is_too_large (records_in records.now) }
-{
-    let counts = records.tables.counts();
-    let most = MAX_NODES as u128;
-    if most < counts.content || most < counts.snapshots || most < counts.ingests {
-        return true;
-    }
-    most < 2 * (counts.content + counts.snapshots) + counts.ingests
-}
-
 // The rows of records, listed as they arrived.
 fn list_rows(alloc: Global, records: &Records) -> Result<ListedRows<'_>, Fault>
     ensures fault { Refuses result None }
@@ -86,7 +74,7 @@ pub fn explain<R: Threads + Sync>(
     if !has_row(records, ns, object) {
         return Err(Fault::NotFound);
     }
-    if is_too_large(records) {
+    if records.is_too_large() {
         return Err(Fault::FailedPrecondition);
     }
     let listed = list_rows(alloc, records)?;

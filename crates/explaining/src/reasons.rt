@@ -10,7 +10,8 @@ ghost use Rattle.meta_types.specs.Reasons.{is_ref, label_reason, reason_in, reas
 ghost use Rattle.explaining.specs.Reasons.{by_of};
 
 use crate::found::{Found, is_content, is_resource, is_snapshot, namespace_of};
-use gc_labels::{content_ref, is_flat, snapshot_ref};
+use gc_graph::lease_mode;
+use gc_labels::{content_ref, snapshot_ref};
 use lease_book::Lease;
 use meta_types::{ContainerRow, Digest, Fault, IngestRow, Labels, Mode, Resource, SnapRow};
 use std::alloc::Global;
@@ -70,16 +71,6 @@ fn is_held(resources: &[&Resource], mode: Mode, thing: Found<'_>) -> bool
         }
     }
     false
-}
-
-fn lease_mode(row: &Lease) -> Mode
-    ensures { result ≡ lease_mode row.now }
-{
-    if is_flat(row.labels()) {
-        Mode::Flat
-    } else {
-        Mode::Full
-    }
 }
 
 fn holds(alloc: Global, row: &Lease, thing: Found<'_>) -> Result<bool, Fault>

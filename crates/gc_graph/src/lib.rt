@@ -21,4 +21,5 @@ pub use build_graph::{Starts, build, find_starts};
 pub use ends::{image_stays, lease_stays};
 pub use ignored::Ignored;
 pub use node::Node;
+pub use roots::lease_mode;
 pub use rows::{ListedRows, RowPlaces, StoreRows};

@@ -147,7 +147,8 @@ fn push_resources(
     Ok(())
 }
 
-fn lease_mode(row: &Lease) -> Mode
+/// The mode in which a lease holds its resources.
+pub fn lease_mode(row: &Lease) -> Mode
     ensures { result ≡ lease_mode row.now }
 {
     if is_flat(row.labels()) {

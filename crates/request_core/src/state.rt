@@ -4,12 +4,13 @@ ghost use Rattle.std.specs.Bool.{OnFalse};
 ghost use Rattle.meta_types.specs.Changes.{has_namespace};
 ghost use Rattle.meta_types.specs.Ops.{lacks};
 ghost use Rattle.meta_types.specs.Faults.{Refuses};
+ghost use Rattle.meta_types.specs.Limits.{is_too_large};
 ghost use Rattle.meta_types.specs.Sound.{IsSound};
 ghost use Rattle.request_core.specs.Parts.{is_lease_there};
 
 use back_model::{Backends, BlobBackend, IngestBackend, SnapBackend};
 use lease_book::Leases;
-use meta_types::{Fault, Name, ShortName};
+use meta_types::{Fault, MAX_NODES, Name, ShortName};
 use object_tables::Tables;
 use std::alloc::Global;
 use std::marker::Model;
@@ -66,6 +67,24 @@ impl Records {
             next: 1,
             profile: 1,
         }
+    }
+
+    /// Whether the rows are more than a collection may mark: each content and snapshot row twice, each
+    /// ingest row once.
+    pub fn is_too_large(&self) -> bool
+        ensures { result ≡ is_too_large (record {
+          tables = self.now.tables;
+          leases = self.now.leases;
+          next = self.now.next;
+          profile = self.now.profile;
+        }) }
+    {
+        let counts = self.tables.counts();
+        let most = MAX_NODES as u128;
+        if most < counts.content || most < counts.snapshots || most < counts.ingests {
+            return true;
+        }
+        most < 2 * (counts.content + counts.snapshots) + counts.ingests
     }
 
     /// A copy, which shares the texts of the rows.
