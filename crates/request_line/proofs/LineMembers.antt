@@ -1,11 +1,12 @@
 -- On the members of a line, and on the grammar's loop over members.
-use Rattle.std.proofs.Common.{◌≡◌, refl, sym, ap, ◌∙◌, ℕ, ◌-◌, ◌<◌, ◌≤◌, ◌&&◌, List, [], ◌∷◌, ◌++◌, length, map, Bor, Bool, true, false, true≢false, Option, Some, None, option_map, option_and_then, IfSome, IfOk, Result, Ok, Err, if◌then◌else◌, Ordering, Less, Equal, Greater, nat_cmp, is_eq, bytes_eq, string_bytes}
+use Rattle.std.proofs.Common.{◌≡◌, refl, sym, ap, ◌∙◌, ℕ, ◌+◌, ◌-◌, ◌<◌, ◌≤◌, ◌&&◌, List, [], ◌∷◌, ◌++◌, length, map, take, get_or, arith, Bor, Bool, true, false, true≢false, Option, Some, None, option_map, option_and_then, IfSome, IfOk, Result, Ok, Err, if◌then◌else◌, Ordering, Less, Equal, Greater, nat_cmp, is_eq, bytes_eq, string_bytes}
 use Rattle.std.specs.Prelude.{⊤}
 use Rattle.std.specs.Cmp.Lexicographic.{slice_cmp}
 use Rattle.std.specs.Ordering.{match_ordering, ordering_reverse, is_gt}
 use Rattle.std.specs.List.{list_all}
 use Rattle.std.proofs.lemmas.Cmp.{nat_list_cmp_total}
 use Rattle.std.proofs.lemmas.Map.Text.{is_eq-slice_cmp}
+use Rattle.std.proofs.lemmas.List.{take_more}
 use Rattle.std.proofs.lemmas.Slice.Eq.{bytes_eq-Decides}
 use Rattle.json.specs.Token.{Token}
 use Rattle.json.specs.Json as json
@@ -195,15 +196,29 @@ get_member-put_any : (k q : Text) (d : Data) (ms : Members)
     → get_member q (put k d ms) ≡ (if bytes_eq k q then Some d else get_member q ms)
 get_member-put_any k q d ms = found_at _ k q d ms refl
 
--- one more member of that name found, or none
-pub found_later : (q : Text) (ms : List LineMember) (m : LineMember) (before : Option Data)
-    → before ≡ get_member q (object_of ms)
-    → (if bytes_eq m.0.now q then Some (value_of m.1) else before)
-    ≡ get_member q (object_of (ms ++ m ∷ []))
-found_later q ms m before is =
-    ap (λ d. if bytes_eq m.0.now q then Some (value_of m.1) else d) is
-    ∙ sym (get_member-put_any m.0.now q (value_of m.1) (object_of ms))
-    ∙ ap (get_member q) (sym (put_all-push no_members ms m))
+-- what the members say at a name
+abbrev pub found_in : Text → List LineMember → Option Data
+found_in q ms = get_member q (object_of ms)
+
+-- the last of the first members
+last_of : (ms : List LineMember) (left : ℕ) (m : LineMember) → 0 < left → left ≤ length ms
+    → m ≡ get_or ms (left - 1) m → take left ms ≡ take (left - 1) ms ++ m ∷ []
+last_of ms left m some within is =
+    let next : left ≡ left - 1 + 1 = omega (arith, some) in
+    let inside : left - 1 < length ms = omega (arith, some, within) in
+    ap (λ n. take n ms) next ∙ take_more ms (left - 1) m inside
+    ∙ ap (λ x. take (left - 1) ms ++ x ∷ []) (sym is)
+
+-- what is found among the first members, by the last of them
+pub found_at_last : (q : Text) (ms : List LineMember) (left : ℕ) (m : LineMember) → 0 < left
+    → left ≤ length ms → m ≡ get_or ms (left - 1) m
+    → found_in q (take left ms)
+    ≡ (if bytes_eq m.0.now q then Some (value_of m.1) else found_in q (take (left - 1) ms))
+found_at_last q ms left m some within is =
+    let before = take (left - 1) ms in
+    ap (found_in q) (last_of ms left m some within is)
+    ∙ ap (get_member q) (put_all-push no_members before m)
+    ∙ get_member-put_any m.0.now q (value_of m.1) (object_of before)
 
 -- ---- members that fit
 

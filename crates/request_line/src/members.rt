@@ -1,5 +1,5 @@
 //! The members of a line, and what they say. Texts are copied out of the line.
-ghost use Rattle.std.specs.Prelude.{◌≡◌, [], None, IfOk, unwrap_or, string_bytes, option_map, if◌then◌else◌, map};
+ghost use Rattle.std.specs.Prelude.{◌≡◌, [], None, IfOk, unwrap_or, string_bytes, option_map, map};
 ghost use Rattle.std.specs.Option.{option_map_or};
 ghost use Rattle.std.specs.Str.{bytes_eq};
 ghost use Rattle.serde_json.specs.View.{view, members_view};
@@ -34,32 +34,20 @@ pub(crate) fn is_same(one: &str, other: &str) -> bool
     one == other
 }
 
-// The value of that name, or what was found before.
-fn later<'a, 'b>(
-    found: Option<&'a LineValue<'b>>,
-    member: &'a Member<'b>,
-    name: &str,
-) -> Option<&'a LineValue<'b>>
-    ensures { option_map (λ v. value_of v.now) result ≡ (if bytes_eq member.now.0.now name.now
-        then Some (value_of member.now.1) else option_map (λ v. value_of v.now) found.entry) }
-{
-    if is_same(member.0, name) {
-        Some(&member.1)
-    } else {
-        found
-    }
-}
-
-/// The last value of that name.
+/// The last value of that name: it is sought from the end.
 pub(crate) fn member<'a, 'b>(members: &'a [Member<'b>], name: &str) -> Option<&'a LineValue<'b>>
     ensures { option_map (λ v. value_of v.now) result ≡ get_member name.now
         (object_of members.now) }
 {
-    let mut found = None;
-    for one in members {
-        found = later(found, one, name);
+    let mut left = members.len();
+    while left > 0 {
+        left -= 1;
+        let one = &members[left];
+        if is_same(one.0, name) {
+            return Some(&one.1);
+        }
     }
-    found
+    None
 }
 
 // A value's text, where it is one.

@@ -1,18 +1,28 @@
-use Rattle.std.proofs.Common.{◌∙◌, ◌++◌, ◌∷◌, [], ap, sym, take, option_map}
-use Rattle.std.proofs.lemmas.List.{take_more}
-use Rattle.serde_json.specs.Find.{get_member}
-use Rattle.request_line.specs.LineMembers.{LineMember, value_of, object_of}
-use Rattle.request_line.proofs.LineMembers.{found_later}
+use Rattle.std.proofs.Common.{◌≡◌, ◌∙◌, sym, true, false, bytes_eq, arith}
+use Rattle.request_line.specs.LineMembers.{LineMember}
+use Rattle.request_line.proofs.LineMembers.{found_at_last}
 use Rattle.request_line.proofs.members.member.Goals as goal
 
--- each turn looks at one member more
-pub loop-one-preserved : goal.loop-one-preserved
-loop-one-preserved c =
-    let i = c.loop-one.one-index in
+-- the last member of that name
+pub returns-then-is_same : goal.returns-then-is_same
+returns-then-is_same c =
+    let l = c.loop-left in
     let name = c.args.name.now in
-    let members = c.args.members.now in
-    let one : LineMember = c.one-item.result in
-    let before = option_map (λ v. value_of v.now) c.loop-one.found in
-    c.later-found.ensures ∙ found_later name (take i members) one before c.loop-one.invariant
-    ∙ ap (λ m. get_member name (object_of (take i members ++ m ∷ []))) c.one-item.is
-    ∙ ap (λ ms. get_member name (object_of ms)) (sym (take_more members i one c.loop-one-test.true))
+    let m : LineMember = c.index-members-left.result in
+    let some = c.loop-left-test.true in
+    let at = c.index-members-left.is in
+    let same : bytes_eq m.0.now name ≡ true = sym c.is_same.ensures ∙ c.if-is_same.true in
+    let found = found_at_last name c.args.members.now l.left m some l.invariant.0 at in
+    sym (rw same at found) ∙ l.invariant.1
+
+-- a member of another name
+pub loop-left-preserved : goal.loop-left-preserved
+loop-left-preserved c =
+    let l = c.loop-left in
+    let name = c.args.name.now in
+    let m : LineMember = c.index-members-left.result in
+    let some = c.loop-left-test.true in
+    let at = c.index-members-left.is in
+    let other : bytes_eq m.0.now name ≡ false = sym c.is_same.ensures ∙ c.if-is_same.false in
+    let found = found_at_last name c.args.members.now l.left m some l.invariant.0 at in
+    (omega (arith, l.invariant.0), sym (rw other at found) ∙ l.invariant.1)

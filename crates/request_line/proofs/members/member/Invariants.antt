@@ -1,9 +1,11 @@
-use Rattle.std.proofs.Common.{◌≡◌, option_map, take}
-use Rattle.serde_json.specs.Find.{get_member}
-use Rattle.request_line.specs.LineMembers.{value_of, object_of}
+use Rattle.std.proofs.Common.{◌≡◌, ◌≤◌, length, take}
+use Rattle.request_line.proofs.LineMembers.{found_in}
 use Rattle.request_line.proofs.members.member.Given as goal
 
-abbrev pub invariant-loop-one : goal.invariant-loop-one
-invariant-loop-one l =
-    option_map (λ v. value_of v.now) l.found
-    ≡ get_member l.fn.name (object_of (take l.one-index l.members))
+abbrev pub invariant-loop-left : goal.invariant-loop-left
+invariant-loop-left l =
+    (l.left ≤ length l.members)
+    × (found_in l.fn.name (take l.left l.members) ≡ found_in l.fn.name l.members)
+
+abbrev pub decreases-loop-left : goal.decreases-loop-left
+decreases-loop-left l = l.left
