@@ -4,3 +4,4 @@ pub mod Snaps
 pub mod Objects
 pub mod Fuses
 pub mod Shown
+pub mod Held
