@@ -22,7 +22,7 @@ use Rattle.backend_sweep.specs.Singles.{AreHeldOnce}
 use Rattle.backend_sweep.specs.ShardPlans.{PlannedShard, shard_plan_for, IsReady, fate_of, is_removed, is_failed}
 use Rattle.backend_sweep.specs.Fated.{AllFates, removed_of, failed_of}
 use Rattle.backend_sweep.specs.Backed.{MaySweep}
-use Rattle.backend_sweep.specs.Swept.{held_in, IsSwept, SweepsNames, count_names}
+use Rattle.backend_sweep.specs.Swept.{IsSwept, SweepsNames, count_names}
 use Rattle.backend_sweep.specs.Tasks.{entries_in, shards_in, shard_plans_in, left_in, AreJobsOf, AreReady, SweepsJobs, SweepsList}
 use Rattle.backend_sweep.specs.declared.fates.Fate.{Fate}
 use Rattle.backend_sweep.specs.declared.shard_task.ShardJob.{ShardJob}
@@ -30,7 +30,7 @@ use Rattle.backend_sweep.proofs.Fated.{removed_by, failed_by}
 use Rattle.backend_sweep.proofs.Zipped.{Triple, olds_of, shard_plans_of, news_of, One, Zips, shard_plan_at, shard_there, zipped}
 use Rattle.backend_sweep.proofs.Counting.{counted}
 use Rattle.backend_sweep.proofs.LeftShards.{same_snaps, same_failures}
-use Rattle.backend_sweep.proofs.SweptBackends.{held_once, texts_apart, numbers_apart, first_by, swept}
+use Rattle.backend_sweep.proofs.SweptBackends.{lists_of, held_once, texts_apart, numbers_apart, first_by, swept}
 
 -- a vector after all of its slice was written
 taken : {X : Type 0} (xs ys : List X) → take (length xs) (xs ++ ys) ≡ xs
@@ -50,11 +50,11 @@ swept_whole contents fails old lent new rest len is long h =
     (subst (λ (l : List (ShardJob _)). SweepsJobs contents fails lent l) (sym (whole_slice len new rest (long ∙ ap (λ (l : List (ShardJob _)). length l) (sym is) ∙ sym h.0))) h)
 
 pub held_blobs : (olds : List Shard) (blobs : List Text) (ingests : List ℕ) (names : BackNames)
-    → MaySweep (held_in olds blobs ingests) names → AreHeldOnce bytes_eq names.blobs blobs
+    → MaySweep (lists_of olds blobs ingests) names → AreHeldOnce bytes_eq names.blobs blobs
 held_blobs olds blobs ingests names may = held_once bytes_eq (λ x y. (bytes_eq-Decides x y).0) (λ x y. (bytes_eq-Decides x y).1) _ names.blobs blobs (ap (λ (n : BackNames). n.blobs) may.are) (texts_apart blobs may.blobs_ordered)
 
 pub held_ingests : (olds : List Shard) (blobs : List Text) (ingests : List ℕ) (names : BackNames)
-    → MaySweep (held_in olds blobs ingests) names → AreHeldOnce is_number names.ingests ingests
+    → MaySweep (lists_of olds blobs ingests) names → AreHeldOnce is_number names.ingests ingests
 held_ingests olds blobs ingests names may =
     held_once is_number (λ x y h. sym ((Decides-eqb y x).0 h)) (λ x y e. (Decides-eqb y x).1 (sym e)) _ names.ingests ingests (ap (λ (n : BackNames). n.ingests) may.are) (numbers_apart ingests may.ingests_ordered)
 
@@ -93,7 +93,7 @@ list_swept same contents fails list old mid new last fates fates' m f l s =
     (subst (λ (fs : List Fate). SweepsList same contents fails list fs mid last) (sym f)
     (subst (λ (b : _). SweepsList same contents fails list fates mid b) (sym l) s))
 
-module _ {S : Type 0} (contents : S → Snaps) (fails : S → ℕ) (olds : List Shard) (blobs : List Text) (ingests : List ℕ) (names : BackNames) (may : MaySweep (held_in olds blobs ingests) names) (apart : AreApart olds)
+module _ {S : Type 0} (contents : S → Snaps) (fails : S → ℕ) (olds : List Shard) (blobs : List Text) (ingests : List ℕ) (names : BackNames) (may : MaySweep (lists_of olds blobs ingests) names) (apart : AreApart olds)
     (jobs : List (ShardJob S)) (of : AreJobsOf contents fails names.snapshots olds jobs) where
   abbrev view : Text × S → Shard
   view = shown contents fails
@@ -121,7 +121,7 @@ module _ {S : Type 0} (contents : S → Snaps) (fails : S → ℕ) (olds : List 
 -- taking the shards out and putting them back leaves the other backends, and setting the
 -- snapshots' fates leaves the other fates
 module _ {S B I : Type 0} (contents : S → Snaps) (fails : S → ℕ) (texts : B → List Text) (blob_fails : B → ℕ) (numbers : I → List ℕ) (ingest_fails : I → ℕ)
-    (olds : List Shard) (b0 b1 b2 b3 : B) (i0 i1 i2 i3 : I) (names : BackNames) (may : MaySweep (held_in olds (texts b0) (numbers i0)) names) (apart : AreApart olds)
+    (olds : List Shard) (b0 b1 b2 b3 : B) (i0 i1 i2 i3 : I) (names : BackNames) (may : MaySweep (lists_of olds (texts b0) (numbers i0)) names) (apart : AreApart olds)
     (jobs : List (ShardJob S)) (of : AreJobsOf contents fails names.snapshots olds jobs) (new : List (ShardJob S)) (done : SweepsJobs contents fails jobs new)
     (fates last : AllFates) (last_is : last ≡ record fates { snapshots = map (fate_of (shard_plans_in new)) names.snapshots })
     (blobs_taken : b1 ≡ b0) (blobs_put : b3 ≡ b2) (ingests_taken : i1 ≡ i0) (ingests_put : i3 ≡ i2)
@@ -149,16 +149,16 @@ module _ {S B I : Type 0} (contents : S → Snaps) (fails : S → ℕ) (texts : 
   failed_are = failed_by (shard_plans_in new) names.snapshots last.snapshots set ∙ ap (λ (l : List PlannedShard). filter (is_failed l) names.snapshots) (sym z.shard_plans_are)
 
   -- the shards that are left out hold nothing
-  held : held_in (shards_in contents fails new) (texts b3) (numbers i3)
-      ≡ held_in news (texts b3) (numbers i3)
+  held : lists_of (shards_in contents fails new) (texts b3) (numbers i3)
+      ≡ lists_of news (texts b3) (numbers i3)
   held = ap
       (λ (l : List BackSnap). record { blobs = texts b3; snapshots = l; ingests = numbers i3 })
       (sym (ap all_snaps news_are ∙ same_snaps contents fails names.snapshots (entries_in new)))
 
-  pub swept_by : SweepsNames names (held_in olds (texts b0) (numbers i0)) (held_in news (texts b3) (numbers i3)) last
+  pub swept_by : SweepsNames names (lists_of olds (texts b0) (numbers i0)) (lists_of news (texts b3) (numbers i3)) last
   swept_by tables are =
       subst
-      (λ (l : BackLists). IsSwept tables (held_in olds (texts b0) (numbers i0)) l
+      (λ (l : BackLists). IsSwept tables (lists_of olds (texts b0) (numbers i0)) l
       (removed_of names last) (failed_of names last)) held
       (swept olds (texts b0) (numbers i0) names may apart z.zs olds_are z.each tables are (texts b3) (numbers i3) (removed_of names last) (failed_of names last) (blob_fails b0) (blob_fails b3) (ingest_fails i0) (ingest_fails i3)
       sb si removed_are failed_are (shards_in contents fails new) z.news_are)

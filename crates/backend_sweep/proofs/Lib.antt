@@ -2,6 +2,8 @@ pub mod Listing
 pub mod Blocking
 pub mod Sweeping
 pub mod Leaving
+pub mod NextNumber
+pub mod Unfailing
 pub mod Children
 pub mod SnapshotSearches
 pub mod Ancestry

@@ -18,12 +18,16 @@ use Rattle.backend_sweep.specs.Sweep.{Childfirst}
 use Rattle.backend_sweep.specs.Singles.{is_in, AreHeldOnce, SweepsEach}
 use Rattle.backend_sweep.specs.ShardPlans.{is_removed, is_failed}
 use Rattle.backend_sweep.specs.Backed.{MaySweep}
-use Rattle.backend_sweep.specs.Swept.{held_in, IsSwept}
+use Rattle.backend_sweep.specs.Swept.{IsSwept}
 use Rattle.backend_sweep.proofs.Pairing.{same_kept, Pairs, each_from, pairs_filter, pairs_front}
 use Rattle.backend_sweep.proofs.SweptLists.{in_of, of_in}
 use Rattle.backend_sweep.proofs.Naming.{Named, names_may_be_swept}
 use Rattle.backend_sweep.proofs.Zipped.{Triple, olds_of, shard_plans_of, news_of, One, All3, filter_twice, snapshots_left, snapshots_removed, failed_fit, failed_apart}
 use Rattle.meta_types.proofs.GoingOrder.{one_way, chain}
+
+-- what shards, blobs and ingests hold, as the definitions have it
+abbrev pub lists_of : List Shard → List Text → List ℕ → BackLists
+lists_of shards blobs ingests = record { blobs = blobs; snapshots = all_snaps shards; ingests = ingests }
 
 -- ---- objects without parents
 
@@ -102,9 +106,9 @@ goes_by_is tables all snap = ap not (three (owns_snapshot tables snap) (list_any
     three true b c p q = refl
     three false b c p q = rw (p, q) refl
 
-module _ (olds : List Shard) (blobs : List Text) (ingests : List ℕ) (names : BackNames) (may : MaySweep (held_in olds blobs ingests) names) (apart : AreApart olds) where
+module _ (olds : List Shard) (blobs : List Text) (ingests : List ℕ) (names : BackNames) (may : MaySweep (lists_of olds blobs ingests) names) (apart : AreApart olds) where
   pub named_by : (tables : Tables)
-      → names ≡ removed_objects tables no_objects (held_in olds blobs ingests)
+      → names ≡ removed_objects tables no_objects (lists_of olds blobs ingests)
       → Named olds (goes_by tables (all_snaps olds)) names.snapshots
   named_by tables are = record {
     apart = apart;
@@ -125,7 +129,7 @@ module _ (olds : List Shard) (blobs : List Text) (ingests : List ℕ) (names : B
       go true false h k = absurd (both_ways false refl (h refl))
       go false false h k = refl
 
-  module _ (zs : List Triple) (olds_are : olds_of zs ≡ olds) (each : (z : Triple) → Contains zs z → One names.snapshots z) (tables : Tables) (are : names ≡ removed_objects tables no_objects (held_in olds blobs ingests)) where
+  module _ (zs : List Triple) (olds_are : olds_of zs ≡ olds) (each : (z : Triple) → Contains zs z → One names.snapshots z) (tables : Tables) (are : names ≡ removed_objects tables no_objects (lists_of olds blobs ingests)) where
     abbrev goes : BackSnap → Bool
     goes = goes_by tables (all_snaps olds)
 
@@ -159,10 +163,10 @@ module _ (olds : List Shard) (blobs : List Text) (ingests : List ℕ) (names : B
       ingests_are = ap (λ (n : BackNames). n.ingests) are
 
       abbrev old : BackLists
-      old = held_in (olds_of zs) blobs ingests
+      old = lists_of (olds_of zs) blobs ingests
 
       swept_zs : names ≡ removed_objects tables no_objects old
-          → IsSwept tables old (held_in (news_of zs) blobs' ingests') removed failed
+          → IsSwept tables old (lists_of (news_of zs) blobs' ingests') removed failed
       swept_zs are = record {
         may_fail = record {
           blobs = sb.failed_is ∙ ap (filter (λ digest. list_any (bytes_eq digest) failed.blobs)) (ap (λ (n : BackNames). n.blobs) are);
@@ -184,8 +188,8 @@ module _ (olds : List Shard) (blobs : List Text) (ingests : List ℕ) (names : B
 
       -- all backends are swept
       pub swept : (news : List Shard) → news_of zs ≡ news
-          → IsSwept tables (held_in olds blobs ingests) (held_in news blobs' ingests') removed failed
+          → IsSwept tables (lists_of olds blobs ingests) (lists_of news blobs' ingests') removed failed
       swept news news_are =
-          subst (λ (l : List Shard). IsSwept tables (held_in olds blobs ingests) (held_in l blobs' ingests') removed failed) news_are
-          (subst (λ (l : List Shard). IsSwept tables (held_in l blobs ingests) (held_in (news_of zs) blobs' ingests') removed failed) olds_are
-          (swept_zs (are ∙ ap (λ (l : List Shard). removed_objects tables no_objects (held_in l blobs ingests)) (sym olds_are))))
+          subst (λ (l : List Shard). IsSwept tables (lists_of olds blobs ingests) (lists_of l blobs' ingests') removed failed) news_are
+          (subst (λ (l : List Shard). IsSwept tables (lists_of l blobs ingests) (lists_of (news_of zs) blobs' ingests') removed failed) olds_are
+          (swept_zs (are ∙ ap (λ (l : List Shard). removed_objects tables no_objects (lists_of l blobs ingests)) (sym olds_are))))

@@ -1,6 +1,7 @@
 pub mod Shards
 pub mod Fated
 pub mod Sweep
+pub mod ShardOutcomes
 pub mod Singles
 pub mod Parts
 pub mod ShardPlans

@@ -1,14 +1,8 @@
 -- What a sweep of all backends did, and what it left. Ours, unless a source stands beside.
-use Rattle.std.specs.Prelude.{◌≡◌, ◌+◌, ℕ, List, length}
-use Rattle.meta_types.specs.Text.{Text}
+use Rattle.std.specs.Prelude.{◌≡◌, ◌+◌, ℕ, length}
 use Rattle.meta_types.specs.Rows.{Tables, BackLists}
 use Rattle.meta_types.specs.Backends.{BackNames, IsFailure, no_objects, removed_objects, collected_backends}
-use Rattle.back_model.specs.Shown.{Shard, all_snaps}
 use Rattle.backend_sweep.specs.Fated.{AllFates, removed_of, failed_of}
-
--- what the backends hold
-abbrev pub held_in : List Shard → List Text → List ℕ → BackLists
-held_in shards blobs ingests = record { blobs = blobs; snapshots = all_snaps shards; ingests = ingests }
 
 -- what these tables don't own is gone, but for failed removals and what is above those
 pub record IsSwept (tables : Tables) (old new : BackLists) (removed failed : BackNames) : Type 0 where

@@ -3,19 +3,18 @@ ghost use Rattle.std.specs.Prelude.{◌≡◌, ◌+◌, None, IfOk, OnErr};
 ghost use Rattle.meta_types.specs.Faults.{Refuses, unless};
 ghost use Rattle.meta_types.specs.Limits.{is_worker_count};
 ghost use Rattle.meta_types.specs.declared.fault.Fault.TheVariants.{InvalidArgument};
-ghost use Rattle.back_model.specs.Shown.{all_failures};
+ghost use Rattle.back_model.specs.Held.{held, failures};
 ghost use Rattle.table_sweep.specs.BlobMarks.{AreBlobMarks};
 ghost use Rattle.backend_sweep.specs.Planned.{IsPlanned};
 ghost use Rattle.backend_sweep.specs.Fated.{AreFatesOf, failed_of};
-ghost use Rattle.backend_sweep.specs.Swept.{held_in, SweepsNames, count_names};
+ghost use Rattle.backend_sweep.specs.Swept.{SweepsNames, count_names};
 
-use crate::crew::Crew;
 use crate::fates::Fates;
-use crate::gate::SweepGate;
+use crate::gate::{Crew, SweepGate};
 use crate::shard_task::ShardTask;
 use crate::tasks::{sweep_singles, sweep_tasks};
 use back_model::{Backends, BlobBackend, IngestBackend, SnapBackend};
-use meta_types::{Fault, is_worker_count};
+use meta_types::{Fault, Workers};
 use std::alloc::Global;
 use std::thread::Threads;
 use table_sweep::Plan;
@@ -27,35 +26,70 @@ pub fn sweep_plain<S: SnapBackend, B: BlobBackend, I: IngestBackend>(
     backends: &mut Backends<S, B, I>,
     plan: &Plan,
 ) -> Result<Fates, Fault>
-    requires planned { IsPlanned (held_in backends.old.shards (B.contents backends.old.blobs)
-        (I.contents backends.old.ingests)) plan.now }
+    requires planned { IsPlanned (held B.contents I.contents backends.old) plan.now }
     requires marks { AreBlobMarks plan.now.report.backend.blobs (B.arrived backends.old.blobs)
         plan.now.blobs.items }
     ensures fault { Refuses result None }
     ensures ok { IfOk result (SweepsNames plan.now.report.backend
-        (held_in backends.old.shards (B.contents backends.old.blobs)
-        (I.contents backends.old.ingests))
-        (held_in backends.new.shards (B.contents backends.new.blobs)
-        (I.contents backends.new.ingests))) }
+        (held B.contents I.contents backends.old)
+        (held B.contents I.contents backends.new)) }
     ensures of { IfOk result (AreFatesOf plan.now.report.backend) }
-    ensures count { IfOk result (λ fates. all_failures backends.new.shards
-        + B.fails backends.new.blobs + I.fails backends.new.ingests
-        ≡ all_failures backends.old.shards + B.fails backends.old.blobs
-        + I.fails backends.old.ingests + count_names (failed_of plan.now.report.backend fates)) }
+    ensures count { IfOk result (λ fates. failures B.fails I.fails backends.new
+        ≡ failures B.fails I.fails backends.old
+        + count_names (failed_of plan.now.report.backend fates)) }
     ensures err { OnErr result (backends.new ≡ backends.old) }
 {
     let mut fates = Fates::room(alloc, plan)?;
     let mut task = ShardTask::take(alloc, backends, plan)?;
-    task.sweep_in_turn(alloc);
+    task.sweep_in_turn();
     sweep_singles(plan, backends, &mut fates);
     task.put_back(backends, plan, &mut fates);
     Ok(fates)
 }
 
 /// Removes the objects that the plan names, and runs a task beside, which is to remove the plan's
-/// rows. Each shard is a task of the workers, and so are the blobs, and the task. Ingests go last.
-/// The plan's marks of blobs are of their order as the backend lends them. Nothing is removed, and
-/// the task isn't run, where it is refused.
+/// rows. Each shard is a task of the crew, and so are the blobs, and the task. Ingests go last. The
+/// plan's marks of blobs are of their order as the backend lends them. Nothing is removed, and the
+/// task isn't run, where it is refused.
+pub fn sweep_by<
+    R: Threads + Sync,
+    S: SnapBackend,
+    B: BlobBackend,
+    I: IngestBackend,
+    H: SweepGate,
+    F: FnMut() + Send,
+>(
+    crew: &Crew<R, H>,
+    alloc: Global,
+    backends: &mut Backends<S, B, I>,
+    plan: &Plan,
+    beside: &mut F,
+) -> Result<Fates, Fault>
+    requires planned { IsPlanned (held B.contents I.contents backends.old) plan.now }
+    requires marks { AreBlobMarks plan.now.report.backend.blobs (B.arrived backends.old.blobs)
+        plan.now.blobs.items }
+    requires beside { F.pre beside.old }
+    ensures fault { Refuses result None }
+    ensures ok { IfOk result (SweepsNames plan.now.report.backend
+        (held B.contents I.contents backends.old)
+        (held B.contents I.contents backends.new)) }
+    ensures of { IfOk result (AreFatesOf plan.now.report.backend) }
+    ensures count { IfOk result (λ fates. failures B.fails I.fails backends.new
+        ≡ failures B.fails I.fails backends.old
+        + count_names (failed_of plan.now.report.backend fates)) }
+    ensures err { OnErr result (backends.new ≡ backends.old) }
+    ensures ran { IfOk result (λ _. F.step beside.old tt beside.new) }
+    ensures not_run { OnErr result (beside.new ≡ beside.old) }
+{
+    let mut fates = Fates::room(alloc, plan)?;
+    let mut task = ShardTask::take(alloc, backends, plan)?;
+    sweep_tasks(crew, &mut task, plan, backends, &mut fates, beside);
+    task.put_back(backends, plan, &mut fates);
+    Ok(fates)
+}
+
+/// Removes the objects that the plan names, as `sweep_by` does, by this number of workers, if it is
+/// allowed.
 pub fn sweep_shards<
     R: Threads + Sync,
     S: SnapBackend,
@@ -72,38 +106,26 @@ pub fn sweep_shards<
     gate: &H,
     beside: &mut F,
 ) -> Result<Fates, Fault>
-    requires planned { IsPlanned (held_in backends.old.shards (B.contents backends.old.blobs)
-        (I.contents backends.old.ingests)) plan.now }
+    requires planned { IsPlanned (held B.contents I.contents backends.old) plan.now }
     requires marks { AreBlobMarks plan.now.report.backend.blobs (B.arrived backends.old.blobs)
         plan.now.blobs.items }
     requires beside { F.pre beside.old }
     ensures fault { Refuses result (unless (is_worker_count workers) InvalidArgument) }
     ensures ok { IfOk result (SweepsNames plan.now.report.backend
-        (held_in backends.old.shards (B.contents backends.old.blobs)
-        (I.contents backends.old.ingests))
-        (held_in backends.new.shards (B.contents backends.new.blobs)
-        (I.contents backends.new.ingests))) }
+        (held B.contents I.contents backends.old)
+        (held B.contents I.contents backends.new)) }
     ensures of { IfOk result (AreFatesOf plan.now.report.backend) }
-    ensures count { IfOk result (λ fates. all_failures backends.new.shards
-        + B.fails backends.new.blobs + I.fails backends.new.ingests
-        ≡ all_failures backends.old.shards + B.fails backends.old.blobs
-        + I.fails backends.old.ingests + count_names (failed_of plan.now.report.backend fates)) }
+    ensures count { IfOk result (λ fates. failures B.fails I.fails backends.new
+        ≡ failures B.fails I.fails backends.old
+        + count_names (failed_of plan.now.report.backend fates)) }
     ensures err { OnErr result (backends.new ≡ backends.old) }
     ensures ran { IfOk result (λ _. F.step beside.old tt beside.new) }
     ensures not_run { OnErr result (beside.new ≡ beside.old) }
 {
-    if !is_worker_count(workers) {
+    let Some(workers) = Workers::new(workers) else {
         return Err(Fault::InvalidArgument);
-    }
-    let mut fates = Fates::room(alloc, plan)?;
-    let mut task = ShardTask::take(alloc, backends, plan)?;
-    let crew = Crew {
-        rt,
-        alloc,
-        workers,
-        gate,
     };
-    sweep_tasks(&crew, &mut task, plan, backends, &mut fates, beside);
-    task.put_back(backends, plan, &mut fates);
+    let crew = Crew { rt, workers, gate };
+    let fates = sweep_by(&crew, alloc, backends, plan, beside)?;
     Ok(fates)
 }

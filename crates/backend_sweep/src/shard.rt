@@ -1,7 +1,9 @@
 //! The sweep of one shard, children before their parents.
 ghost use Rattle.std.specs.Prelude.{◌≡◌, ℕ, false};
+ghost use Rattle.back_model.specs.Answers.{NeverFails};
 ghost use Rattle.backend_sweep.specs.Shards.{IsHeld, IsChild};
 ghost use Rattle.backend_sweep.specs.Sweep.{Tries, Sweeps, Childfirst, IsRoomFor, Leaves};
+ghost use Rattle.backend_sweep.specs.ShardOutcomes.{all_gone};
 
 use crate::fates::Fate;
 use crate::gate::SweepGate;
@@ -56,4 +58,22 @@ pub fn sweep_shard<S: SnapBackend, H: SweepGate>(
         swept.put(*number, parent, became);
     }
     swept
+}
+
+/// Removes the snapshots of a list, in its order, where no device of the kind ever fails: all go. It
+/// takes no memory.
+pub(crate) fn sweep_whole<S: SnapBackend, H: SweepGate>(
+    snapshotter: &str,
+    shard: &mut S,
+    list: &[u64],
+    gate: &H,
+)
+    requires never { NeverFails S.fails }
+    requires list { Childfirst list.now (S.contents shard.old) }
+    ensures { Sweeps list.now (S.contents shard.old) (S.contents shard.new) (S.fails shard.old)
+        (S.fails shard.new) (all_gone list.now) }
+{
+    for number in list {
+        let _ = try_remove(snapshotter, shard, *number, false, gate);
+    }
 }

@@ -9,33 +9,36 @@ ghost use Rattle.backend_sweep.specs.Parts.{StandBySnapshotter};
 use crate::fates::{Fate, Fates};
 use crate::gate::SweepGate;
 use crate::parts::part_of;
-use crate::shard::sweep_shard;
-use crate::shard_swept::ShardSwept;
+use crate::shard_outcome::ShardOutcome;
 use back_model::SnapBackend;
 use meta_types::{Fault, ShortName};
 use std::alloc::Global;
-use std::marker::Model;
+use std::marker::{Model, PhantomData};
 use std::mem;
 use table_sweep::Plan;
 
 /// What is to be swept of one snapshotter's shard, and what was.
 #[derive(Drop)]
-pub(crate) struct ShardPlan {
+pub(crate) struct ShardPlan<S: SnapBackend> {
     snapshotter: ShortName,
     list: Vec<u64>,
-    swept: ShardSwept,
+    outcome: ShardOutcome,
+    of: PhantomData<S>,
 }
 
-impl Model for ShardPlan {
+impl<S: SnapBackend> Model for ShardPlan<S> {
     ghost use Rattle.backend_sweep.specs.ShardPlans.{PlannedShard};
+    ghost use Rattle.backend_sweep.specs.ShardOutcomes.{FitsDevice, swept_of};
 
     ghost Value = { PlannedShard };
 
     ghost view = { λ s. record {
       snapshotter = s.snapshotter;
       list = s.list.items;
-      swept = s.swept;
+      swept = swept_of s.list.items s.outcome;
     } };
+
+    ghost invariant = { λ s. FitsDevice S.fails s.outcome };
 }
 
 fn numbers_in(alloc: Global, names: &[(ShortName, u64)]) -> Result<Vec<u64>, Fault>
@@ -50,21 +53,22 @@ fn numbers_in(alloc: Global, names: &[(ShortName, u64)]) -> Result<Vec<u64>, Fau
 }
 
 // The plan of one snapshotter's shard.
-fn shard_plan_for(
+fn shard_plan_for<S: SnapBackend>(
     alloc: Global,
     names: &[(ShortName, u64)],
     snapshotter: &ShortName,
-) -> Result<ShardPlan, Fault>
+) -> Result<ShardPlan<S>, Fault>
     requires { StandBySnapshotter names.now }
     ensures fault { Refuses result None }
     ensures ok { IfOk result (λ shard_plan. shard_plan ≡ shard_plan_for names.now snapshotter.now) }
 {
     let list = numbers_in(alloc, part_of(names, snapshotter))?;
-    let swept = ShardSwept::room(alloc, list.len())?;
+    let outcome = ShardOutcome::room::<S>(alloc, &list)?;
     Ok(ShardPlan {
         snapshotter: snapshotter.copy()?,
         list,
-        swept,
+        outcome,
+        of: PhantomData,
     })
 }
 
@@ -73,7 +77,7 @@ pub(crate) fn shard_plans_of<S: SnapBackend>(
     alloc: Global,
     shards: &[(ShortName, S)],
     names: &[(ShortName, u64)],
-) -> Result<Vec<ShardPlan>, Fault>
+) -> Result<Vec<ShardPlan<S>>, Fault>
     requires { StandBySnapshotter names.now }
     ensures fault { Refuses result None }
     ensures ok { IfOk result (λ shard_plans. shard_plans.items
@@ -88,9 +92,8 @@ pub(crate) fn shard_plans_of<S: SnapBackend>(
 
 /// Sweeps a shard by its plan. It takes no memory.
 pub(crate) fn sweep_shard_plan<S: SnapBackend, H: SweepGate>(
-    alloc: Global,
     shard: &mut S,
-    shard_plan: &mut ShardPlan,
+    shard_plan: &mut ShardPlan<S>,
     gate: &H,
 )
     requires list { Childfirst shard_plan.old.list (S.contents shard.old) }
@@ -102,14 +105,18 @@ pub(crate) fn sweep_shard_plan<S: SnapBackend, H: SweepGate>(
     let ShardPlan {
         snapshotter,
         list,
-        swept,
+        outcome,
+        of: _,
     } = shard_plan;
-    let into = mem::replace(swept, ShardSwept::none(alloc));
-    *swept = sweep_shard(snapshotter.text(), shard, list, into, gate);
+    let into = mem::replace(outcome, ShardOutcome::Whole(false));
+    *outcome = into.sweep(snapshotter.text(), shard, list, gate);
 }
 
 // The plan of a snapshotter's shard, if it has one.
-fn shard_plan_at<'a>(shard_plans: &'a [ShardPlan], snapshotter: &ShortName) -> Option<&'a ShardPlan>
+fn shard_plan_at<'a, S: SnapBackend>(
+    shard_plans: &'a [ShardPlan<S>],
+    snapshotter: &ShortName,
+) -> Option<&'a ShardPlan<S>>
     ensures { option_map (λ shard_plan. shard_plan.now) result
         ≡ find (λ shard_plan. bytes_eq shard_plan.snapshotter snapshotter.now) shard_plans.now }
 {
@@ -123,11 +130,11 @@ fn shard_plan_at<'a>(shard_plans: &'a [ShardPlan], snapshotter: &ShortName) -> O
 
 // The plan of a snapshotter's shard, if it has one: mostly that of the name before.
 #[tactic(auto, using(crate::proofs::LastShardPlan::same_shard_plan))]
-fn shard_plan_from<'a>(
-    shard_plans: &'a [ShardPlan],
-    last: Option<&'a ShardPlan>,
+fn shard_plan_from<'a, S: SnapBackend>(
+    shard_plans: &'a [ShardPlan<S>],
+    last: Option<&'a ShardPlan<S>>,
     snapshotter: &ShortName,
-) -> Option<&'a ShardPlan>
+) -> Option<&'a ShardPlan<S>>
     requires { IfSome last (λ shard_plan. IsFound shard_plans.now shard_plan.now) }
     ensures shard_plan { option_map (λ shard_plan. shard_plan.now) result
         ≡ find (λ shard_plan. bytes_eq shard_plan.snapshotter snapshotter.now) shard_plans.now }
@@ -142,22 +149,26 @@ fn shard_plan_from<'a>(
 }
 
 // What became of a number, as its shard's plan has it.
-fn fate_in(shard_plan: Option<&ShardPlan>, number: u64) -> Fate
+fn fate_in<S: SnapBackend>(shard_plan: Option<&ShardPlan<S>>, number: u64) -> Fate
     ensures { result ≡ fate_in (option_map (λ shard_plan. shard_plan.now) shard_plan.entry) number }
 {
     let Some(shard_plan) = shard_plan else {
         return Fate::Kept;
     };
-    if shard_plan.swept.has_failed(number) {
+    if shard_plan.outcome.has_failed(number) {
         return Fate::Failed;
     }
-    if shard_plan.swept.has_kept(number) {
+    if shard_plan.outcome.has_kept(number) {
         return Fate::Kept;
     }
     Fate::Removed
 }
 
-fn set_fates(shard_plans: &[ShardPlan], names: &[(ShortName, u64)], fates: &mut [Fate])
+fn set_fates<S: SnapBackend>(
+    shard_plans: &[ShardPlan<S>],
+    names: &[(ShortName, u64)],
+    fates: &mut [Fate],
+)
     requires fates { length fates.old ≡ length names.now }
     ensures { fates.new ≡ map (fate_of shard_plans.now) names.now }
 {
@@ -170,7 +181,11 @@ fn set_fates(shard_plans: &[ShardPlan], names: &[(ShortName, u64)], fates: &mut 
 }
 
 /// Copies what became of each snapshot from its shard's plan. It takes no memory.
-pub(crate) fn set_snapshots(shard_plans: &[ShardPlan], plan: &Plan, fates: &mut Fates)
+pub(crate) fn set_snapshots<S: SnapBackend>(
+    shard_plans: &[ShardPlan<S>],
+    plan: &Plan,
+    fates: &mut Fates,
+)
     requires { AreFatesOf plan.now.report.backend fates.old }
     ensures set { fates.new ≡ record fates.old {
       snapshots = map (fate_of shard_plans.now) plan.now.report.backend.snapshots;

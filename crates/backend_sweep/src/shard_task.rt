@@ -8,9 +8,8 @@ ghost use Rattle.backend_sweep.specs.Parts.{StandBySnapshotter};
 ghost use Rattle.backend_sweep.specs.ShardPlans.{shard_plan_for, IsReady, fate_of};
 ghost use Rattle.backend_sweep.specs.Tasks.{entries_in, shards_in, shard_plans_in, is_left, left_in, AreJobsOf, AreReady, SweepsJob, SweepsJobs};
 
-use crate::crew::Crew;
 use crate::fates::Fates;
-use crate::gate::{OpenSweepGate, SweepGate};
+use crate::gate::{Crew, OpenSweepGate, SweepGate};
 use crate::parts::part_of;
 use crate::shard_plans::{ShardPlan, set_snapshots, shard_plans_of, sweep_shard_plan};
 use back_model::{Backends, BlobBackend, IngestBackend, SnapBackend};
@@ -24,7 +23,7 @@ use table_sweep::Plan;
 #[derive(Drop)]
 pub(crate) struct ShardJob<S: SnapBackend> {
     entry: (ShortName, S),
-    shard_plan: ShardPlan,
+    shard_plan: ShardPlan<S>,
 }
 
 // Room for a number of jobs, and for their shards and plans when these are put back.
@@ -32,7 +31,7 @@ pub(crate) struct ShardJob<S: SnapBackend> {
 struct JobRoom<S: SnapBackend> {
     jobs: Vec<ShardJob<S>>,
     shards: Vec<(ShortName, S)>,
-    shard_plans: Vec<ShardPlan>,
+    shard_plans: Vec<ShardPlan<S>>,
 }
 
 impl<S: SnapBackend> JobRoom<S> {
@@ -58,7 +57,7 @@ fn shard_plans_and_room<S: SnapBackend>(
     alloc: Global,
     shards: &[(ShortName, S)],
     names: &[(ShortName, u64)],
-) -> Result<(Vec<ShardPlan>, JobRoom<S>), Fault>
+) -> Result<(Vec<ShardPlan<S>>, JobRoom<S>), Fault>
     requires { StandBySnapshotter names.now }
     ensures fault { Refuses result None }
     ensures shard_plans { IfOk result (λ made. made.0.items
@@ -78,7 +77,7 @@ fn shard_plans_and_room<S: SnapBackend>(
 // Puts each shard beside its plan, in the room for it.
 fn join_jobs<S: SnapBackend>(
     shards: Vec<(ShortName, S)>,
-    shard_plans: Vec<ShardPlan>,
+    shard_plans: Vec<ShardPlan<S>>,
     jobs: &mut Vec<ShardJob<S>>,
 )
     requires shard_plans { length shard_plans.items ≡ length shards.items }
@@ -99,7 +98,7 @@ fn join_jobs<S: SnapBackend>(
 fn part_jobs<S: SnapBackend>(
     jobs: Vec<ShardJob<S>>,
     shards: &mut Vec<(ShortName, S)>,
-    shard_plans: &mut Vec<ShardPlan>,
+    shard_plans: &mut Vec<ShardPlan<S>>,
 )
     requires shards { (shards.old.items ≡ []) × (length jobs.items ≤ vec_capacity shards.old) }
     requires shard_plans { (shard_plans.old.items ≡ []) × (length jobs.items ≤ vec_capacity shard_plans.old) }
@@ -134,19 +133,19 @@ fn leave_out<S: SnapBackend>(shards: &mut Vec<(ShortName, S)>, names: &[(ShortNa
     );
 }
 
-fn sweep_job<S: SnapBackend, H: SweepGate>(alloc: Global, job: &mut ShardJob<S>, gate: &H)
+fn sweep_job<S: SnapBackend, H: SweepGate>(job: &mut ShardJob<S>, gate: &H)
     requires { IsReady (shown S.contents S.fails job.old.entry) job.old.shard_plan }
     ensures { SweepsJob S.contents S.fails job.old job.new }
 {
-    sweep_shard_plan(alloc, &mut job.entry.1, &mut job.shard_plan, gate);
+    sweep_shard_plan(&mut job.entry.1, &mut job.shard_plan, gate);
 }
 
-fn sweep_jobs_in_turn<S: SnapBackend>(alloc: Global, jobs: &mut [ShardJob<S>])
+fn sweep_jobs_in_turn<S: SnapBackend>(jobs: &mut [ShardJob<S>])
     requires { AreReady S.contents S.fails jobs.old }
     ensures { SweepsJobs S.contents S.fails jobs.old jobs.new }
 {
     for i in 0..jobs.len() {
-        sweep_job(alloc, &mut jobs[i], &OpenSweepGate);
+        sweep_job(&mut jobs[i], &OpenSweepGate);
     }
 }
 
@@ -157,15 +156,14 @@ fn sweep_jobs<R: Threads + Sync, S: SnapBackend, H: SweepGate>(
     requires { AreReady S.contents S.fails jobs.old }
     ensures { SweepsJobs S.contents S.fails jobs.old jobs.new }
 {
-    let alloc = crew.alloc;
     let gate = crew.gate;
     thread::for_each_mut(
         crew.rt,
         jobs,
-        crew.workers,
+        crew.workers.count,
         &|_, job: &mut ShardJob<S>|
             requires { IsReady (shown S.contents S.fails job.old.entry) job.old.shard_plan }
-        { sweep_job(alloc, job, gate) },
+        { sweep_job(job, gate) },
     );
 }
 
@@ -174,7 +172,7 @@ fn sweep_jobs<R: Threads + Sync, S: SnapBackend, H: SweepGate>(
 pub(crate) struct ShardTask<S: SnapBackend> {
     jobs: Vec<ShardJob<S>>,
     shards: Vec<(ShortName, S)>,
-    shard_plans: Vec<ShardPlan>,
+    shard_plans: Vec<ShardPlan<S>>,
 }
 
 impl<S: SnapBackend> Model for ShardTask<S> {
@@ -234,11 +232,11 @@ impl<S: SnapBackend> ShardTask<S> {
     }
 
     /// Sweeps each shard by its plan, one after the other. It takes no memory.
-    pub(crate) fn sweep_in_turn(&mut self, alloc: Global)
+    pub(crate) fn sweep_in_turn(&mut self)
         requires { AreReady S.contents S.fails self.old }
         ensures { SweepsJobs S.contents S.fails self.old self.new }
     {
-        sweep_jobs_in_turn(alloc, &mut self.jobs);
+        sweep_jobs_in_turn(&mut self.jobs);
     }
 
     /// Sweeps each shard by its plan, as many at once as there are workers. Threads alone take

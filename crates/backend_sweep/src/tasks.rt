@@ -7,9 +7,8 @@ ghost use Rattle.backend_sweep.specs.Singles.{AreHeldOnce};
 ghost use Rattle.backend_sweep.specs.Tasks.{AreReady, SweepsJobs, MaySweepBlobs, SweepsList};
 
 use crate::blobs::sweep_blobs;
-use crate::crew::Crew;
 use crate::fates::{Fate, Fates};
-use crate::gate::SweepGate;
+use crate::gate::{Crew, SweepGate};
 use crate::ingests::sweep_ingests;
 use crate::shard_task::ShardTask;
 use back_model::{Backends, BlobBackend, IngestBackend, SnapBackend};
@@ -143,8 +142,9 @@ fn sweep_at_once<
 {
     let rt = crew.rt;
     let count = task.count();
-    let at_once = is_beside(plan, count, crew.workers);
-    let split = is_split(plan, if at_once { count } else { 0 }, crew.workers);
+    let workers = crew.workers.count;
+    let at_once = is_beside(plan, count, workers);
+    let split = is_split(plan, if at_once { count } else { 0 }, workers);
     run_both(
         rt,
         at_once,

@@ -1,22 +1,16 @@
-use Rattle.std.proofs.Common.{◌≡◌, ◌+◌, ◌<◌, ℕ, length, List, take, drop, get_or, add-one, sym, ◌∙◌, ap, ◌++◌, ◌∷◌, [], Bool, subst, refl, arith, ◌-◌, ◌≤◌}
+use Rattle.std.proofs.Common.{◌≡◌, ◌+◌, ◌<◌, ℕ, length, List, take, drop, get_or, sym, ◌∙◌, ap, ◌++◌, ◌∷◌, [], Bool, subst, refl, arith, ◌-◌, ◌≤◌}
 use Rattle.std.specs.Prelude.{Option}
-use Rattle.std.proofs.lemmas.List.{take-append-drop, take_more, take_all}
-use Rattle.std.proofs.Math.Seq.{drop-cons}
+use Rattle.std.proofs.lemmas.List.{take_more}
 use Rattle.back_model.specs.Snaps.{Snaps, parent_of}
 use Rattle.backend_sweep.specs.declared.fates.Fate.{Fate}
 use Rattle.backend_sweep.specs.declared.fates.Fate.TheVariants as R
 use Rattle.backend_sweep.specs.Shards.{has}
 use Rattle.backend_sweep.specs.Sweep.{Childfirst, Sweeps, Swept, Tries, put_of}
 use Rattle.backend_sweep.proofs.Blocking.{Blocks}
-use Rattle.backend_sweep.proofs.Sweeping.{At, is_held, no_child_left, one_more, blocks_more}
+use Rattle.backend_sweep.proofs.Sweeping.{is_held, no_child_left, one_more, blocks_more}
 use Rattle.backend_sweep.proofs.Leaving.{leaves}
+use Rattle.backend_sweep.proofs.NextNumber.{at, whole}
 use Rattle.backend_sweep.proofs.shard.sweep_shard.Goals as goal
-
-parts : (list : List ℕ) (i : ℕ) → i < length list → list ≡ take i list ++ get_or list i 0 ∷ drop (i + 1) list
-parts list i here = sym (take-append-drop i list) ∙ ap (λ (l : List ℕ). take i list ++ l) (drop-cons list i 0 here ∙ ap (λ (k : ℕ). get_or list i 0 ∷ drop k list) (sym (add-one i)))
-
-at : (list : List ℕ) (i : ℕ) (m0 m : Snaps) (f0 f : ℕ) (r : Swept) → i < length list → Childfirst list m0 → Sweeps (take i list) m0 m f0 f r → At list (take i list) (drop (i + 1) list) (get_or list i 0) m0 m f0 f r
-at list i m0 m f0 f r here first so_far = record { split = parts list i here; first = first; so_far = so_far }
 
 pub try_remove-became-requires-clause-held : goal.try_remove-became-requires-clause-held
 try_remove-became-requires-clause-held g c κs within =
@@ -59,9 +53,6 @@ loop-number-preserved g c =
       blocks = next_blocks list i _ _ _ _ _ _ c.loop-number.swept c.put.new.self c.parent-parent.result c.is_parent-is_above.result c.try_remove-became.result c.loop-number-test.true c.requires.list v.swept v.blocks c.is_parent-is_above.ensures c.try_remove-became.ensures c.put.ensures c.parent-parent.ensures;
       room = next_room list i _ _ _ _ _ _ c.loop-number.swept c.put.new.self c.parent-parent.result c.is_parent-is_above.result c.try_remove-became.result c.loop-number-test.true c.requires.list v.swept v.blocks c.is_parent-is_above.ensures c.try_remove-became.ensures c.put.ensures v.room;
     }
-
-whole : (list : List ℕ) (i : ℕ) (m now : Snaps) (before after : ℕ) (r : Swept) → length list ≤ i → Sweeps (take i list) m now before after r → Sweeps list m now before after r
-whole list i m now before after r end s = subst (λ (l : List ℕ). Sweeps l m now before after r) (take_all i list end) s
 
 pub returns-clause-leaves : goal.returns-clause-leaves
 returns-clause-leaves g c =

@@ -6,7 +6,7 @@ use Rattle.backend_sweep.proofs.shard_plans.set_fates.Goals as goal
 
 -- the next fate is that of the next name
 pub loop-i-preserved : goal.loop-i-preserved
-loop-i-preserved c =
+loop-i-preserved g c =
     let i = c.loop-i.invariant in
     let n = c.index-names-i.result in
     let here : c.loop-i.i < length c.args.names.now = search rules in

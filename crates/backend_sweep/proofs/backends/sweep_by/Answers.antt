@@ -6,7 +6,7 @@ use Rattle.backend_sweep.specs.Tasks.{MaySweepBlobs}
 use Rattle.backend_sweep.proofs.Allowed.{may_sweep}
 use Rattle.backend_sweep.proofs.NamesStand.{names_stand}
 use Rattle.backend_sweep.proofs.Backs.{held_blobs, held_ingests, ready, news_apart, swept_by, count_by}
-use Rattle.backend_sweep.proofs.backends.sweep_shards.Goals as goal
+use Rattle.backend_sweep.proofs.backends.sweep_by.Goals as goal
 
 -- the plan's names stand by snapshotter
 pub take-requires-after_bounds : goal.take-requires-after_bounds
