@@ -1,22 +1,19 @@
 -- What is said of the rows that were read holds of the records that they were read from: namespaces
 -- and the next number lead no path anywhere.
-use Rattle.std.proofs.Common.{inl, ◌≡◌, ◌+◌, ℕ, Bool, true, false, not, List, [], ◌∷◌, length, refl, sym, ap, ◌∙◌, subst, ℤ}
+use Rattle.std.proofs.Common.{◌≡◌, ◌+◌, ℕ, Bool, true, false, List, [], ◌∷◌, length, refl, sym, ap, ◌∙◌, subst, ℤ}
 use Rattle.std.specs.Prelude.{Contains, IsTrue, None, Result, Ok, Err, OnErr, ◌*◌, nat_lt}
-use Rattle.std.specs.Result.{IsErrAnd}
-use Rattle.meta_types.specs.Limits.{is_worker_count, is_too_large}
+use Rattle.meta_types.specs.Limits.{is_too_large}
 use Rattle.meta_types.specs.declared.limits.TheConstants.{MAX_NODES}
 use Rattle.table_sweep.specs.InKeyOrder.{records_in_key_order}
 use Rattle.table_sweep.proofs.RecordsArrived.{as_large}
-use Rattle.meta_types.specs.Reports.{Report}
-use Rattle.meta_types.specs.declared.fault.Fault.{Fault}
-use Rattle.meta_types.specs.declared.fault.Fault.TheVariants.{InvalidArgument, OutOfMemory}
-use Rattle.steal_mark.specs.Refusing.{RefusesThreads}
-use Rattle.meta_types.specs.Faults.{least_of, Refuses, unless}
+use Rattle.meta_types.specs.Faults.{least_of}
 use Rattle.meta_types.specs.Rows.{Records, BackLists}
 use Rattle.meta_types.specs.Paths.{Thing, things, is_root, IsPath, TellsReached}
 use Rattle.table_sweep.specs.declared.planning.Plan.{Plan}
 use Rattle.table_sweep.specs.Plans.{dry_report_of, IsPlanOfRows}
 use Rattle.backend_sweep.specs.Planned.{IsPlanOf}
+use Rattle.collection.specs.Stores.{records_in}
+use Rattle.request_core.specs.declared.state.Records.{Records as Kept}
 
 -- ---- paths
 
@@ -129,22 +126,20 @@ large_arrived rows arrived e few = ap is_too_large e ∙ sym (as_large arrived) 
 
 -- ---- checks
 
--- where no fault applies, the workers are allowed and the rows aren't too many
-pub no_fault : (workers large : Bool) → least_of (not workers) false false large ≡ None
-    → (workers ≡ true) × (large ≡ false)
-no_fault true true e = absurd cc
-no_fault true false e = (refl, refl)
-no_fault false large e = absurd cc
+-- the records that a store lends are its records
+pub lent_are : (kept : Kept) (r : Records) → kept.tables ≡ r.tables → kept.leases ≡ r.leases
+    → kept.next ≡ r.next → kept.profile ≡ r.profile → records_in kept ≡ r
+lent_are kept r tables leases next profile = λ i. record {
+  tables = tables i;
+  leases = leases i;
+  next = next i;
+  profile = profile i;
+}
 
--- a sweep that is refused, the workers being allowed, wanted memory
-pub swept_fails : (X : Type 0) (workers : ℕ) (result : Result Report Fault) (fault : Fault)
-    → is_worker_count workers ≡ true → IsErrAnd result (λ other. other ≡ fault)
-    → Refuses {X = X} (Err fault) (unless (is_worker_count workers) InvalidArgument)
-    → RefusesThreads result None
-swept_fails X workers (Ok report) fault allowed same h = absurd same
-swept_fails X workers (Err other) fault allowed same h =
-    let memory : fault ≡ OutOfMemory = subst (λ (b : Bool). Refuses {X = X} (Err fault) (unless b InvalidArgument)) allowed h in
-    inl (same ∙ memory)
+-- where no fault applies, the rows aren't too many
+pub are_few : (large : Bool) → least_of false false false large ≡ None → large ≡ false
+are_few true e = absurd cc
+are_few false e = refl
 
 -- what holds where a call is refused leads to more there
 pub at_err : {X E : Type 0} (result : Result X E) (A B : Type 0) → (A → B) → OnErr result A

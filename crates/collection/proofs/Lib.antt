@@ -1,5 +1,6 @@
 pub mod Bridges
 pub mod SweptPlans
+pub mod Telling
 pub mod Wholes
 pub mod Removing
 pub mod LeftOut

@@ -1,7 +1,8 @@
--- Room for the names of a report. Ours, unless a source stands beside.
-use Rattle.std.specs.Prelude.{◌≡◌, ◌≤◌, List, [], length}
+-- Room for the names of a report, where a device may fail. Ours, unless a source stands beside.
+use Rattle.std.specs.Prelude.{◌≡◌, ◌≤◌, Bool, false, List, [], length, Option, None, Some}
 use Rattle.std.specs.Vec.{vec_capacity}
-use Rattle.meta_types.specs.Backends.{BackNames}
+use Rattle.meta_types.specs.Backends.{BackNames, no_objects}
+use Rattle.backend_sweep.specs.Fated.{AllFates, removed_of, failed_of}
 use Rattle.collection.specs.declared.reporting.Room.{Room}
 use Rattle.collection.specs.declared.reporting.Rooms.{Rooms}
 
@@ -15,3 +16,18 @@ pub record HasRoomFor (names : BackNames) (rooms : Rooms) : Type 0 where
   pub blobs : IsRoomFor names.blobs rooms.blobs
   pub ingests : IsRoomFor names.ingests rooms.ingests
   pub snapshots : IsRoomFor names.snapshots rooms.snapshots
+
+-- there is room for all these objects where a device may fail, and none where no device ever fails
+abbrev pub AreRoomsFor : Bool → BackNames → Option Rooms → Type 0
+AreRoomsFor may_fail names None = may_fail ≡ false
+AreRoomsFor may_fail names (Some rooms) = HasRoomFor names rooms
+
+-- all these objects went, and none failed
+pub record AllWent (names : BackNames) (fates : AllFates) : Type 0 where
+  pub all : removed_of names fates ≡ names
+  pub none : failed_of names fates ≡ no_objects
+
+-- these fates can be told without memory: there is room for all objects, or all went
+abbrev pub CanTell : BackNames → AllFates → Option Rooms → Type 0
+CanTell names fates None = AllWent names fates
+CanTell names fates (Some rooms) = HasRoomFor names rooms

@@ -1,6 +1,6 @@
 //! Records whose rows stand as they arrived.
-ghost use Rattle.std.specs.Prelude.{◌≡◌, None, IfOk, option_copied, true, false};
-ghost use Rattle.meta_types.specs.Limits.{is_worker_count, is_too_large};
+ghost use Rattle.std.specs.Prelude.{◌≡◌, None, IfOk, option_copied, false};
+ghost use Rattle.meta_types.specs.Limits.{is_too_large};
 ghost use Rattle.steal_mark.specs.Refusing.{RefusesThreads};
 ghost use Rattle.collection.specs.Arrived.{in_order, arrived_in};
 ghost use Rattle.collection.specs.Leaving.{IsPlanLess};
@@ -8,6 +8,7 @@ ghost use Rattle.collection.specs.Stores.{records_in};
 ghost use Rattle.table_sweep.specs.Backed.{lists_of};
 ghost use Rattle.table_sweep.specs.BlobMarks.{AreBlobMarks};
 
+use crate::crew::Crew;
 use crate::leaving::{Planned, leave};
 use crate::planning::plan_listed;
 use crate::removal::Named;
@@ -34,28 +35,22 @@ pub(crate) struct ArrivedRecords {
     pub(crate) profile: u8,
 }
 
-/// A collection that is asked for: its moment, how many workers it has and at which gates, and the
-/// row that is removed with it.
+/// A collection that is asked for: its moment, and the row that is removed with it.
 #[derive(Drop)]
-pub(crate) struct Asked<'g, 's, 'n, G: Gate, H: SweepGate> {
+pub(crate) struct Asked<'n> {
     pub(crate) at: Instant,
-    pub(crate) workers: usize,
-    pub(crate) gate: &'g G,
-    pub(crate) sweep_gate: &'s H,
     pub(crate) without: Option<&'n Named>,
 }
 
 impl ArrivedRecords {
-    /// The plan of a collection of these records without what is named, by the marks of this number
-    /// of workers. Its masks are of the rows that are listed.
+    /// The plan of a collection of these records without what is named. Its masks are of the rows that
+    /// are listed.
     pub(crate) fn plan<R: Threads + Wait + Sync, G: Gate, H: SweepGate>(
         &self,
-        rt: &R,
-        alloc: Global,
+        crew: &Crew<'_, R, G, H>,
         back: &BackRows<'_>,
-        asked: &Asked<'_, '_, '_, G, H>,
+        asked: &Asked<'_>,
     ) -> Result<Planned, Fault>
-        requires workers { is_worker_count asked.now.workers ≡ true }
         requires few { is_too_large (records_in (in_order self.now)) ≡ false }
         ensures fault { RefusesThreads result None }
         ensures ok { IfOk result (IsPlanLess (arrived_in self.now) (option_copied asked.now.without)
@@ -65,18 +60,10 @@ impl ArrivedRecords {
     {
         let arrived = self.tables.rows();
         let namespaces = self.tables.count_ns();
+        let alloc = crew.alloc;
         let mut listed = ListedRows::new(alloc, &arrived, &self.leases, self.profile)?;
         let others = leave(alloc, &mut listed, asked.without)?;
-        let plan = plan_listed(
-            rt,
-            alloc,
-            &listed,
-            namespaces,
-            back,
-            asked.at,
-            asked.workers,
-            asked.gate,
-        )?;
+        let plan = plan_listed(crew, &listed, namespaces, back, asked.at)?;
         Ok(Planned { others, plan })
     }
 }

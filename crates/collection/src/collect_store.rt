@@ -1,14 +1,12 @@
 //! A collection of a store, from its check to its report.
-ghost use Rattle.std.specs.Prelude.{◌≡◌, ◌+◌, None, IfOk, OnErr, option_copied, true, false};
+ghost use Rattle.std.specs.Prelude.{◌≡◌, ◌+◌, None, IfOk, OnErr, option_copied, false};
 ghost use Rattle.meta_types.specs.Collected.{collected_records};
-ghost use Rattle.meta_types.specs.Faults.{Refuses, unless};
-ghost use Rattle.meta_types.specs.Limits.{is_worker_count, is_too_large};
+ghost use Rattle.meta_types.specs.Faults.{Refuses};
+ghost use Rattle.meta_types.specs.Limits.{is_too_large};
 ghost use Rattle.meta_types.specs.Reports.{Collects};
 ghost use Rattle.meta_types.specs.Rows.{lease_key};
 ghost use Rattle.meta_types.specs.Sound.{IsSound};
-ghost use Rattle.meta_types.specs.Steps.{collect_fault};
-ghost use Rattle.meta_types.specs.declared.fault.Fault.TheVariants.{InvalidArgument};
-ghost use Rattle.back_model.specs.Shown.{all_failures};
+ghost use Rattle.back_model.specs.Held.{held, failures};
 ghost use Rattle.row_tables.specs.Arrived.{sorted};
 ghost use Rattle.object_tables.specs.InKeyOrder.{in_key_order};
 ghost use Rattle.steal_mark.specs.Refusing.{RefusesThreads};
@@ -17,30 +15,31 @@ ghost use Rattle.table_sweep.specs.InKeyOrder.{records_in_key_order};
 ghost use Rattle.table_sweep.specs.Stays.{AreMasks, FitRows, StayNumbered, Collection};
 ghost use Rattle.collection.specs.Arrived.{in_order, arrived_in};
 ghost use Rattle.collection.specs.Leaving.{less, FitOthers, tables_by, leases_by, IsPlanLess};
+ghost use Rattle.collection.specs.Refused.{large_fault};
 ghost use Rattle.collection.specs.Stores.{records_in, store_in};
 ghost use Rattle.backend_sweep.specs.Planned.{IsPlanned};
 ghost use Rattle.backend_sweep.specs.Fated.{AreFatesOf, failed_of};
-ghost use Rattle.backend_sweep.specs.Swept.{count_names, held_in, SweepsNames};
+ghost use Rattle.backend_sweep.specs.Swept.{count_names, SweepsNames};
 
 use crate::arrived::{ArrivedRecords, Asked, put_back, take_out};
-use crate::checks::check;
+use crate::crew::Crew;
 use crate::keeps::Keeps;
 use crate::leaving::Planned;
-use crate::reporting::Rooms;
+use crate::planning::check;
+use crate::reporting::may_fail;
 use crate::reports::Reports;
-use crate::spare::{reports_of, spares_of};
+use crate::spare::{Ready, reports_of};
 use back_model::{Backends, BlobBackend, IngestBackend, SnapBackend};
-use backend_sweep::{Fates, SweepGate, sweep_shards};
+use backend_sweep::{Fates, SweepGate, rows_lent, sweep_by};
 use lease_book::Lease;
 use meta_types::{Fault, Instant, Name};
 use object_tables::ArrivedTables;
-use request_core::Records;
+use request_core::State;
 use row_tables::ArrivedByNamespace;
-use std::alloc::Global;
+use std::mem::drop;
 use std::sync::Wait;
 use std::thread::Threads;
 use steal_mark::Gate;
-use table_sweep::BackRows;
 
 // The plan of a collection of these records and of what the backends hold: digests are lent, and
 // no blob is copied to be listed.
@@ -52,46 +51,40 @@ fn plan_held<
     G: Gate,
     H: SweepGate,
 >(
-    rt: &R,
-    alloc: Global,
+    crew: &Crew<'_, R, G, H>,
     arrived: &ArrivedRecords,
     backends: &Backends<S, B, I>,
-    asked: &Asked<'_, '_, '_, G, H>,
+    asked: &Asked<'_>,
 ) -> Result<Planned, Fault>
-    requires workers { is_worker_count asked.now.workers ≡ true }
     requires few { is_too_large (records_in (in_order arrived.now)) ≡ false }
     ensures fault { RefusesThreads result None }
     ensures ok { IfOk result (IsPlanLess (arrived_in arrived.now) (option_copied asked.now.without)
-        (held_in backends.now.shards (B.contents backends.now.blobs)
-        (I.contents backends.now.ingests)) asked.now.at.0) }
+        (held B.contents I.contents backends.now) asked.now.at.0) }
     ensures blobs { IfOk result (λ planned. AreBlobMarks planned.plan.report.backend.blobs
         (B.arrived backends.now.blobs) planned.plan.blobs.items) }
 {
-    let snapshots = backends.snaps(alloc)?;
-    let ingests = backends.ingests().numbers(alloc)?;
-    let back = BackRows {
-        blobs: backends.blobs().digests(),
-        snapshots: &snapshots,
-        ingests: &ingests,
-    };
-    let planned = arrived.plan(rt, alloc, &back, asked)?;
+    let lent = backends.lent(crew.alloc)?;
+    let planned = arrived.plan(crew, &rows_lent(&lent), asked)?;
     Ok(planned)
 }
 
 // Removes what the plan names from the backends, and the plan's rows beside. Nothing is removed
 // where it is refused.
-fn sweep_all<R: Threads + Sync, S: SnapBackend, B: BlobBackend, I: IngestBackend, H: SweepGate>(
-    rt: &R,
-    alloc: Global,
+fn sweep_all<
+    R: Threads + Sync,
+    S: SnapBackend,
+    B: BlobBackend,
+    I: IngestBackend,
+    G: Gate,
+    H: SweepGate,
+>(
+    crew: &Crew<'_, R, G, H>,
     tables: &mut ArrivedTables,
     leases: &mut ArrivedByNamespace<Name, Lease>,
     backends: &mut Backends<S, B, I>,
     planned: &Planned,
-    workers: usize,
-    gate: &H,
 ) -> Result<Fates, Fault>
-    requires planned { IsPlanned (held_in backends.old.shards (B.contents backends.old.blobs)
-        (I.contents backends.old.ingests)) planned.now.plan }
+    requires planned { IsPlanned (held B.contents I.contents backends.old) planned.now.plan }
     requires marks { AreBlobMarks planned.now.plan.report.backend.blobs
         (B.arrived backends.old.blobs) planned.now.plan.blobs.items }
     requires others { FitOthers planned.now.others tables.old.images leases.old }
@@ -99,17 +92,13 @@ fn sweep_all<R: Threads + Sync, S: SnapBackend, B: BlobBackend, I: IngestBackend
         (leases_by planned.now.others leases.old) planned.now.plan.masks }
     requires numbered { StayNumbered (tables_by planned.now.others tables.old)
         planned.now.plan.masks }
-    ensures fault { Refuses result (unless (is_worker_count workers) InvalidArgument) }
+    ensures fault { Refuses result None }
     ensures ok { IfOk result (SweepsNames planned.now.plan.report.backend
-        (held_in backends.old.shards (B.contents backends.old.blobs)
-        (I.contents backends.old.ingests))
-        (held_in backends.new.shards (B.contents backends.new.blobs)
-        (I.contents backends.new.ingests))) }
+        (held B.contents I.contents backends.old)
+        (held B.contents I.contents backends.new)) }
     ensures of { IfOk result (AreFatesOf planned.now.plan.report.backend) }
-    ensures count { IfOk result (λ fates. all_failures backends.new.shards
-        + B.fails backends.new.blobs + I.fails backends.new.ingests
-        ≡ all_failures backends.old.shards + B.fails backends.old.blobs
-        + I.fails backends.old.ingests + count_names (failed_of planned.now.plan.report.backend fates)) }
+    ensures count { IfOk result (λ fates. failures B.fails I.fails backends.new
+        ≡ failures B.fails I.fails backends.old + count_names (failed_of planned.now.plan.report.backend fates)) }
     ensures tables { IfOk result (λ _. (of : Collection)
         → tables_by planned.now.others tables.old ≡ of.records.tables
         → AreMasks of.records of.at of.reached planned.now.plan.masks
@@ -124,13 +113,16 @@ fn sweep_all<R: Threads + Sync, S: SnapBackend, B: BlobBackend, I: IngestBackend
     ensures leases_err { OnErr result (leases.new ≡ leases.old) }
     ensures backends_err { OnErr result (backends.new ≡ backends.old) }
 {
-    let fates = sweep_shards(
-        rt,
-        alloc,
+    let sweepers = backend_sweep::Crew {
+        rt: crew.rt,
+        workers: crew.workers,
+        gate: crew.sweep_gate,
+    };
+    let fates = sweep_by(
+        &sweepers,
+        crew.alloc,
         backends,
         &planned.plan,
-        workers,
-        gate,
         &mut ||
             requires { FitOthers planned.now.others tables.now.images leases.now
                 × FitRows (tables_by planned.now.others tables.now)
@@ -162,48 +154,52 @@ fn collect_arrived<
     H: SweepGate,
     K: Keeps,
 >(
-    rt: &R,
-    alloc: Global,
+    crew: &Crew<'_, R, G, H>,
     arrived: &mut ArrivedRecords,
     backends: &mut Backends<S, B, I>,
-    asked: &Asked<'_, '_, '_, G, H>,
+    asked: &Asked<'_>,
 ) -> Result<Reports<K>, Fault>
-    requires sound { IsSound (store_in (in_order arrived.old) backends.old.shards
-        (B.contents backends.old.blobs) (I.contents backends.old.ingests)) }
-    requires workers { is_worker_count asked.now.workers ≡ true }
+    requires sound { IsSound (store_in (in_order arrived.old) (held B.contents I.contents backends.old)) }
     requires few { is_too_large (records_in (in_order arrived.old)) ≡ false }
     ensures fault { RefusesThreads result None }
     ensures ok { IfOk result (λ report. Collects (record {
       records = less (records_in (in_order arrived.old)) (option_copied asked.now.without);
-      backends = held_in backends.old.shards (B.contents backends.old.blobs)
-          (I.contents backends.old.ingests);
-    }) asked.now.at.0 report.failed report (store_in (in_order arrived.new) backends.new.shards
-        (B.contents backends.new.blobs) (I.contents backends.new.ingests))) }
-    ensures count { IfOk result (λ report. all_failures backends.new.shards
-        + B.fails backends.new.blobs + I.fails backends.new.ingests
-        ≡ all_failures backends.old.shards + B.fails backends.old.blobs
-        + I.fails backends.old.ingests + count_names report.failed) }
+      backends = held B.contents I.contents backends.old;
+    }) asked.now.at.0 report.failed report (store_in (in_order arrived.new) (held B.contents I.contents backends.new))) }
+    ensures count { IfOk result (λ report. failures B.fails I.fails backends.new
+        ≡ failures B.fails I.fails backends.old + count_names report.failed) }
     ensures arrived_err { OnErr result (arrived.new ≡ arrived.old) }
     ensures backends_err { OnErr result (backends.new ≡ backends.old) }
-    ensures sound { IsSound (store_in (in_order arrived.new) backends.new.shards
-        (B.contents backends.new.blobs) (I.contents backends.new.ingests)) }
+    ensures sound { IsSound (store_in (in_order arrived.new) (held B.contents I.contents backends.new)) }
 {
-    let planned = plan_held(rt, alloc, arrived, backends, asked)?;
-    let spares = spares_of::<K>(alloc, &planned.plan)?;
-    let rooms = Rooms::of(alloc, &planned.plan)?;
-    asked.sweep_gate.before_sweep(alloc, &planned.plan.report)?;
-    let fates = sweep_all(
-        rt,
-        alloc,
-        &mut arrived.tables,
-        &mut arrived.leases,
-        backends,
-        &planned,
-        asked.workers,
-        asked.sweep_gate,
-    )?;
+    let planned = plan_held(crew, arrived, backends, asked)?;
+    let alloc = crew.alloc;
+    let may = may_fail::<S, B, I>();
+    let ready = match Ready::of::<K>(alloc, &planned.plan, may) {
+        Ok(ready) => ready,
+        Err(fault) => {
+            drop(planned);
+            return Err(fault);
+        }
+    };
+    if let Err(fault) = crew.sweep_gate.before_sweep(alloc, &planned.plan.report) {
+        drop(ready);
+        drop(planned);
+        return Err(fault);
+    }
+    let tables = &mut arrived.tables;
+    let leases = &mut arrived.leases;
+    let fates = match sweep_all(crew, tables, leases, backends, &planned) {
+        Ok(fates) => fates,
+        Err(fault) => {
+            drop(ready);
+            drop(planned);
+            return Err(fault);
+        }
+    };
+    backends.none_failed();
     let Planned { others: _, plan } = planned;
-    Ok(reports_of(plan, fates, rooms, spares))
+    Ok(reports_of(plan, fates, ready))
 }
 
 // Collects records without what is named, where no fault applies.
@@ -216,34 +212,25 @@ pub(crate) fn collect_checked<
     H: SweepGate,
     K: Keeps,
 >(
-    rt: &R,
-    alloc: Global,
-    records: &mut Records,
-    backends: &mut Backends<S, B, I>,
-    asked: &Asked<'_, '_, '_, G, H>,
+    crew: &Crew<'_, R, G, H>,
+    state: &mut State<S, B, I>,
+    asked: &Asked<'_>,
 ) -> Result<Reports<K>, Fault>
-    requires sound { IsSound (store_in records.old backends.old.shards
-        (B.contents backends.old.blobs) (I.contents backends.old.ingests)) }
-    requires workers { is_worker_count asked.now.workers ≡ true }
-    requires few { is_too_large (records_in records.old) ≡ false }
+    requires sound { IsSound state.old.state }
+    requires few { is_too_large state.old.state.records ≡ false }
     ensures fault { RefusesThreads result None }
     ensures ok { IfOk result (λ report. Collects (record {
-      records = less (records_in records.old) (option_copied asked.now.without);
-      backends = held_in backends.old.shards (B.contents backends.old.blobs)
-          (I.contents backends.old.ingests);
-    }) asked.now.at.0 report.failed report (store_in records.new backends.new.shards
-        (B.contents backends.new.blobs) (I.contents backends.new.ingests))) }
-    ensures count { IfOk result (λ report. all_failures backends.new.shards
-        + B.fails backends.new.blobs + I.fails backends.new.ingests
-        ≡ all_failures backends.old.shards + B.fails backends.old.blobs
-        + I.fails backends.old.ingests + count_names report.failed) }
-    ensures records_err { OnErr result (records.new ≡ records.old) }
-    ensures backends_err { OnErr result (backends.new ≡ backends.old) }
-    ensures sound { IsSound (store_in records.new backends.new.shards
-        (B.contents backends.new.blobs) (I.contents backends.new.ingests)) }
+      records = less state.old.state.records (option_copied asked.now.without);
+      backends = state.old.state.backends;
+    }) asked.now.at.0 report.failed report state.new.state) }
+    ensures count { IfOk result (λ report. state.new.failures
+        ≡ state.old.failures + count_names report.failed) }
+    ensures err { OnErr result (state.new ≡ state.old) }
+    ensures sound { IsSound state.new.state }
 {
-    let mut arrived = take_out(alloc, records);
-    let reports = collect_arrived(rt, alloc, &mut arrived, backends, asked);
+    let State { records, backends } = state;
+    let mut arrived = take_out(crew.alloc, records);
+    let reports = collect_arrived(crew, &mut arrived, backends, asked);
     put_back(records, arrived);
     reports
 }
@@ -258,40 +245,18 @@ pub fn collect<
     G: Gate,
     H: SweepGate,
     K: Keeps,
->(
-    rt: &R,
-    alloc: Global,
-    records: &mut Records,
-    backends: &mut Backends<S, B, I>,
-    at: Instant,
-    workers: usize,
-    gate: &G,
-    sweep_gate: &H,
-) -> Result<Reports<K>, Fault>
-    requires { IsSound (store_in records.old backends.old.shards (B.contents backends.old.blobs)
-        (I.contents backends.old.ingests)) }
-    ensures fault { RefusesThreads result (collect_fault (records_in records.old) workers) }
-    ensures ok { IfOk result (λ report. Collects (store_in records.old backends.old.shards
-        (B.contents backends.old.blobs) (I.contents backends.old.ingests)) at.0 report.failed report
-        (store_in records.new backends.new.shards (B.contents backends.new.blobs)
-        (I.contents backends.new.ingests))) }
-    ensures count { IfOk result (λ report. all_failures backends.new.shards
-        + B.fails backends.new.blobs + I.fails backends.new.ingests
-        ≡ all_failures backends.old.shards + B.fails backends.old.blobs
-        + I.fails backends.old.ingests + count_names report.failed) }
-    ensures records_err { OnErr result (records.new ≡ records.old) }
-    ensures backends_err { OnErr result (backends.new ≡ backends.old) }
-    ensures sound { IsSound (store_in records.new backends.new.shards (B.contents backends.new.blobs)
-        (I.contents backends.new.ingests)) }
+>(crew: &Crew<'_, R, G, H>, state: &mut State<S, B, I>, at: Instant) -> Result<Reports<K>, Fault>
+    requires { IsSound state.old.state }
+    ensures fault { RefusesThreads result (large_fault state.old.state.records) }
+    ensures ok { IfOk result (λ report. Collects state.old.state at.0 report.failed report
+        state.new.state) }
+    ensures count { IfOk result (λ report. state.new.failures
+        ≡ state.old.failures + count_names report.failed) }
+    ensures err { OnErr result (state.new ≡ state.old) }
+    ensures sound { IsSound state.new.state }
 {
-    check(records, workers)?;
-    let asked = Asked {
-        at,
-        workers,
-        gate,
-        sweep_gate,
-        without: None,
-    };
-    let reports = collect_checked(rt, alloc, records, backends, &asked)?;
+    check(state.records())?;
+    let asked = Asked { at, without: None };
+    let reports = collect_checked(crew, state, &asked)?;
     Ok(reports)
 }

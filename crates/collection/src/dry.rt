@@ -2,29 +2,31 @@
 //! thread alone, also of records without a row.
 ghost use Rattle.std.specs.Prelude.{◌≡◌, length, None, false, true, IfOk};
 ghost use Rattle.meta_types.specs.Faults.{Refuses};
+ghost use Rattle.back_model.specs.Held.{lists_in};
 ghost use Rattle.meta_types.specs.Limits.{is_too_large};
 ghost use Rattle.meta_types.specs.Reports.{Plans};
 ghost use Rattle.gc_graph.specs.Built.{AreApart};
 ghost use Rattle.gc_graph.specs.Stored.{records_of, AreLent};
 ghost use Rattle.collection.specs.Impacts.{has_number, is_parent, less_row};
-ghost use Rattle.collection.specs.Stores.{records_in, lists_in, store_in};
+ghost use Rattle.collection.specs.Refused.{large_fault};
+ghost use Rattle.collection.specs.Stores.{records_in};
 ghost use Rattle.table_sweep.specs.Backed.{lists_of};
 ghost use Rattle.table_sweep.specs.Plans.{IsPlanOfRows, IsPlanOf};
 ghost use Rattle.meta_types.specs.Sound.{AreTables};
-ghost use Rattle.meta_types.specs.Steps.{collect_fault};
 ghost use Rattle.steal_mark.specs.Refusing.{RefusesThreads};
 
-use crate::checks::check;
+use crate::crew::Crew;
 use crate::keeps::Keeps;
-use crate::planning::plan_store;
+use crate::planning::{check, plan_store};
 use crate::reports::Reports;
 use crate::row_name::RowName;
-use back_model::{BackLists, Backends, BlobBackend, IngestBackend, SnapBackend};
+use back_model::{BackLists, BlobBackend, IngestBackend, SnapBackend};
+use backend_sweep::{SweepGate, rows_lent, rows_listed};
 use gc_graph::{ListedRows, StoreRows, build};
 use gc_report::Report;
 use mark_core::mark_plain;
 use meta_types::{Fault, Instant};
-use request_core::Records;
+use request_core::{Records, State};
 use std::alloc::Global;
 use std::sync::Wait;
 use std::thread::Threads;
@@ -32,17 +34,14 @@ use steal_mark::Gate;
 use table_sweep::{BackRows, Plan, plan_of};
 
 // What a collection of these records and of what is lent would report.
-fn dry_lent<R: Threads + Wait + Sync, G: Gate>(
-    rt: &R,
-    alloc: Global,
+fn dry_lent<R: Threads + Wait + Sync, G: Gate, H: SweepGate>(
+    crew: &Crew<'_, R, G, H>,
     records: &Records,
     back: &BackRows<'_>,
     at: Instant,
-    workers: usize,
-    gate: &G,
 ) -> Result<Report, Fault>
     requires { AreTables records.now.tables }
-    ensures fault { RefusesThreads result (collect_fault (records_in records.now) workers) }
+    ensures fault { RefusesThreads result (large_fault (records_in records.now)) }
     ensures ok { IfOk result (λ report. Plans (record {
       records = records_in records.now;
       backends = lists_of back.now;
@@ -52,33 +51,25 @@ fn dry_lent<R: Threads + Wait + Sync, G: Gate>(
         masks: _,
         blobs: _,
         report,
-    } = plan_store(rt, alloc, records, back, at, workers, gate)?;
+    } = plan_store(crew, records, back, at)?;
     Ok(report)
 }
 
 /// What a collection of these records and lists would report.
-pub fn dry_report<R: Threads + Wait + Sync, G: Gate>(
-    rt: &R,
-    alloc: Global,
+pub fn dry_report<R: Threads + Wait + Sync, G: Gate, H: SweepGate>(
+    crew: &Crew<'_, R, G, H>,
     records: &Records,
     back: &BackLists,
     at: Instant,
-    workers: usize,
-    gate: &G,
 ) -> Result<Report, Fault>
     requires { AreTables records.now.tables }
-    ensures fault { RefusesThreads result (collect_fault (records_in records.now) workers) }
+    ensures fault { RefusesThreads result (large_fault (records_in records.now)) }
     ensures ok { IfOk result (λ report. Plans (record {
       records = records_in records.now;
       backends = lists_in back.now;
     }) at.0 report) }
 {
-    let lent = BackRows {
-        blobs: &back.blobs,
-        snapshots: &back.snapshots,
-        ingests: &back.ingests,
-    };
-    dry_lent(rt, alloc, records, &lent, at, workers, gate)
+    dry_lent(crew, records, &rows_listed(back), at)
 }
 
 /// What a collection of this store would report. Nothing is swept.
@@ -88,31 +79,18 @@ pub fn dry_run<
     B: BlobBackend,
     I: IngestBackend,
     G: Gate,
+    H: SweepGate,
     K: Keeps,
->(
-    rt: &R,
-    alloc: Global,
-    records: &Records,
-    backends: &Backends<S, B, I>,
-    at: Instant,
-    workers: usize,
-    gate: &G,
-) -> Result<Reports<K>, Fault>
-    requires { AreTables records.now.tables }
-    ensures fault { RefusesThreads result (collect_fault (records_in records.now) workers) }
-    ensures ok { IfOk result (λ report. Plans (store_in records.now backends.now.shards
-        (B.contents backends.now.blobs) (I.contents backends.now.ingests)) at.0 report) }
+>(crew: &Crew<'_, R, G, H>, state: &State<S, B, I>, at: Instant) -> Result<Reports<K>, Fault>
+    requires { AreTables state.now.state.records.tables }
+    ensures fault { RefusesThreads result (large_fault state.now.state.records) }
+    ensures ok { IfOk result (λ report. Plans state.now.state at.0 report) }
 {
-    check(records, workers)?;
-    let snapshots = backends.snaps(alloc)?;
-    let ingests = backends.ingests().numbers(alloc)?;
-    let back = BackRows {
-        blobs: backends.blobs().digests(),
-        snapshots: &snapshots,
-        ingests: &ingests,
-    };
-    let report = dry_lent(rt, alloc, records, &back, at, workers, gate)?;
-    Ok(Reports::of(alloc, report)?)
+    let State { records, backends } = state;
+    check(records)?;
+    let lent = backends.lent(crew.alloc)?;
+    let report = dry_lent(crew, records, &rows_lent(&lent), at)?;
+    Ok(Reports::of(crew.alloc, report)?)
 }
 
 // One worker reads labels, which is the calling thread.

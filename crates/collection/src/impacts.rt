@@ -1,18 +1,20 @@
 //! What would go without a row.
 ghost use Rattle.std.specs.Prelude.{◌≡◌, IfOk, None, false};
 ghost use Rattle.meta_types.specs.Faults.{Refuses};
+ghost use Rattle.back_model.specs.Held.{lists_in};
 ghost use Rattle.meta_types.specs.Limits.{is_too_large};
 ghost use Rattle.meta_types.specs.Impacts.{impact_fault, removed, IsImpact};
 ghost use Rattle.table_sweep.specs.Backed.{lists_of};
 ghost use Rattle.collection.specs.Impacts.{less_row, is_parent};
-ghost use Rattle.collection.specs.Stores.{records_in, lists_in, store_in};
+ghost use Rattle.collection.specs.Stores.{records_in};
 
 use crate::dry::{dry_alone, dry_less};
 use crate::row_name::RowName;
-use back_model::{BackLists, Backends, BlobBackend, IngestBackend, SnapBackend};
+use back_model::{BackLists, BlobBackend, IngestBackend, SnapBackend};
+use backend_sweep::{rows_lent, rows_listed};
 use gc_report::Impact;
 use meta_types::{Fault, Instant, Object, ShortName};
-use request_core::Records;
+use request_core::{Records, State};
 use std::alloc::Global;
 use std::thread::Threads;
 use table_sweep::BackRows;
@@ -63,39 +65,25 @@ pub fn impact_of_lists<R: Threads + Sync>(
 {
     let row = RowName::of(ns, object);
     row.check(records)?;
-    let lent = BackRows {
-        blobs: &back.blobs,
-        snapshots: &back.snapshots,
-        ingests: &back.ingests,
-    };
-    impact_lent(rt, alloc, records, &lent, &row, at)
+    impact_lent(rt, alloc, records, &rows_listed(back), &row, at)
 }
 
 /// What would go at a moment without a row of this store, which stays as it is.
 pub fn impact<R: Threads + Sync, S: SnapBackend, B: BlobBackend, I: IngestBackend>(
     rt: &R,
     alloc: Global,
-    records: &Records,
-    backends: &Backends<S, B, I>,
+    state: &State<S, B, I>,
     ns: ShortName,
     object: Object,
     at: Instant,
 ) -> Result<Impact, Fault>
-    ensures fault { Refuses result (impact_fault (store_in records.now backends.now.shards
-        (B.contents backends.now.blobs) (I.contents backends.now.ingests)) ns object) }
-    ensures ok { IfOk result (λ impact. IsImpact (store_in records.now backends.now.shards
-        (B.contents backends.now.blobs) (I.contents backends.now.ingests))
-        (removed (store_in records.now backends.now.shards (B.contents backends.now.blobs)
-        (I.contents backends.now.ingests)) ns object).after at.0 impact) }
+    ensures fault { Refuses result (impact_fault state.now.state ns object) }
+    ensures ok { IfOk result (λ impact. IsImpact state.now.state
+        (removed state.now.state ns object).after at.0 impact) }
 {
+    let State { records, backends } = state;
     let row = RowName::of(ns, object);
     row.check(records)?;
-    let snapshots = backends.snaps(alloc)?;
-    let ingests = backends.ingests().numbers(alloc)?;
-    let held = BackRows {
-        blobs: backends.blobs().digests(),
-        snapshots: &snapshots,
-        ingests: &ingests,
-    };
-    impact_lent(rt, alloc, records, &held, &row, at)
+    let lent = backends.lent(alloc)?;
+    impact_lent(rt, alloc, records, &rows_lent(&lent), &row, at)
 }

@@ -9,18 +9,18 @@ pub trait Keeps {
 }
 
 /// It keeps the store at the opening, and each event since with its answer.
-pub struct Kept;
+pub struct WithHistory;
 
-impl Keeps for Kept {
+impl Keeps for WithHistory {
     ghost KEPT = { true };
 
     const KEPT: bool = true;
 }
 
 /// It keeps nothing but the store, and an event takes no memory for an entry.
-pub struct Unkept;
+pub struct WithoutHistory;
 
-impl Keeps for Unkept {
+impl Keeps for WithoutHistory {
     ghost KEPT = { false };
 
     const KEPT: bool = false;

@@ -2,8 +2,8 @@
 #![tactic(auto)]
 
 mod arrived;
-mod checks;
 mod collect_store;
+mod crew;
 mod dry;
 mod impacts;
 mod keeps;
@@ -16,11 +16,11 @@ mod reports;
 mod row_name;
 mod spare;
 
-pub use checks::check;
 pub use collect_store::collect;
+pub use crew::Crew;
 pub use dry::{dry_report, dry_run};
 pub use impacts::{impact, impact_of_lists};
-pub use keeps::{Keeps, Kept, Unkept};
+pub use keeps::{Keeps, WithHistory, WithoutHistory};
 pub use planning::plan_store;
 pub use removal::remove_collect;
 pub use reports::{Copies, Reports};

@@ -1,28 +1,27 @@
 //! A removal of an image or a lease and a collection, as one event.
-ghost use Rattle.std.specs.Prelude.{◌≡◌, ◌+◌, ◌∷◌, [], not, false, true, IfOk, OnErr};
+ghost use Rattle.std.specs.Prelude.{◌≡◌, ◌+◌, ◌∷◌, [], false, IfOk, OnErr};
 ghost use Rattle.meta_types.specs.Faults.{OnlyRefuses, least_of};
-ghost use Rattle.meta_types.specs.Limits.{is_worker_count, is_too_large};
+ghost use Rattle.meta_types.specs.Limits.{is_too_large};
 ghost use Rattle.meta_types.specs.Reports.{Collects};
 ghost use Rattle.meta_types.specs.Requests.{removal_outcome};
 ghost use Rattle.meta_types.specs.Sound.{IsSound};
 ghost use Rattle.meta_types.specs.Steps.{remove_collect_fault};
-ghost use Rattle.back_model.specs.Shown.{all_failures};
 ghost use Rattle.backend_sweep.specs.Swept.{count_names};
 ghost use Rattle.collection.specs.Refused.{RefusesCollect};
 ghost use Rattle.collection.specs.Removing.{ReadsTexts, is_readable, named_in, is_missing};
 ghost use Rattle.meta_types.specs.Changes.{all_of};
 ghost use Rattle.meta_types.specs.Text.{is_short_name, is_name};
-ghost use Rattle.collection.specs.Stores.{records_in, store_in};
+ghost use Rattle.collection.specs.Stores.{records_in};
 
 use crate::arrived::Asked;
-use crate::checks::is_too_large;
 use crate::collect_store::collect_checked;
+use crate::crew::Crew;
 use crate::keeps::Keeps;
 use crate::reports::Reports;
-use back_model::{Backends, BlobBackend, IngestBackend, SnapBackend};
+use back_model::{BlobBackend, IngestBackend, SnapBackend};
 use backend_sweep::SweepGate;
-use meta_types::{Fault, Instant, Name, RawName, Removal, ShortName, is_worker_count};
-use request_core::Records;
+use meta_types::{Fault, Instant, Name, RawName, Removal, ShortName};
+use request_core::{Records, State};
 use std::alloc::Global;
 use std::sync::Wait;
 use std::thread::Threads;
@@ -71,18 +70,14 @@ fn is_missing(records: &Records, named: &Named) -> bool
 }
 
 // The least fault of a removal with a collection, its texts being allowed; never OutOfMemory.
-fn check_removal(records: &Records, named: &Named, workers: usize) -> Result<(), Fault>
-    ensures { OnlyRefuses result (least_of (not (is_worker_count workers))
-        (is_missing (records_in records.now) named.now) false
-        (is_too_large (records_in records.now))) }
+fn check_removal(records: &Records, named: &Named) -> Result<(), Fault>
+    ensures { OnlyRefuses result (least_of false (is_missing (records_in records.now) named.now)
+        false (is_too_large (records_in records.now))) }
 {
-    if !is_worker_count(workers) {
-        return Err(Fault::InvalidArgument);
-    }
     if is_missing(records, named) {
         return Err(Fault::NotFound);
     }
-    if is_too_large(records) {
+    if records.is_too_large() {
         return Err(Fault::FailedPrecondition);
     }
     Ok(())
@@ -99,44 +94,28 @@ pub fn remove_collect<
     H: SweepGate,
     K: Keeps,
 >(
-    rt: &R,
-    alloc: Global,
-    records: &mut Records,
-    backends: &mut Backends<S, B, I>,
+    crew: &Crew<'_, R, G, H>,
+    state: &mut State<S, B, I>,
     removal: &Removal,
     at: Instant,
-    workers: usize,
-    gate: &G,
-    sweep_gate: &H,
 ) -> Result<Reports<K>, Fault>
-    requires { IsSound (store_in records.old backends.old.shards (B.contents backends.old.blobs)
-        (I.contents backends.old.ingests)) }
-    ensures fault { RefusesCollect result (remove_collect_fault (store_in records.old
-        backends.old.shards (B.contents backends.old.blobs) (I.contents backends.old.ingests))
-        removal.now workers) }
-    ensures ok { IfOk result (λ report. Collects (removal_outcome (store_in records.old
-        backends.old.shards (B.contents backends.old.blobs) (I.contents backends.old.ingests))
-        removal.now).after at.0 report.failed report
-        (store_in records.new backends.new.shards (B.contents backends.new.blobs)
-        (I.contents backends.new.ingests))) }
-    ensures count { IfOk result (λ report. all_failures backends.new.shards
-        + B.fails backends.new.blobs + I.fails backends.new.ingests
-        ≡ all_failures backends.old.shards + B.fails backends.old.blobs
-        + I.fails backends.old.ingests + count_names report.failed) }
-    ensures records_err { OnErr result (records.new ≡ records.old) }
-    ensures backends_err { OnErr result (backends.new ≡ backends.old) }
-    ensures sound { IsSound (store_in records.new backends.new.shards (B.contents backends.new.blobs)
-        (I.contents backends.new.ingests)) }
+    requires { IsSound state.old.state }
+    ensures fault { RefusesCollect result (remove_collect_fault state.old.state removal.now
+        crew.now.workers.count) }
+    ensures ok { IfOk result (λ report. Collects
+        (removal_outcome state.old.state removal.now).after at.0 report.failed report
+        state.new.state) }
+    ensures count { IfOk result (λ report. state.new.failures
+        ≡ state.old.failures + count_names report.failed) }
+    ensures err { OnErr result (state.new ≡ state.old) }
+    ensures sound { IsSound state.new.state }
 {
-    let named = read_removal(alloc, removal)?;
-    check_removal(records, &named, workers)?;
+    let named = read_removal(crew.alloc, removal)?;
+    check_removal(state.records(), &named)?;
     let asked = Asked {
         at,
-        workers,
-        gate,
-        sweep_gate,
         without: Some(&named),
     };
-    let reports = collect_checked(rt, alloc, records, backends, &asked)?;
+    let reports = collect_checked(crew, state, &asked)?;
     Ok(reports)
 }

@@ -1,12 +1,15 @@
 //! The report of a collection, from that of its dry run: names are dealt by what became of their
-//! objects, in room that is made before.
-ghost use Rattle.std.specs.Prelude.{◌≡◌, ◌≤◌, [], length, None, IfOk};
+//! objects, in room that is made before. Where no device ever fails all of them went, and no name
+//! is moved.
+ghost use Rattle.std.specs.Prelude.{◌≡◌, ◌≤◌, [], length, None, IfOk, false};
 ghost use Rattle.std.specs.Vec.{vec_capacity};
 ghost use Rattle.meta_types.specs.Faults.{Refuses};
 ghost use Rattle.backend_sweep.specs.Fated.{AreFatesOf, names_with, was_removed, has_failed, removed_of, failed_of};
-ghost use Rattle.collection.specs.Rooms.{IsRoomFor, HasRoomFor};
+ghost use Rattle.back_model.specs.Answers.{NeverFails};
+ghost use Rattle.collection.specs.Rooms.{IsRoomFor, HasRoomFor, AreRoomsFor, CanTell};
 ghost use Rattle.collection.specs.Whole.{reported};
 
+use back_model::{BlobBackend, IngestBackend, SnapBackend};
 use backend_sweep::{Fate, Fates};
 use gc_report::{Objects, Report};
 use meta_types::{Digest, Fault, ShortName};
@@ -80,9 +83,37 @@ pub(crate) struct Rooms {
     pub(crate) snapshots: Room<(ShortName, u64)>,
 }
 
+/// Whether a device of these kinds may fail.
+pub(crate) fn may_fail<S: SnapBackend, B: BlobBackend, I: IngestBackend>() -> bool
+    ensures snapshots { result ≡ false → NeverFails S.fails }
+    ensures blobs { result ≡ false → NeverFails B.fails }
+    ensures ingests { result ≡ false → NeverFails I.fails }
+{
+    if S::never_fails() {
+        if B::never_fails() {
+            if I::never_fails() {
+                return false;
+            }
+        }
+    }
+    true
+}
+
+/// Room for what the plan names, where a device may fail.
+pub(crate) fn rooms_of(alloc: Global, plan: &Plan, may_fail: bool) -> Result<Option<Rooms>, Fault>
+    ensures fault { Refuses result None }
+    ensures ok { IfOk result (AreRoomsFor may_fail plan.now.report.backend) }
+{
+    if !may_fail {
+        return Ok(None);
+    }
+    let rooms = Rooms::of(alloc, plan)?;
+    Ok(Some(rooms))
+}
+
 impl Rooms {
-    /// For what the plan names.
-    pub(crate) fn of(alloc: Global, plan: &Plan) -> Result<Rooms, Fault>
+    // For what the plan names.
+    fn of(alloc: Global, plan: &Plan) -> Result<Rooms, Fault>
         ensures fault { Refuses result None }
         ensures ok { IfOk result (HasRoomFor plan.now.report.backend) }
     {
@@ -130,11 +161,27 @@ fn dealt(names: Objects, fates: &Fates, rooms: Rooms) -> (Objects, Objects)
     (removed, failed)
 }
 
+// What the plan names went, and nothing failed, where there is no room for names; else they are
+// dealt. It takes no memory.
+fn told(names: Objects, fates: &Fates, rooms: Option<Rooms>) -> (Objects, Objects)
+    requires fates { AreFatesOf names fates.now }
+    requires room { CanTell names fates.now rooms }
+    ensures removed { result.0 ≡ removed_of names fates.now }
+    ensures failed { result.1 ≡ failed_of names fates.now }
+{
+    let Some(rooms) = rooms else {
+        let none = Objects::new(*names.blobs.allocator());
+        return (names, none);
+    };
+    let (removed, failed) = dealt(names, fates, rooms);
+    (removed, failed)
+}
+
 /// The report of a collection: that of its dry run, with the objects that were removed and those
 /// that failed. It takes no memory.
-pub(crate) fn report(planned: Report, fates: &Fates, rooms: Rooms) -> Report
+pub(crate) fn report(planned: Report, fates: &Fates, rooms: Option<Rooms>) -> Report
     requires fates { AreFatesOf planned.backend fates.now }
-    requires room { HasRoomFor planned.backend rooms }
+    requires room { CanTell planned.backend fates.now rooms }
     ensures { result ≡ reported planned fates.now }
 {
     let Report {
@@ -148,7 +195,7 @@ pub(crate) fn report(planned: Report, fates: &Fates, rooms: Rooms) -> Report
         removed,
         scanned,
     } = planned;
-    let (backend, failed) = dealt(names, fates, rooms);
+    let (backend, failed) = told(names, fates, rooms);
     Report {
         backend,
         dry: false,

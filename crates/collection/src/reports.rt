@@ -3,7 +3,7 @@ ghost use Rattle.std.specs.Prelude.{◌≡◌, None, IfOk};
 ghost use Rattle.meta_types.specs.Faults.{Refuses};
 ghost use Rattle.collection.specs.Copies.{AreCopies};
 
-use crate::keeps::{Keeps, Kept};
+use crate::keeps::{Keeps, WithHistory};
 use gc_report::Report;
 use meta_types::Fault;
 use std::alloc::Global;
@@ -77,7 +77,7 @@ impl<K: Keeps> Reports<K> {
     }
 }
 
-impl Reports<Kept> {
+impl Reports<WithHistory> {
     /// The report, and its copies.
     pub fn apart(self) -> (Report, Copies)
         ensures caller { result.0 ≡ self }

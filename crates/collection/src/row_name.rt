@@ -5,7 +5,6 @@ ghost use Rattle.meta_types.specs.Limits.{is_too_large};
 ghost use Rattle.collection.specs.Stores.{records_in};
 ghost use Rattle.collection.specs.Impacts.{row_name, lacks_row, is_parent, less_row, has_number, listed_less};
 
-use crate::checks::is_too_large;
 use gc_graph::ListedRows;
 use meta_types::{Digest, Fault, Name, Object, Resource, ShortName, SnapKey};
 use request_core::Records;
@@ -79,7 +78,7 @@ impl RowName {
         if self.is_parent(records) {
             return Err(Fault::FailedPrecondition);
         }
-        if is_too_large(records) {
+        if records.is_too_large() {
             return Err(Fault::FailedPrecondition);
         }
         Ok(())

@@ -1,17 +1,15 @@
-use Rattle.meta_types.specs.Limits.{is_worker_count, is_too_large}
+use Rattle.std.proofs.Common.{◌∙◌, sym, ap}
+use Rattle.meta_types.specs.Limits.{is_too_large}
 use Rattle.collection.specs.Stores.{records_in}
-use Rattle.collection.proofs.Bridges.{no_fault}
+use Rattle.collection.proofs.Bridges.{lent_are, are_few}
 use Rattle.collection.proofs.collect_store.collect.Goals as goal
 
--- after the check no fault applies
-pub collect_checked-requires-clause-workers : goal.collect_checked-requires-clause-workers
-collect_checked-requires-clause-workers g c κs within =
-    (no_fault (is_worker_count c.args.workers) (is_too_large (records_in c.args.records.now)) c.in_ok-check.ensures).0
-
+-- after the check the rows are few enough
 pub collect_checked-requires-clause-few : goal.collect_checked-requires-clause-few
 collect_checked-requires-clause-few g c κs within =
-    (no_fault (is_worker_count c.args.workers) (is_too_large (records_in c.args.records.now))
-    c.in_ok-check.ensures).1
+    let e = c.records.ensures in
+    ap is_too_large (sym (lent_are c.records.result.now c.args.state.now.state.records e.tables e.leases e.next e.profile))
+    ∙ are_few (is_too_large (records_in c.records.result.now)) c.in_ok-check.ensures
 
 -- nothing is left out
 pub returns-clause-ok : goal.returns-clause-ok

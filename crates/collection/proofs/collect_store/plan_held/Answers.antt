@@ -1,8 +1,7 @@
-use Rattle.std.proofs.Common.{◌∙◌, ap, map, subst, List}
+use Rattle.std.proofs.Common.{◌∙◌, subst, List}
 use Rattle.std.specs.Prelude.{option_copied}
 use Rattle.meta_types.specs.Rows.{BackLists}
 use Rattle.meta_types.specs.Text.{Text}
-use Rattle.back_model.specs.Shown.{listed_snap}
 use Rattle.table_sweep.specs.BlobMarks.{AreBlobMarks}
 use Rattle.collection.specs.Arrived.{arrived_in}
 use Rattle.collection.specs.Leaving.{IsPlanLess}
@@ -13,11 +12,7 @@ pub returns-clause-ok : goal.returns-clause-ok
 returns-clause-ok g c =
     subst (λ (back : BackLists). IsPlanLess (arrived_in c.args.arrived.now)
     (option_copied c.args.asked.now.without) back c.args.asked.now.at.0 c.in_ok-planned.planned)
-    (λ i. record {
-      blobs = (c.digests.ensures.order ∙ ap g.B.BlobBackend.contents c.blobs.ensures) i;
-      snapshots = (ap (map listed_snap) c.deref.ensures.value ∙ c.in_ok-snapshots.ensures.ok) i;
-      ingests = (c.deref-2.ensures.value ∙ c.in_ok-ingests.ensures.ok ∙ ap g.I.IngestBackend.contents c.ingests.ensures) i;
-    })
+    (c.rows_lent.ensures.lists ∙ c.in_ok-lent.ensures.ok)
     c.in_ok-planned.ensures.ok
 
 -- in the order in which it is lent
@@ -26,5 +21,5 @@ returns-clause-blobs g c =
     let planned = c.in_ok-planned.planned in
     subst (λ (arrived : List Text). AreBlobMarks planned.plan.report.backend.blobs arrived
     planned.plan.blobs.items)
-    (c.digests.ensures.arrived ∙ ap g.B.BlobBackend.arrived c.blobs.ensures)
+    (c.rows_lent.ensures.blobs ∙ c.in_ok-lent.ensures.arrived)
     c.in_ok-planned.ensures.blobs

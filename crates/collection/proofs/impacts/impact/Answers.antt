@@ -1,6 +1,10 @@
-use Rattle.std.proofs.Common.{◌∙◌, ap, map}
+use Rattle.std.proofs.Common.{◌∙◌, ap, subst}
+use Rattle.std.specs.Prelude.{IfOk}
+use Rattle.meta_types.specs.Faults.{Refuses}
+use Rattle.meta_types.specs.Impacts.{impact_fault, removed, IsImpact}
 use Rattle.meta_types.specs.Rows.{State}
-use Rattle.back_model.specs.Shown.{listed_snap}
+use Rattle.request_core.specs.Follows.{Store}
+use Rattle.back_model.specs.Held.{held}
 use Rattle.collection.specs.Stores.{store_in}
 use Rattle.collection.proofs.NamedRows.{let_through, refused, only_memory, after_removal}
 use Rattle.collection.proofs.impacts.impact.Goals as goal
@@ -8,13 +12,15 @@ use Rattle.collection.proofs.impacts.impact.Goals as goal
 -- the check refuses what the definitions refuse
 pub returns-in_err-check-clause-fault : goal.returns-in_err-check-clause-fault
 returns-in_err-check-clause-fault g c =
+    let inside = c.state.inside in
     let state : State =
-    store_in c.args.records.now c.args.backends.now.shards
-    (g.B.BlobBackend.contents c.args.backends.now.blobs)
-    (g.I.IngestBackend.contents c.args.backends.now.ingests) in
-    refused state c.args.ns c.args.object c.of-row.result c.of-row.ensures
+    store_in inside.records (held g.B.BlobBackend.contents g.I.IngestBackend.contents
+    inside.backends) in
+    subst (λ (s : State). Refuses c.from_residual.result (impact_fault s c.args.ns c.args.object))
+    (ap (λ (s : Store). s.state) c.state.view_is)
+    (refused state c.args.ns c.args.object c.of-row.result c.of-row.ensures
     c.from_residual.result _ c.from_residual.ensures.1
-    c.in_err-check.ensures
+    c.in_err-check.ensures)
 
 pub impact_lent-requires-clause-parent : goal.impact_lent-requires-clause-parent
 impact_lent-requires-clause-parent g c κs within = (let_through _ _ _ c.in_ok-check.ensures).0
@@ -24,25 +30,25 @@ impact_lent-requires-clause-few g c κs within = (let_through _ _ _ c.in_ok-chec
 
 pub returns-clause-fault : goal.returns-clause-fault
 returns-clause-fault g c =
+    let inside = c.state.inside in
     let state : State =
-    store_in c.args.records.now c.args.backends.now.shards
-    (g.B.BlobBackend.contents c.args.backends.now.blobs)
-    (g.I.IngestBackend.contents c.args.backends.now.ingests) in
-    only_memory state c.args.ns c.args.object c.of-row.result c.of-row.ensures
-    c.impact_lent.result c.in_ok-check.ensures c.impact_lent.ensures.fault
+    store_in inside.records (held g.B.BlobBackend.contents g.I.IngestBackend.contents
+    inside.backends) in
+    subst (λ (s : State). Refuses c.impact_lent.result (impact_fault s c.args.ns c.args.object))
+    (ap (λ (s : Store). s.state) c.state.view_is)
+    (only_memory state c.args.ns c.args.object c.of-row.result c.of-row.ensures
+    c.impact_lent.result c.in_ok-check.ensures c.impact_lent.ensures.fault)
 
 -- the impact of records without the row is that of its removal
 pub returns-clause-ok : goal.returns-clause-ok
 returns-clause-ok g c =
+    let inside = c.state.inside in
     let state : State =
-    store_in c.args.records.now c.args.backends.now.shards
-    (g.B.BlobBackend.contents c.args.backends.now.blobs)
-    (g.I.IngestBackend.contents c.args.backends.now.ingests) in
-    after_removal state c.args.ns c.args.object c.of-row.result c.of-row.ensures
+    store_in inside.records (held g.B.BlobBackend.contents g.I.IngestBackend.contents
+    inside.backends) in
+    subst (λ (s : State). IfOk c.impact_lent.result
+    (λ impact. IsImpact s (removed s c.args.ns c.args.object).after c.args.at.0 impact))
+    (ap (λ (s : Store). s.state) c.state.view_is)
+    (after_removal state c.args.ns c.args.object c.of-row.result c.of-row.ensures
     _ c.args.at.0 c.impact_lent.result c.impact_lent.ensures.ok
-    (λ i. record {
-      blobs = (c.digests.ensures.order ∙ ap g.B.BlobBackend.contents c.blobs.ensures) i;
-      snapshots = (ap (map listed_snap) c.deref.ensures.value ∙ c.in_ok-snapshots.ensures.ok) i;
-      ingests = (c.deref-2.ensures.value ∙ c.in_ok-ingests.ensures.ok
-          ∙ ap g.I.IngestBackend.contents c.ingests.ensures) i;
-    })
+    (c.rows_lent.ensures.lists ∙ c.in_ok-lent.ensures.ok))

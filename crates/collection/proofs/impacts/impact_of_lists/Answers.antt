@@ -1,8 +1,6 @@
-use Rattle.std.proofs.Common.{ap, map}
 use Rattle.meta_types.specs.Rows.{State}
-use Rattle.row_tables.specs.Arrived.{sorted, one_text}
-use Rattle.back_model.specs.Shown.{listed_snap}
-use Rattle.collection.specs.Stores.{records_in, lists_in}
+use Rattle.back_model.specs.Held.{lists_in}
+use Rattle.collection.specs.Stores.{records_in}
 use Rattle.collection.proofs.NamedRows.{let_through, refused, only_memory, after_removal}
 use Rattle.collection.proofs.impacts.impact_of_lists.Goals as goal
 
@@ -35,8 +33,4 @@ returns-clause-ok g c =
     record { records = records_in c.args.records.now; backends = lists_in c.args.back.now } in
     after_removal state c.args.ns c.args.object c.of-row.result c.of-row.ensures
     _ c.args.at.0 c.impact_lent.result c.impact_lent.ensures.ok
-    (λ i. record {
-      blobs = sorted one_text c.args.back.now.blobs;
-      snapshots = ap (map listed_snap) c.deref.ensures.value i;
-      ingests = c.deref-2.ensures.value i;
-    })
+    c.rows_listed.ensures.lists

@@ -1,12 +1,12 @@
 use Rattle.std.proofs.Common.{◌∙◌, refl, subst, length}
-use Rattle.meta_types.specs.Limits.{is_worker_count, is_too_large}
+use Rattle.meta_types.specs.Limits.{is_too_large}
 use Rattle.meta_types.specs.Rows.{Records}
 use Rattle.table_sweep.specs.Backed.{lists_of}
 use Rattle.table_sweep.specs.InKeyOrder.{records_in_key_order}
 use Rattle.table_sweep.specs.Plans.{IsPlanOfRows}
 use Rattle.gc_graph.specs.Lent.{lent_in}
 use Rattle.collection.specs.Stores.{records_in}
-use Rattle.collection.proofs.Bridges.{plan_of_lent, large_as, large_arrived, no_fault}
+use Rattle.collection.proofs.Bridges.{plan_of_lent, large_as, large_arrived, are_few}
 use Rattle.collection.proofs.planning.plan_store.Goals as goal
 
 -- rows that are lent as they arrived are the records' in order
@@ -31,10 +31,6 @@ returns-clause-ok g c =
     (lists_of c.args.back.now) c.args.at.0 c.in_ok-plan.plan)
     c.in_ok-listed.ensures.ok c.in_ok-plan.ensures.ok)
 
-pub plan_listed-requires-clause-workers : goal.plan_listed-requires-clause-workers
-plan_listed-requires-clause-workers g c κs within =
-    (no_fault (is_worker_count c.args.workers) (is_too_large (records_in c.args.records.now)) c.in_ok-check.ensures).0
-
 -- as many rows are listed as there are in order
 pub plan_listed-requires-clause-few : goal.plan_listed-requires-clause-few
 plan_listed-requires-clause-few g c κs within =
@@ -44,8 +40,7 @@ plan_listed-requires-clause-few g c κs within =
     large_arrived _ lent c.in_ok-listed.ensures.ok
     (large_as (records_in_key_order lent) (records_in kept)
     c.arrived-arrived.ensures.content c.arrived-arrived.ensures.ingests c.arrived-arrived.ensures.snapshots
-    ∙ (no_fault (is_worker_count c.args.workers) (is_too_large (records_in kept))
-    c.in_ok-check.ensures).1)
+    ∙ are_few (is_too_large (records_in kept)) c.in_ok-check.ensures)
 
 pub returns-clause-blobs : goal.returns-clause-blobs
 returns-clause-blobs g c = c.in_ok-plan.ensures.blobs
