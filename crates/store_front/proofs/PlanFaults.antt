@@ -6,10 +6,10 @@ use Rattle.meta_types.specs.Rows.{State, Records}
 use Rattle.meta_types.specs.Histories.{Entry, IsLegal}
 use Rattle.meta_types.specs.Limits.{is_worker_count, is_too_large}
 use Rattle.gc_report.specs.declared.report.Report.{Report}
-use Rattle.meta_types.specs.Steps.{collect_fault}
 use Rattle.meta_types.specs.declared.fault.Fault.{Fault}
 use Rattle.meta_types.specs.declared.fault.Fault.TheVariants.{InvalidArgument, NotFound, AlreadyExists, FailedPrecondition, BadLine, TooLong, OutOfMemory, NoWorker, BackendFailed, ReadFailed, WriteFailed, Mismatch}
 use Rattle.steal_mark.specs.Refusing.{RefusesThreads}
+use Rattle.collection.specs.Refused.{large_fault}
 use Rattle.store_front.specs.SessionEntries.{Seat}
 use Rattle.store_front.specs.Parts.{part, IsPart}
 use Rattle.store_front.specs.Finish.{CutFails, PlanFails}
@@ -56,7 +56,8 @@ module _ (workers : ℕ) (session : Seat) (base : State) (log : List Entry) (sta
   -- what refuses the dry run of these records, which are the state's, refuses the plan
   pub dry_refuses : (records : Records) → records ≡ state.records → is_worker_count workers ≡ true
       → (f : Fault)
-      → RefusesThreads {X = Report} (Err f) (collect_fault records workers)
+      → RefusesThreads {X = Report} (Err f) (large_fault records)
       → PlanFails f workers session
   dry_refuses records same allowed f h =
-      by_size (is_too_large state.records) refl allowed f (rw allowed at (subst (λ (r : Records). RefusesThreads {X = Report} (Err f) (collect_fault r workers)) same h))
+      by_size (is_too_large state.records) refl allowed f
+      (subst (λ (r : Records). RefusesThreads {X = Report} (Err f) (large_fault r)) same h)

@@ -1,6 +1,7 @@
 //! The calls that serve a store.
 
 pub(crate) mod apply;
+pub(crate) mod asked;
 pub(crate) mod collect;
 pub(crate) mod explain;
 pub(crate) mod impact;

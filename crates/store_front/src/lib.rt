@@ -17,7 +17,7 @@ pub use event::entry::{Entry, SessionEntry};
 pub use event::event::{Answer, Event};
 pub use event::kept_report::KeptReport;
 pub use history::base::{Base, History};
-pub use keeps::{Keeps, Kept, Unkept};
+pub use keeps::{Keeps, WithHistory, WithoutHistory};
 pub use locked::{Locked, MemLocked, SESSIONS};
 pub use session::Session;
 pub use store::{Store, finish};

@@ -7,7 +7,7 @@ ghost use Rattle.meta_types.specs.declared.fault.Fault.TheVariants.{FailedPrecon
 
 use crate::event::entry::Entry;
 use crate::history::base::Base;
-use crate::keeps::{Keeps, Kept, Unkept};
+use crate::keeps::{Keeps, WithHistory, WithoutHistory};
 use crate::session::Session;
 use back_model::{
     BackLists, BlobBackend, IngestBackend, MemBackend, MemBlobs, MemIngests, SnapBackend,
@@ -30,7 +30,7 @@ pub struct Locked<
     S: SnapBackend = MemBackend,
     B: BlobBackend = MemBlobs,
     I: IngestBackend = MemIngests,
-    K: Keeps = Kept,
+    K: Keeps = WithHistory,
 > {
     pub(crate) state: State<S, B, I>,
     pub(crate) base: Base,
@@ -106,14 +106,20 @@ impl<L: Ledger, S: SnapBackend, B: BlobBackend, I: IngestBackend> Locked<L, S, B
     }
 }
 
-impl<L: Ledger, S: SnapBackend, B: BlobBackend, I: IngestBackend> Locked<L, S, B, I, Unkept> {
+impl<L: Ledger, S: SnapBackend, B: BlobBackend, I: IngestBackend> Locked<
+    L,
+    S,
+    B,
+    I,
+    WithoutHistory,
+> {
     /// A store over this state that keeps no history, with no session. It takes no memory. The
     /// blank has 65,536 parts.
-    pub fn open_unkept(
+    pub fn open_without_history(
         alloc: Global,
         blank: Blank,
         state: State<S, B, I>,
-    ) -> Locked<L, S, B, I, Unkept>
+    ) -> Locked<L, S, B, I, WithoutHistory>
         requires sound { IsSound state.state }
         requires name { blank.name ≡ L.name }
         requires parts { (blank.parts ≡ L.parts) × (blank.parts ≡ 65536) }

@@ -16,7 +16,7 @@ ghost use Rattle.store_front.specs.Finish.{IsHistory, AreOfThese, CutFails, Fini
 ghost use Rattle.store_front.specs.Parts.{IsPart, part};
 
 use crate::history::base::History;
-use crate::keeps::{Keeps, Kept, Unkept};
+use crate::keeps::{Keeps, WithHistory, WithoutHistory};
 use crate::locked::Locked;
 use crate::session::Session;
 use back_model::{BlobBackend, IngestBackend, MemBackend, MemBlobs, MemIngests, SnapBackend};
@@ -37,7 +37,7 @@ pub struct Store<
     S: SnapBackend = MemBackend,
     B: BlobBackend = MemBlobs,
     I: IngestBackend = MemIngests,
-    K: Keeps = Kept,
+    K: Keeps = WithHistory,
 > {
     pub(crate) inner: Mutex<Locked<L, S, B, I, K>>,
 }
@@ -60,20 +60,26 @@ impl<L: Ledger, S: SnapBackend, B: BlobBackend, I: IngestBackend> Store<L, S, B,
     }
 }
 
-impl<L: Ledger, S: SnapBackend, B: BlobBackend, I: IngestBackend> Store<L, S, B, I, Unkept> {
+impl<L: Ledger, S: SnapBackend, B: BlobBackend, I: IngestBackend> Store<
+    L,
+    S,
+    B,
+    I,
+    WithoutHistory,
+> {
     /// A store over this state that keeps no history, with no session. It takes no memory. The
     /// blank has 65,536 parts.
-    pub fn new_unkept(
+    pub fn new_without_history(
         alloc: Global,
         blank: Blank,
         state: State<S, B, I>,
-    ) -> Store<L, S, B, I, Unkept>
+    ) -> Store<L, S, B, I, WithoutHistory>
         requires sound { IsSound state.state }
         requires name { blank.name ≡ L.name }
         requires parts { (blank.parts ≡ L.parts) × (blank.parts ≡ 65536) }
     {
         Store {
-            inner: Mutex::new(Locked::open_unkept(alloc, blank, state)),
+            inner: Mutex::new(Locked::open_without_history(alloc, blank, state)),
         }
     }
 }

@@ -5,6 +5,7 @@ ghost use Rattle.collection.specs.Refused.{CollectFails};
 ghost use Rattle.store_front.specs.KeptAnswers.{kept_if, kept_report, Takes, log_after, list_after, report_failures};
 ghost use Rattle.meta_types.specs.Sound.{IsSound};
 
+use crate::calls::asked::Asked;
 use crate::event::pairs::Events;
 use crate::event::room::{keep_report, make_room, report_alone, report_rooms};
 use crate::keeps::Keeps;
@@ -32,28 +33,26 @@ pub(crate) fn run_collect<
     H: SweepGate,
     K: Keeps,
 >(
-    rt: &R,
-    alloc: Global,
+    asked: &Asked<'_, R, G, H>,
     state: &mut State<S, B, I>,
     at: Instant,
     dry: bool,
-    workers: usize,
-    gate: &G,
-    sweep_gate: &H,
 ) -> Result<Reports<K>, Fault>
     requires { IsSound state.old.state }
-    ensures step { Takes state.old.state (collect at.0 dry workers) (kept_report result)
+    ensures step { Takes state.old.state (collect at.0 dry asked.now.workers) (kept_report result)
         state.new.state }
     ensures fault { IfErr result (λ f. CollectFails f
-        (collect_fault state.old.state.records workers)) }
+        (collect_fault state.old.state.records asked.now.workers)) }
     ensures failures { state.new.failures ≡ state.old.failures + report_failures result }
     ensures sound { IsSound state.new.state }
 {
-    let State { records, backends } = state;
+    let Some(crew) = asked.crew() else {
+        return Err(Fault::InvalidArgument);
+    };
     if dry {
-        return collection::dry_run(rt, alloc, records, backends, at, workers, gate);
+        return collection::dry_run(&crew, state, at);
     }
-    collection::collect(rt, alloc, records, backends, at, workers, gate, sweep_gate)
+    collection::collect(&crew, state, at)
 }
 
 // Removes an image or a lease, and collects.
@@ -66,27 +65,23 @@ pub(crate) fn run_removal<
     H: SweepGate,
     K: Keeps,
 >(
-    rt: &R,
-    alloc: Global,
+    asked: &Asked<'_, R, G, H>,
     state: &mut State<S, B, I>,
     removal: &Removal,
     at: Instant,
-    workers: usize,
-    gate: &G,
-    sweep_gate: &H,
 ) -> Result<Reports<K>, Fault>
     requires { IsSound state.old.state }
-    ensures step { Takes state.old.state (remove_collect removal.now at.0 workers)
-        (kept_report result) state.new.state }
+    ensures step { Takes state.old.state
+        (remove_collect removal.now at.0 asked.now.workers) (kept_report result) state.new.state }
     ensures fault { IfErr result (λ f. CollectFails f
-        (remove_collect_fault state.old.state removal.now workers)) }
+        (remove_collect_fault state.old.state removal.now asked.now.workers)) }
     ensures failures { state.new.failures ≡ state.old.failures + report_failures result }
     ensures sound { IsSound state.new.state }
 {
-    let State { records, backends } = state;
-    collection::remove_collect(
-        rt, alloc, records, backends, removal, at, workers, gate, sweep_gate,
-    )
+    let Some(crew) = asked.crew() else {
+        return Err(Fault::InvalidArgument);
+    };
+    collection::remove_collect(&crew, state, removal, at)
 }
 
 impl<L: Ledger, S: SnapBackend, B: BlobBackend, I: IngestBackend, K: Keeps> Locked<L, S, B, I, K> {
@@ -125,8 +120,15 @@ impl<L: Ledger, S: SnapBackend, B: BlobBackend, I: IngestBackend, K: Keeps> Lock
             book,
             ..
         } = self;
+        let asked = Asked {
+            rt,
+            alloc,
+            workers,
+            gate,
+            sweep_gate,
+        };
         if !K::KEPT {
-            let reports = run_collect(rt, alloc, state, at, dry, workers, gate, sweep_gate);
+            let reports = run_collect(&asked, state, at, dry);
             return report_alone(reports);
         }
         let Session {
@@ -141,7 +143,7 @@ impl<L: Ledger, S: SnapBackend, B: BlobBackend, I: IngestBackend, K: Keeps> Lock
         let Ok(rooms) = report_rooms(alloc) else {
             return Err(Fault::OutOfMemory);
         };
-        let reports = run_collect(rt, alloc, state, at, dry, workers, gate, sweep_gate);
+        let reports = run_collect(&asked, state, at, dry);
         keep_report(log, list, book, share, *number, events, rooms, reports)
     }
 
@@ -179,8 +181,15 @@ impl<L: Ledger, S: SnapBackend, B: BlobBackend, I: IngestBackend, K: Keeps> Lock
             book,
             ..
         } = self;
+        let asked = Asked {
+            rt,
+            alloc,
+            workers,
+            gate,
+            sweep_gate,
+        };
         if !K::KEPT {
-            let reports = run_removal(rt, alloc, state, &removal, at, workers, gate, sweep_gate);
+            let reports = run_removal(&asked, state, &removal, at);
             return report_alone(reports);
         }
         let Session {
@@ -191,14 +200,14 @@ impl<L: Ledger, S: SnapBackend, B: BlobBackend, I: IngestBackend, K: Keeps> Lock
         if make_room(log, list).is_err() {
             return Err(Fault::OutOfMemory);
         }
-        let Ok((asked, events)) = Events::remove_collect(alloc, removal, at, workers) else {
+        let Ok((shared, events)) = Events::remove_collect(alloc, removal, at, workers) else {
             return Err(Fault::OutOfMemory);
         };
         let Ok(rooms) = report_rooms(alloc) else {
             return Err(Fault::OutOfMemory);
         };
-        let removal = asked.get();
-        let reports = run_removal(rt, alloc, state, removal, at, workers, gate, sweep_gate);
+        let removal = shared.get();
+        let reports = run_removal(&asked, state, removal, at);
         keep_report(log, list, book, share, *number, events, rooms, reports)
     }
 }

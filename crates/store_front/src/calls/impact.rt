@@ -15,7 +15,6 @@ use crate::store::Store;
 use back_model::{BlobBackend, IngestBackend, SnapBackend};
 use gc_report::Impact;
 use meta_types::{Fault, Instant, Object, ShortName};
-use request_core::State;
 use std::alloc::Global;
 use std::sync::Wait;
 use std::sync::ledger::Ledger;
@@ -27,23 +26,6 @@ use std::thread::Threads;
 pub struct Foreseen {
     pub answer: Result<Impact, Fault>,
     pub cut: History,
-}
-
-// What would go without a row of this state.
-fn impact_of<R: Threads + Sync, S: SnapBackend, B: BlobBackend, I: IngestBackend>(
-    rt: &R,
-    alloc: Global,
-    state: &State<S, B, I>,
-    ns: ShortName,
-    object: Object,
-    at: Instant,
-) -> Result<Impact, Fault>
-    ensures fault { Refuses result (impact_fault state.now.state ns object) }
-    ensures ok { IfOk result (λ impact. IsImpact state.now.state
-        (removed state.now.state ns object).after at.0 impact) }
-{
-    let State { records, backends } = state;
-    collection::impact(rt, alloc, records, backends, ns, object, at)
 }
 
 impl<L: Ledger, S: SnapBackend, B: BlobBackend, I: IngestBackend, K: Keeps> Locked<L, S, B, I, K> {
@@ -60,7 +42,7 @@ impl<L: Ledger, S: SnapBackend, B: BlobBackend, I: IngestBackend, K: Keeps> Lock
         ensures ok { IfOk result (λ impact. IsImpact self.now.store.state
             (removed self.now.store.state ns object).after at.0 impact) }
     {
-        impact_of(rt, alloc, &self.state, ns, object, at)
+        collection::impact(rt, alloc, &self.state, ns, object, at)
     }
 }
 

@@ -14,8 +14,10 @@ use crate::locked::{Locked, base_of};
 use crate::session::Session;
 use crate::store::Store;
 use back_model::{BlobBackend, IngestBackend, SnapBackend};
+use backend_sweep::OpenSweepGate;
+use collection::Crew;
 use gc_report::Report;
-use meta_types::{Fault, Instant, is_worker_count};
+use meta_types::{Fault, Instant, Workers};
 use std::alloc::Global;
 use std::mem::drop;
 use std::sync::Wait;
@@ -72,11 +74,18 @@ impl<L: Ledger, S: SnapBackend, B: BlobBackend, I: IngestBackend> Store<L, S, B,
         ensures workers { (result ≡ Err InvalidArgument) ↔ (is_worker_count workers ≡ false) }
         ensures fault { IfErr result (λ f. PlanFails f workers session.now) }
     {
-        if !is_worker_count(workers) {
+        let Some(workers) = Workers::new(workers) else {
             return Err(Fault::InvalidArgument);
-        }
+        };
         let Copied { cut, now } = self.inner.lock(rt).copies(alloc, session)?;
-        let made = collection::dry_report(rt, alloc, &now.records, &now.lists, at, workers, gate);
+        let crew = Crew {
+            rt,
+            alloc,
+            workers,
+            gate,
+            sweep_gate: &OpenSweepGate,
+        };
+        let made = collection::dry_report(&crew, &now.records, &now.lists, at);
         drop(now);
         let report = match made {
             Ok(report) => report,

@@ -3,7 +3,7 @@ ghost use Rattle.std.specs.Prelude.{◌≡◌};
 ghost use Rattle.meta_types.specs.Sound.{IsSound};
 ghost use Rattle.store_front.specs.NextNumber.{raised};
 
-use crate::keeps::{Keeps, Unkept};
+use crate::keeps::{Keeps, WithoutHistory};
 use crate::locked::Locked;
 use back_model::{BlobBackend, IngestBackend, SnapBackend};
 use request_core::State;
@@ -36,7 +36,13 @@ impl<L: Ledger, S: SnapBackend, B: BlobBackend, I: IngestBackend, K: Keeps> Lock
     }
 }
 
-impl<L: Ledger, S: SnapBackend, B: BlobBackend, I: IngestBackend> Locked<L, S, B, I, Unkept> {
+impl<L: Ledger, S: SnapBackend, B: BlobBackend, I: IngestBackend> Locked<
+    L,
+    S,
+    B,
+    I,
+    WithoutHistory,
+> {
     /// From now on the next backend number is at least this one. A history has no entry for that,
     /// so there is none.
     pub fn raise_next(&mut self, number: u64)

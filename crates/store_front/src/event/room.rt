@@ -10,7 +10,7 @@ use crate::event::entry::{Entry, SessionEntry};
 use crate::event::event::Answer;
 use crate::event::kept_report::KeptReport;
 use crate::event::pairs::{Answers, Events};
-use collection::{Copies, Kept, Reports, Unkept};
+use collection::{Copies, Reports, WithHistory, WithoutHistory};
 use gc_report::Report;
 use meta_types::{Fault, Reply};
 use std::alloc::Global;
@@ -116,7 +116,7 @@ pub(crate) fn keep_report<L: Ledger>(
     number: u32,
     events: Events,
     rooms: (KeptReport, KeptReport),
-    outcome: Result<Reports<Kept>, Fault>,
+    outcome: Result<Reports<WithHistory>, Fault>,
 ) -> Result<Report, Fault>
     requires log_room { vec_len log.old < vec_capacity log.old }
     requires list_room { vec_len list.old < vec_capacity list.old }
@@ -153,7 +153,7 @@ pub(crate) fn keep_report<L: Ledger>(
 }
 
 // The report, where nothing is kept of it.
-pub(crate) fn report_alone(outcome: Result<Reports<Unkept>, Fault>) -> Result<Report, Fault>
+pub(crate) fn report_alone(outcome: Result<Reports<WithoutHistory>, Fault>) -> Result<Report, Fault>
     ensures { result ≡ outcome }
 {
     match outcome {

@@ -8,12 +8,12 @@ use Rattle.store_front.proofs.locked.Locked.impact.Goals as goal
 -- the state that is lent is the store's
 pub returns-clause-fault : goal.returns-clause-fault
 returns-clause-fault g c =
-    subst (λ (f : Front). Refuses c.impact_of.result
+    subst (λ (f : Front). Refuses c.impact.result
     (impact_fault f.store.state c.args.ns c.args.object))
-    c.self.view_is c.impact_of.ensures.fault
+    c.self.view_is c.impact.ensures.fault
 
 pub returns-clause-ok : goal.returns-clause-ok
 returns-clause-ok g c =
-    subst (λ (f : Front). IfOk c.impact_of.result (λ impact. IsImpact f.store.state
+    subst (λ (f : Front). IfOk c.impact.result (λ impact. IsImpact f.store.state
     (removed f.store.state c.args.ns c.args.object).after c.args.at.0 impact))
-    c.self.view_is c.impact_of.ensures.ok
+    c.self.view_is c.impact.ensures.ok

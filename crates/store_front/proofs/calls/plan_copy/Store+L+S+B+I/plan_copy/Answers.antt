@@ -1,5 +1,6 @@
-use Rattle.std.proofs.Common.{sym, ap, subst, ◌∙◌}
+use Rattle.std.proofs.Common.{◌≡◌, ℕ, true, ap, subst}
 use Rattle.std.specs.Prelude.{Err}
+use Rattle.meta_types.specs.Limits.{is_worker_count}
 use Rattle.meta_types.specs.Reports.{Plans}
 use Rattle.meta_types.specs.Rows.{State}
 use Rattle.store_front.proofs.PlanFaults.{cut_refuses, dry_refuses, passed_on, not_for_workers}
@@ -13,13 +14,18 @@ returns-in_err-cut-clause-fault g c =
 -- the plan is refused
 pub returns-in-Err-clause-fault : goal.returns-in-Err-clause-fault
 returns-in-Err-clause-fault g c =
+    let allowed =
+    subst (λ (n : ℕ). is_worker_count n ≡ true) c.in-Some.ensures.some c.in-Some.workers.allowed in
     dry_refuses c.args.workers c.args.session.now c.in_ok-cut.field-0.cut.base c.in_ok-cut.field-0.cut.log c.in_ok-cut.field-0.now c.in_ok-cut.ensures.legal c.in_ok-cut.ensures.own
-    _ (ap (λ (s : State). s.records) c.now.view_is) (sym c.is_worker_count.ensures ∙ c.if-not-is_worker_count.false) _ c.in-Err.ensures.fault
+    _ (ap (λ (s : State). s.records) c.now.view_is) allowed _ c.in-Err.ensures.fault
 
 -- and not for the workers, which are allowed
 pub returns-in-Err-clause-workers : goal.returns-in-Err-clause-workers
 returns-in-Err-clause-workers g c =
-    not_for_workers (Err c.in-Err.fault) c.args.workers c.args.session.now (sym c.is_worker_count.ensures ∙ c.if-not-is_worker_count.false) (returns-in-Err-clause-fault g c)
+    let allowed =
+    subst (λ (n : ℕ). is_worker_count n ≡ true) c.in-Some.ensures.some c.in-Some.workers.allowed in
+    not_for_workers (Err c.in-Err.fault) c.args.workers c.args.session.now allowed
+    (returns-in-Err-clause-fault g c)
 
 -- the plan of the copies is one of the store that the history leads to
 pub returns-clause-planned : goal.returns-clause-planned
