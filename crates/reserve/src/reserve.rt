@@ -3,11 +3,10 @@
 //! that it is enough.
 ghost use Rattle.std.specs.Prelude.{◌≡◌, ◌≤◌, None, true, IsErr};
 ghost use Rattle.meta_types.specs.Faults.{Refuses};
-ghost use Rattle.meta_types.specs.Limits.{is_worker_count};
 
 use crate::stored::{LEAST, Stored, bytes_of, count_labels, count_resources};
 use crate::weight::{Weight, weight_of};
-use meta_types::{Fault, Request};
+use meta_types::{Fault, Request, Workers};
 use std::alloc::{AllocError, Global};
 
 /// A block of memory that is kept, and upper bounds of what tables don't count: objects without a
@@ -128,13 +127,12 @@ impl Reserve {
 
     /// The number of workers that collect: all, where their threads have room beside the block, else
     /// one, the calling thread. The C library never gives back what a thread took.
-    pub fn workers(&mut self, alloc: Global, stored: &Stored<'_>, workers: usize) -> usize
-        requires { is_worker_count workers ≡ true }
-        ensures allowed { is_worker_count result ≡ true }
-        ensures few { result ≤ workers }
+    pub fn workers(&mut self, alloc: Global, stored: &Stored<'_>, workers: Workers) -> Workers
+        ensures { result.count ≤ workers.count }
     {
-        if workers > 1 && !self.has_room_for(alloc, stored, workers - 1) {
-            return 1;
+        let count = workers.count;
+        if count > 1 && !self.has_room_for(alloc, stored, count - 1) {
+            return Workers::ONE;
         }
         workers
     }

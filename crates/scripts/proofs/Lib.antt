@@ -15,3 +15,5 @@ mod OneThing
 mod OneExplanation
 pub mod OneOutput
 mod WorkedScripts
+mod LeaseEnds
+mod WorkedEnds

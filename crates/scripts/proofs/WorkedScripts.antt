@@ -115,7 +115,7 @@ asks_nothing state line text short full is told =
 
 -- ---- the texts of replies
 
-done_text : answer_text (answered P.Done) ≡ codes "{\"ok\":true}"
+pub done_text : answer_text (answered P.Done) ≡ codes "{\"ok\":true}"
 unfolding answer_text serde_json_on_literals digits
 done_text = refl
 
@@ -134,7 +134,7 @@ bad_text = refl
 
 -- ---- what lines ask for
 
-asks_ns_add : asked_in (codes "{\"op\":\"ns.add\",\"ns\":\"x\"}")
+pub asks_ns_add : asked_in (codes "{\"op\":\"ns.add\",\"ns\":\"x\"}")
     ≡ Some (A.Request (R.NsAdd (codes "x")))
 unfolding asked_in asked_from asked_by is_utf8 chars encode_utf8 serde_json_on_literals
 asks_ns_add = refl
@@ -154,10 +154,10 @@ asks_no_op = refl
 
 -- ---- requests
 
-abbrev one_namespace : State
+abbrev pub one_namespace : State
 one_namespace = after_all empty_store (R.NsAdd (codes "x") ∷ [])
 
-abbrev add_line : Text
+abbrev pub add_line : Text
 add_line = codes "{\"op\":\"ns.add\",\"ns\":\"x\"}"
 
 abbrev again_line : Text

@@ -1,5 +1,5 @@
--- Small scripts and what answers them, byte for byte: so the definitions of lines, replies and
--- reports are run. Ours, unless a source stands beside.
+-- Small scripts and what answers them, byte for byte: so the definitions of lines, replies, reports
+-- and explanations are run. Ours, unless a source stands beside.
 use Rattle.std.specs.Prelude.{ℕ, List, [], ◌∷◌, ◌++◌, codes}
 use Rattle.meta_types.specs.Text.{Text}
 use Rattle.meta_types.specs.Worked.{a, b, c}
@@ -63,3 +63,34 @@ collected = done ∷ done ∷ done ∷ done ∷ done ∷ report_text ∷ []
 
 abbrev pub ACollectionIsAnswered : Type 0
 ACollectionIsAnswered = AnswersScript (text_of collecting) (text_of collected)
+
+-- ---- an end: a lease keeps its content at it, and a nanosecond later did so last
+
+abbrev pub asking : Text → Text
+asking at = codes "{\"op\":\"gc.explain\",\"ns\":\"x\",\"type\":\"content\",\"resource\":\""
+    ++ (a ++ (codes "\",\"at\":\"" ++ (at ++ codes "\"}")))
+
+abbrev pub explaining : List Text
+explaining = codes "{\"op\":\"ns.add\",\"ns\":\"x\"}"
+    ∷ (codes "{\"op\":\"lease.add\",\"ns\":\"x\",\"id\":\"l\","
+    ++ codes "\"labels\":{\"containerd.io/gc.expire\":\"2024-03-01T00:00:00Z\"}}")
+    ∷ adding a (codes "\",\"lease\":\"l\"}")
+    ∷ asking (codes "2024-03-01T00:00:00Z")
+    ∷ asking (codes "2024-03-01T00:00:00.000000001Z")
+    ∷ []
+
+abbrev pub explanation_text : Text → Text → Text
+explanation_text kept word = codes "{\"kept\":" ++ (kept
+    ++ (codes ",\"ok\":true,\"path\":[{\"by\":\"" ++ (word
+    ++ (codes "\",\"expire\":\"2024-03-01T00:00:00Z\",\"name\":\"l\",\"type\":\"leases\"},"
+    ++ (codes "{\"by\":\"resource\",\"mode\":\"full\",\"name\":\""
+    ++ (a ++ codes "\",\"type\":\"content\"}]}"))))))
+
+abbrev pub explained : List Text
+explained = done ∷ done ∷ done
+    ∷ explanation_text (codes "true") (codes "root")
+    ∷ explanation_text (codes "false") (codes "ended")
+    ∷ []
+
+abbrev pub AnEndIsExplained : Type 0
+AnEndIsExplained = AnswersScript (text_of explaining) (text_of explained)

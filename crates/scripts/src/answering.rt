@@ -14,13 +14,14 @@ ghost use Rattle.scripts.specs.LineAnswers.{line_answer_of};
 ghost use Rattle.scripts.specs.LineSteps.{Supplied, line_step, IsLineAnswer, IsTrueAt};
 ghost use Rattle.scripts.specs.SaidLines.{is_read_only, IsSaid, said_bytes, reply_bytes};
 
+use crate::crew::Crew;
 use crate::line_answer::LineAnswer;
 use crate::line_memory::LineMemory;
 use crate::reserving::{stored_in, take_in};
 use crate::said::Said;
 use crate::serving::do_asked;
 use gc_report::Impact;
-use meta_types::{Explanation, Fault, Reply};
+use meta_types::{Explanation, Fault, Reply, Workers};
 use reply_line::{explanation_text, impact_text, refusal_text, reply_text};
 use request_line::{Asked, read_line};
 use std::alloc::Global;
@@ -51,45 +52,39 @@ fn read_asked(alloc: Global, line: &[u8], memory: &mut LineMemory) -> Result<Ask
 
 // What a line asks for, done.
 fn do_line<L: Ledger, K: Keeps, R: Threads + Wait + Sync>(
+    crew: &Crew<'_, R>,
     locked: &mut MemLocked<L, K>,
-    rt: &R,
-    alloc: Global,
     session: &mut Session<L>,
     line: &[u8],
-    workers: usize,
     memory: &mut LineMemory,
 ) -> Result<LineAnswer, Fault>
     requires opened { session.old.number < locked.old.opened }
     requires length { length line.now ≤ 65536 }
-    requires workers { is_worker_count workers ≡ true }
     ensures ok { IfOk result (λ answer. IsLineAnswer locked.old.store.state line.now
         (line_answer_of answer) locked.new.store.state) }
     ensures err { IfErr result (λ fault. IsLineAnswer locked.old.store.state line.now
         (of_event (refused fault)) locked.new.store.state) }
     ensures opened { session.new.number < locked.new.opened }
 {
-    let asked = read_asked(alloc, line, memory)?;
-    do_asked(locked, rt, alloc, session, asked, workers, memory)
+    let asked = read_asked(crew.alloc, line, memory)?;
+    do_asked(crew, locked, session, asked, memory)
 }
 
 // The answer to a line that isn't empty.
 fn line_outcome<L: Ledger, K: Keeps, R: Threads + Wait + Sync>(
+    crew: &Crew<'_, R>,
     locked: &mut MemLocked<L, K>,
-    rt: &R,
-    alloc: Global,
     session: &mut Session<L>,
     line: &[u8],
-    workers: usize,
     memory: &mut LineMemory,
 ) -> LineAnswer
     requires opened { session.old.number < locked.old.opened }
     requires length { length line.now ≤ 65536 }
-    requires workers { is_worker_count workers ≡ true }
     ensures answer { IsLineAnswer locked.old.store.state line.now
         (line_answer_of result) locked.new.store.state }
     ensures opened { session.new.number < locked.new.opened }
 {
-    match do_line(locked, rt, alloc, session, line, workers, memory) {
+    match do_line(crew, locked, session, line, memory) {
         Ok(answer) => answer,
         Err(fault) => LineAnswer::Refused(fault),
     }
@@ -188,7 +183,12 @@ pub fn answer_line<L: Ledger, K: Keeps, R: Threads + Wait + Sync>(
     if line.is_empty() {
         return Ok(None);
     }
-    let answer = line_outcome(locked, rt, alloc, session, line, workers, memory);
+    let crew = Crew {
+        rt,
+        alloc,
+        workers: Workers { count: workers },
+    };
+    let answer = line_outcome(&crew, locked, session, line, memory);
     take_in(&mut memory.reserve, &stored_in(locked), &answer);
     Ok(Some(said(alloc, answer)))
 }

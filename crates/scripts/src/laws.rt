@@ -1,7 +1,7 @@
 //! What holds of the definition of a script's output.
 ghost use Rattle.scripts.specs.EventLaws.{EachEventHasThisStep, NoEventHasAnotherStep};
 ghost use Rattle.scripts.specs.ScriptLaws.{WhatAnswersIsAnOutput, EachStoreIsSound};
-ghost use Rattle.scripts.specs.WorkedScripts.{RequestsAreAnswered, ACollectionIsAnswered};
+ghost use Rattle.scripts.specs.WorkedScripts.{RequestsAreAnswered, ACollectionIsAnswered, AnEndIsExplained};
 ghost use Rattle.scripts.specs.OneOutput.{EachExplanationIsOne, EachImpactIsOne, EachScriptHasOneOutput};
 
 /// The events of an output are steps of the definitions, and each has this one alone.
@@ -25,9 +25,10 @@ pub fn each_script_has_one_output()
     ensures output { EachScriptHasOneOutput }
 {}
 
-/// Two scripts and what answers them, byte for byte: requests, an empty line and a line that is
-/// none; and a collection.
+/// Three scripts and what answers them, byte for byte: requests, an empty line and a line that is
+/// none; a collection; and what keeps a lease's content at its end and after it.
 pub fn worked_scripts_are_answered()
     ensures requests { RequestsAreAnswered }
     ensures collection { ACollectionIsAnswered }
+    ensures explanation { AnEndIsExplained }
 {}

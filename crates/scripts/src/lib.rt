@@ -2,6 +2,7 @@
 #![tactic(auto)]
 
 mod answering;
+mod crew;
 pub mod laws;
 mod line_answer;
 mod line_buffer;

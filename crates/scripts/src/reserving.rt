@@ -1,9 +1,8 @@
 //! When what is kept for collections and questions is given up, and what lines do to it.
-ghost use Rattle.std.specs.Prelude.{◌≡◌, true};
-ghost use Rattle.meta_types.specs.Limits.{is_worker_count};
 
 use crate::line_answer::LineAnswer;
 use crate::line_memory::LineMemory;
+use meta_types::Workers;
 use request_line::Asked;
 use reserve::{Reserve, Stored, lists};
 use std::alloc::Global;
@@ -27,11 +26,8 @@ pub(crate) fn make_way(
     alloc: Global,
     stored: &Stored<'_>,
     asked: &Asked,
-    workers: usize,
-) -> usize
-    requires { is_worker_count workers ≡ true }
-    ensures { is_worker_count result ≡ true }
-{
+    workers: Workers,
+) -> Workers {
     match asked {
         Asked::Request(request) => {
             if lists(request) {

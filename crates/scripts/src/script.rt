@@ -1,5 +1,5 @@
 //! Runs a script, from its reader to its writer.
-ghost use Rattle.std.specs.Prelude.{◌≡◌, ◌++◌, ◌∷◌, ◌↔◌, ℕ, [], List, None, OnOk, OnErr, IfErr, IfOk, IsErrOf, false, true};
+ghost use Rattle.std.specs.Prelude.{◌≡◌, ◌++◌, ◌∷◌, ◌↔◌, ℕ, [], List, None, OnOk, OnErr, IfErr, IfOk, IsErrOf, false};
 ghost use Rattle.std.specs.List.{list_any};
 ghost use Rattle.std.specs.Io.{ReadsAtMost};
 ghost use Rattle.std.specs.Io.KnownBytes.{IsAtEnd, ReadConsumes};
@@ -18,7 +18,7 @@ use crate::lines::cut_line;
 use crate::said::Said;
 use crate::script_store::{Fresh, ScriptStore};
 use crate::writing::flush;
-use meta_types::{Fault, is_worker_count};
+use meta_types::{Fault, Workers};
 use std::alloc::Global;
 use std::io::{Read, Write};
 use std::marker::Brand;
@@ -231,11 +231,10 @@ fn run_named<L: Ledger, T: Threads + Wait + Sync, R: Read, W: Write>(
     fresh: Fresh,
     reader: &mut R,
     writer: &mut W,
-    workers: usize,
+    workers: Workers,
 ) -> Result<(), Fault>
     requires name { fresh.blank.name ≡ L.name }
     requires parts { (fresh.blank.parts ≡ L.parts) × (fresh.blank.parts ≡ 65536) }
-    requires workers { is_worker_count workers ≡ true }
     ensures end { OnOk result (IsAtEnd (R.remaining reader.new)) }
     ensures ok { OnOk result (Exchanges IsOutput (R.remaining reader.old)
         (R.remaining reader.new) (W.contents writer.old) (W.contents writer.new)) }
@@ -323,9 +322,9 @@ pub fn run_script_with<T: Threads + Wait + Sync, R: Read, W: Write>(
         (reader.new ≡ reader.old) × (writer.new ≡ writer.old) }
     ensures faults { IfErr result IsRunFault }
 {
-    if !is_worker_count(workers) {
+    let Some(workers) = Workers::new(workers) else {
         return Err(Fault::InvalidArgument);
-    }
+    };
     let fresh = Fresh {
         blank: Blank::new(65536),
         seed,

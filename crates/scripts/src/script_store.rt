@@ -1,8 +1,7 @@
 //! The store of a script, with its one session.
-ghost use Rattle.std.specs.Prelude.{◌≡◌, ◌≤◌, ℕ, List, length, true, IfOk, IfErr, OnOk, OnErr, Option, None};
+ghost use Rattle.std.specs.Prelude.{◌≡◌, ◌≤◌, ℕ, List, length, IfOk, IfErr, OnOk, OnErr, Option, None};
 ghost use Rattle.std.specs.Io.KnownBytes.{Appends};
 ghost use Rattle.meta_types.specs.Faults.{Refuses};
-ghost use Rattle.meta_types.specs.Limits.{is_worker_count};
 ghost use Rattle.meta_types.specs.Rows.{empty_store};
 ghost use Rattle.reply_line.specs.Blocks.{WritesFront};
 ghost use Rattle.scripts.specs.LineSteps.{Supplied, line_step, IsTrueAt};
@@ -14,7 +13,7 @@ use crate::answering::answer_line;
 use crate::line_memory::LineMemory;
 use crate::said::Said;
 use crate::writing::write_said;
-use meta_types::Fault;
+use meta_types::{Fault, Workers};
 use reply_line::BLOCK_ROOM;
 use request_core::State;
 use std::alloc::Global;
@@ -23,7 +22,7 @@ use std::marker::Model;
 use std::sync::Wait;
 use std::sync::ledger::{Blank, Ledger};
 use std::thread::Threads;
-use store_front::{Locked, MemLocked, Session, Unkept};
+use store_front::{Locked, MemLocked, Session, WithoutHistory};
 use table_seed::Seed;
 
 /// What a new store is made of: the ledger of its sessions, and what its tables hash by.
@@ -38,41 +37,36 @@ pub struct Fresh {
 /// is written.
 #[derive(Drop)]
 pub struct ScriptStore<L: Ledger> {
-    locked: MemLocked<L, Unkept>,
+    locked: MemLocked<L, WithoutHistory>,
     session: Session<L>,
-    workers: usize,
+    workers: Workers,
     block: Vec<u8>,
     memory: LineMemory,
 }
 
 impl<L: Ledger> Model for ScriptStore<L> {
-    ghost use Rattle.std.specs.Prelude.{◌≡◌, ◌<◌, true};
-    ghost use Rattle.meta_types.specs.Limits.{is_worker_count};
+    ghost use Rattle.std.specs.Prelude.{◌<◌};
     ghost use Rattle.meta_types.specs.Rows.{State};
 
     ghost Value = { State };
 
     ghost view = { λ d. d.locked.store.state };
 
-    ghost invariant = { λ d. record {
-      opened : d.session.number < d.locked.opened;
-      workers : is_worker_count d.workers ≡ true;
-    } };
+    ghost invariant = { λ d. d.session.number < d.locked.opened };
 }
 
 impl<L: Ledger> ScriptStore<L> {
     /// An empty store. The blank has 65,536 parts.
-    pub fn open(alloc: Global, fresh: Fresh, workers: usize) -> Result<ScriptStore<L>, Fault>
+    pub fn open(alloc: Global, fresh: Fresh, workers: Workers) -> Result<ScriptStore<L>, Fault>
         requires name { fresh.blank.name ≡ L.name }
         requires parts { (fresh.blank.parts ≡ L.parts) × (fresh.blank.parts ≡ 65536) }
-        requires workers { is_worker_count workers ≡ true }
         ensures fault { Refuses result None }
         ensures ok { IfOk result (λ store. store ≡ empty_store) }
     {
         let block = Vec::with_capacity(alloc, BLOCK_ROOM)?;
         let memory = LineMemory::open(alloc)?;
         let Fresh { blank, seed } = fresh;
-        let mut locked = Locked::open_unkept(alloc, blank, State::empty_with(alloc, seed));
+        let mut locked = Locked::open_without_history(alloc, blank, State::empty_with(alloc, seed));
         let Ok(session) = locked.session(alloc) else {
             unreachable!()
         };
@@ -106,7 +100,7 @@ impl<L: Ledger> ScriptStore<L> {
             alloc,
             &mut self.session,
             line,
-            self.workers,
+            self.workers.count,
             &mut self.memory,
         )
     }

@@ -1,8 +1,7 @@
 //! Does what a line asks for: a request, a collection, a removal with one, or a question.
-ghost use Rattle.std.specs.Prelude.{◌≡◌, ◌<◌, IfOk, IfErr, Ok, Err, None, true};
+ghost use Rattle.std.specs.Prelude.{◌≡◌, ◌<◌, IfOk, IfErr, Ok, Err, None};
 ghost use Rattle.std.specs.Box.{box_value};
 ghost use Rattle.meta_types.specs.Faults.{Refuses};
-ghost use Rattle.meta_types.specs.Limits.{is_worker_count};
 ghost use Rattle.meta_types.specs.Steps.{answered, reported};
 ghost use Rattle.meta_types.specs.Questions.{explains, foresees, of_event, of_question};
 ghost use Rattle.reply_line.specs.Explained.{told_of};
@@ -10,6 +9,7 @@ ghost use Rattle.request_line.specs.declared.asked.Asked.TheVariants as A;
 ghost use Rattle.scripts.specs.LineAnswers.{line_answer_of};
 ghost use Rattle.scripts.specs.Served.{IsServed, IsRefused};
 
+use crate::crew::Crew;
 use crate::line_answer::LineAnswer;
 use crate::line_memory::LineMemory;
 use crate::line_room::make_room;
@@ -79,16 +79,13 @@ fn boxed(room: Box<Report>, report: Result<Report, Fault>) -> Result<Box<Report>
 
 // Collects at a moment, where the text is one. Room for the report is made before anything goes.
 fn collect<L: Ledger, K: Keeps, R: Threads + Wait + Sync>(
+    crew: &Crew<'_, R>,
     locked: &mut MemLocked<L, K>,
-    rt: &R,
-    alloc: Global,
     session: &mut Session<L>,
     at: &RawText,
     dry: bool,
-    workers: usize,
 ) -> Result<Box<Report>, Fault>
     requires opened { session.old.number < locked.old.opened }
-    requires workers { is_worker_count workers ≡ true }
     ensures ok { IfOk result (λ report. IsServed locked.old.store.state (A.Collect at.now dry)
         (of_event (reported (box_value report))) locked.new.store.state) }
     ensures err { IfErr result (λ fault. IsRefused locked.old.store.state (A.Collect at.now dry)
@@ -98,15 +95,15 @@ fn collect<L: Ledger, K: Keeps, R: Threads + Wait + Sync>(
     let Some(at) = read_instant(at.text()) else {
         return Err(Fault::InvalidArgument);
     };
-    let room = report_room(alloc)?;
+    let room = report_room(crew.alloc)?;
     locked.never_failed();
     let report = locked.collect(
-        rt,
-        alloc,
+        crew.rt,
+        crew.alloc,
         session,
         at,
         dry,
-        workers,
+        crew.workers.count,
         &OpenGate,
         &OpenSweepGate,
     );
@@ -116,16 +113,13 @@ fn collect<L: Ledger, K: Keeps, R: Threads + Wait + Sync>(
 
 // Removes an image or a lease, and collects at a moment, where the text is one.
 fn remove<L: Ledger, K: Keeps, R: Threads + Wait + Sync>(
+    crew: &Crew<'_, R>,
     locked: &mut MemLocked<L, K>,
-    rt: &R,
-    alloc: Global,
     session: &mut Session<L>,
     removal: Removal,
     at: &RawText,
-    workers: usize,
 ) -> Result<Box<Report>, Fault>
     requires opened { session.old.number < locked.old.opened }
-    requires workers { is_worker_count workers ≡ true }
     ensures ok { IfOk result (λ report. IsServed locked.old.store.state
         (A.Remove removal at.now) (of_event (reported (box_value report))) locked.new.store.state) }
     ensures err { IfErr result (λ fault. IsRefused locked.old.store.state
@@ -135,15 +129,15 @@ fn remove<L: Ledger, K: Keeps, R: Threads + Wait + Sync>(
     let Some(at) = read_instant(at.text()) else {
         return Err(Fault::InvalidArgument);
     };
-    let room = report_room(alloc)?;
+    let room = report_room(crew.alloc)?;
     locked.never_failed();
     let report = locked.remove_collect(
-        rt,
-        alloc,
+        crew.rt,
+        crew.alloc,
         session,
         removal,
         at,
-        workers,
+        crew.workers.count,
         &OpenGate,
         &OpenSweepGate,
     );
@@ -153,9 +147,8 @@ fn remove<L: Ledger, K: Keeps, R: Threads + Wait + Sync>(
 
 // Tells what keeps a row at a moment, where the texts are allowed.
 fn explain<L: Ledger, K: Keeps, R: Threads + Wait + Sync>(
+    crew: &Crew<'_, R>,
     locked: &MemLocked<L, K>,
-    rt: &R,
-    alloc: Global,
     ns: &RawText,
     kind: &RawText,
     resource: &RawText,
@@ -170,16 +163,16 @@ fn explain<L: Ledger, K: Keeps, R: Threads + Wait + Sync>(
     let Some(at) = read_instant(at.text()) else {
         return Err(Fault::InvalidArgument);
     };
+    let alloc = crew.alloc;
     let ns = ShortName::read(alloc, ns.text())?;
     let object = Object::read(alloc, kind.text(), resource.text())?;
-    locked.explain(rt, alloc, &ns, &object, at)
+    locked.explain(crew.rt, alloc, &ns, &object, at)
 }
 
 // Tells what would go at a moment without a row, where the texts are allowed.
 fn foresee<L: Ledger, K: Keeps, R: Threads + Wait + Sync>(
+    crew: &Crew<'_, R>,
     locked: &MemLocked<L, K>,
-    rt: &R,
-    alloc: Global,
     ns: &RawText,
     kind: &RawText,
     resource: &RawText,
@@ -194,42 +187,46 @@ fn foresee<L: Ledger, K: Keeps, R: Threads + Wait + Sync>(
     let Some(at) = read_instant(at.text()) else {
         return Err(Fault::InvalidArgument);
     };
+    let alloc = crew.alloc;
     let ns = ShortName::read(alloc, ns.text())?;
     let row = Object::read(alloc, kind.text(), resource.text())?;
-    locked.impact(rt, alloc, ns, row, at)
+    locked.impact(crew.rt, alloc, ns, row, at)
 }
 
-/// Does what a line asks for, with this number of workers where it is a collection. What is kept
-/// for collections is given up where it is one, or a question.
+/// Does what a line asks for. What is kept for collections is given up where it is one, or a
+/// question.
 pub fn do_asked<L: Ledger, K: Keeps, R: Threads + Wait + Sync>(
+    crew: &Crew<'_, R>,
     locked: &mut MemLocked<L, K>,
-    rt: &R,
-    alloc: Global,
     session: &mut Session<L>,
     asked: Asked,
-    workers: usize,
     memory: &mut LineMemory,
 ) -> Result<LineAnswer, Fault>
     requires opened { session.old.number < locked.old.opened }
-    requires workers { is_worker_count workers ≡ true }
     ensures ok { IfOk result (λ answer. IsServed locked.old.store.state asked
         (line_answer_of answer) locked.new.store.state) }
     ensures err { IfErr result (λ fault. IsRefused locked.old.store.state asked fault
         locked.new.store.state) }
     ensures opened { session.new.number < locked.new.opened }
 {
-    let workers = make_way(memory, alloc, &stored_in(locked), &asked, workers);
+    let alloc = crew.alloc;
+    let workers = make_way(memory, alloc, &stored_in(locked), &asked, crew.workers);
+    let crew = Crew {
+        rt: crew.rt,
+        alloc,
+        workers,
+    };
     match asked {
         Asked::Request(asked) => {
             let reply = do_request(locked, alloc, session, asked, memory)?;
             Ok(LineAnswer::Replied(reply))
         }
         Asked::Collect { at, dry } => {
-            let report = collect(locked, rt, alloc, session, &at, dry, workers)?;
+            let report = collect(&crew, locked, session, &at, dry)?;
             Ok(LineAnswer::Reported(report))
         }
         Asked::Remove { removal, at } => {
-            let report = remove(locked, rt, alloc, session, removal, &at, workers)?;
+            let report = remove(&crew, locked, session, removal, &at)?;
             Ok(LineAnswer::Reported(report))
         }
         Asked::Explain {
@@ -238,7 +235,7 @@ pub fn do_asked<L: Ledger, K: Keeps, R: Threads + Wait + Sync>(
             resource,
             at,
         } => {
-            let told = explain(locked, rt, alloc, &ns, &kind, &resource, &at)?;
+            let told = explain(&crew, locked, &ns, &kind, &resource, &at)?;
             Ok(LineAnswer::Explained(told))
         }
         Asked::Impact {
@@ -247,7 +244,7 @@ pub fn do_asked<L: Ledger, K: Keeps, R: Threads + Wait + Sync>(
             resource,
             at,
         } => {
-            let found = foresee(locked, rt, alloc, &ns, &kind, &resource, &at)?;
+            let found = foresee(&crew, locked, &ns, &kind, &resource, &at)?;
             Ok(LineAnswer::Foreseen(found))
         }
     }

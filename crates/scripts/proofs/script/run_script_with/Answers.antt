@@ -26,5 +26,5 @@ returns-clause-err g c =
     on_err_weaker c.run_named.result (λ e. front_answered e) c.run_named.ensures.err
 
 -- nothing was read, and nothing written
-pub returns-then-not-is_worker_count-clause-err : goal.returns-then-not-is_worker_count-clause-err
-returns-then-not-is_worker_count-clause-err g c = nothing_answered _ _
+pub returns-in_default-clause-err : goal.returns-in_default-clause-err
+returns-in_default-clause-err g c = nothing_answered _ _

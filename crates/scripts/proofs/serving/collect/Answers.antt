@@ -22,16 +22,16 @@ returns-in_err-room-clause-err g c =
 pub returns-clause-ok : goal.returns-clause-ok
 returns-clause-ok g c =
     let old = c.args.locked.now.store.state in
-    let is = is_collection old c.args.at.now c.in-Some.at.0 c.args.dry c.args.workers (ap instant_of (sym c.text.ensures) ∙ sym c.in-Some.ensures.moment) c.requires.workers in
+    let is = is_collection old c.args.at.now c.in-Some.at.0 c.args.dry c.args.crew.now.workers.count (ap instant_of (sym c.text.ensures) ∙ sym c.in-Some.ensures.moment) c.args.crew.now.workers.allowed in
     boxed_ok box_value c.boxed.result c.collect-report.result _ c.boxed.ensures.ok
-    (report_ok old c.collect-report.new.self.store.state (A.Collect c.args.at.now c.args.dry) (collect c.in-Some.at.0 c.args.dry c.args.workers) is
+    (report_ok old c.collect-report.new.self.store.state (A.Collect c.args.at.now c.args.dry) (collect c.in-Some.at.0 c.args.dry c.args.crew.now.workers.count) is
     c.args.locked.now.store.failures c.collect-report.new.self.store.failures c.never_failed.ensures c.never_failed-2.ensures c.collect-report.result c.collect-report.ensures.step c.collect-report.ensures.failures)
 
 -- the refusal of the step, or OutOfMemory, or NoWorker
 pub returns-clause-err : goal.returns-clause-err
 returns-clause-err g c =
     let old = c.args.locked.now.store.state in
-    let is = is_collection old c.args.at.now c.in-Some.at.0 c.args.dry c.args.workers (ap instant_of (sym c.text.ensures) ∙ sym c.in-Some.ensures.moment) c.requires.workers in
+    let is = is_collection old c.args.at.now c.in-Some.at.0 c.args.dry c.args.crew.now.workers.count (ap instant_of (sym c.text.ensures) ∙ sym c.in-Some.ensures.moment) c.args.crew.now.workers.allowed in
     boxed_err box_value c.boxed.result c.collect-report.result _ c.boxed.ensures.err
-    (report_err old c.collect-report.new.self.store.state (A.Collect c.args.at.now c.args.dry) (collect c.in-Some.at.0 c.args.dry c.args.workers) is
+    (report_err old c.collect-report.new.self.store.state (A.Collect c.args.at.now c.args.dry) (collect c.in-Some.at.0 c.args.dry c.args.crew.now.workers.count) is
     refl c.collect-report.result _ c.collect-report.ensures.step c.collect-report.ensures.fault)
