@@ -1,6 +1,5 @@
 //! Opens a store from its journal.
 ghost use Rattle.std.specs.Prelude.{◌≡◌, ℕ, List, length, take, true, false, Err, IsTrue, IfOk, OnOk, IsErrOf};
-ghost use Rattle.meta_types.specs.Limits.{is_worker_count};
 ghost use Rattle.meta_types.specs.Rows.{empty_store};
 ghost use Rattle.journal.specs.Text.{journal_text, AreGroups};
 ghost use Rattle.journal.specs.Reading.{found};
@@ -14,6 +13,7 @@ use crate::error::start_error;
 use crate::replaying::replay;
 use crate::store::KeptStore;
 use journal::{Log, Sound, check, recover};
+use meta_types::Workers;
 use scripts::Fresh;
 use std::alloc::Global;
 use std::mem::drop;
@@ -116,11 +116,10 @@ pub fn open<L: Ledger, D: Log, T: Threads + Wait + Sync>(
     fresh: Fresh,
     first: &[u8; 64],
     log: &mut D,
-    workers: usize,
+    workers: Workers,
 ) -> Result<Opened<L>, StartError>
     requires name { fresh.blank.name ≡ L.name }
     requires parts { (fresh.blank.parts ≡ L.parts) × (fresh.blank.parts ≡ 65536) }
-    requires workers { is_worker_count workers ≡ true }
 
     // After a restart, what is read is what is on the disk.
     requires rests { D.rests log.old }

@@ -1,7 +1,6 @@
 //! A store that answers lines, to be run with a journal.
 ghost use Rattle.std.specs.Prelude.{◌≡◌, ◌≤◌, ◌++◌, ℕ, List, length, true, IfOk, OnOk, Option, None};
 ghost use Rattle.meta_types.specs.Faults.{Refuses};
-ghost use Rattle.meta_types.specs.Limits.{is_worker_count};
 ghost use Rattle.meta_types.specs.Rows.{empty_store};
 ghost use Rattle.scripts.specs.DryRuns.{is_dry_run};
 ghost use Rattle.scripts.specs.LineSteps.{Supplied, line_step, IsTrueAt};
@@ -14,7 +13,7 @@ use crate::logging::is_logged;
 use crate::replies::{has_room, put_line, put_refusal, put_reply, take_room};
 use back_model::{MemBackend, MemBlobs, MemIngests};
 use kept_run::Service;
-use meta_types::Fault;
+use meta_types::{Fault, Workers};
 use reply_line::{BLOCK_ROOM, refusal_text};
 use request_core::State;
 use scripts::{Fresh, LineMemory, Said, answer_line};
@@ -23,7 +22,7 @@ use std::marker::Model;
 use std::sync::Wait;
 use std::sync::ledger::Ledger;
 use std::thread::Threads;
-use store_front::{Locked, MemLocked, Session, Unkept};
+use store_front::{Locked, MemLocked, Session, WithoutHistory};
 use table_seed::Seed;
 
 /// The longest line that can be a request, in bytes without its line feed.
@@ -35,9 +34,9 @@ pub(crate) const LINE_LIMIT: usize = 65536;
 #[derive(Drop)]
 pub struct KeptStore<L: Ledger> {
     alloc: Global,
-    locked: MemLocked<L, Unkept>,
+    locked: MemLocked<L, WithoutHistory>,
     session: Session<L>,
-    workers: usize,
+    workers: Workers,
     memory: LineMemory,
     block: Vec<u8>,
     checkpoint: Option<usize>,
@@ -45,18 +44,14 @@ pub struct KeptStore<L: Ledger> {
 }
 
 impl<L: Ledger> Model for KeptStore<L> {
-    ghost use Rattle.std.specs.Prelude.{◌≡◌, ◌<◌, true};
-    ghost use Rattle.meta_types.specs.Limits.{is_worker_count};
+    ghost use Rattle.std.specs.Prelude.{◌<◌};
     ghost use Rattle.meta_types.specs.Rows.{State};
 
     ghost Value = { State };
 
     ghost view = { λ d. d.locked.store.state };
 
-    ghost invariant = { λ d. record {
-      opened : d.session.number < d.locked.opened;
-      workers : is_worker_count d.workers ≡ true;
-    } };
+    ghost invariant = { λ d. d.session.number < d.locked.opened };
 }
 
 impl<L: Ledger> KeptStore<L> {
@@ -70,7 +65,7 @@ impl<L: Ledger> KeptStore<L> {
         let block = Vec::with_capacity(alloc, BLOCK_ROOM)?;
         let memory = LineMemory::open(alloc)?;
         let Fresh { blank, seed } = fresh;
-        let mut locked = Locked::open_unkept(alloc, blank, State::empty_with(alloc, seed));
+        let mut locked = Locked::open_without_history(alloc, blank, State::empty_with(alloc, seed));
         let Ok(session) = locked.session(alloc) else {
             unreachable!()
         };
@@ -78,7 +73,7 @@ impl<L: Ledger> KeptStore<L> {
             alloc,
             locked,
             session,
-            workers: 1,
+            workers: Workers::ONE,
             memory,
             block,
             checkpoint: None,
@@ -87,8 +82,7 @@ impl<L: Ledger> KeptStore<L> {
     }
 
     /// From now on collections have this number of workers.
-    pub(crate) fn set_workers(&mut self, workers: usize)
-        requires { is_worker_count workers ≡ true }
+    pub(crate) fn set_workers(&mut self, workers: Workers)
         ensures { self.new ≡ self.old }
     {
         self.workers = workers;
@@ -131,7 +125,7 @@ impl<L: Ledger> KeptStore<L> {
             self.alloc,
             &mut self.session,
             line,
-            self.workers,
+            self.workers.count,
             &mut self.memory,
         )
     }

@@ -1,10 +1,9 @@
 //! The program: a script from standard input to standard output.
 #![tactic(auto)]
 
-ghost use Rattle.std.specs.Prelude.{◌≡◌, ◌≢◌, [], true, Some, Err, IfOk, IfErr, OnOk, OnErr, IsErrOf};
+ghost use Rattle.std.specs.Prelude.{◌≡◌, ◌≢◌, [], Some, Err, IfOk, IfErr, OnOk, OnErr, IsErrOf};
 ghost use Rattle.std.specs.IoError.{error_kind};
 ghost use Rattle.std.specs.Io.KnownBytes.{Keeps};
-ghost use Rattle.meta_types.specs.Limits.{is_worker_count};
 ghost use Rattle.scripts.specs.WholeScripts.{AnswersScript, AnswersWholeLines, BeginsAnswers};
 ghost use Rattle.scripts.specs.Exchanging.{IsStartedFault, Exchanges};
 ghost use Rattle.metad.specs.Blocks.{inner_of, kept_back, contents_of};
@@ -20,7 +19,7 @@ mod tests_flush;
 
 use crate::blocks::Blocks;
 use command_line::{ArgFault, parse_args};
-use meta_types::Fault;
+use meta_types::{Fault, Workers};
 use scripts::run_script_with;
 use std::alloc::Global;
 use std::io::ErrorKind;
@@ -45,9 +44,7 @@ fn word_fault(error: &io::Error) -> ArgFault
 }
 
 // The number of workers that the program's words ask for.
-fn workers(rt: &HostRuntime, alloc: Global) -> Result<usize, ArgFault>
-    ensures { IfOk result (λ workers. is_worker_count workers ≡ true) }
-{
+fn workers(rt: &HostRuntime, alloc: Global) -> Result<Workers, ArgFault> {
     let args = match env::args(rt) {
         Ok(args) => args,
         Err(error) => return Err(word_fault(&error)),
@@ -57,8 +54,8 @@ fn workers(rt: &HostRuntime, alloc: Global) -> Result<usize, ArgFault>
     for text in &texts {
         words.push(text.as_str())?;
     }
-    let workers = parse_args(alloc, &words)?;
-    Ok(workers)
+    let count = parse_args(alloc, &words)?;
+    Ok(Workers { count })
 }
 
 // Hands on all that the writer kept back.
@@ -80,9 +77,8 @@ fn run<T: Threads + Wait + Sync, R: io::Read + Drop, W: io::Write + Drop>(
     seed: Seed,
     reader: R,
     writer: &mut Blocks<W>,
-    workers: usize,
+    workers: Workers,
 ) -> Result<(), Fault>
-    requires workers { is_worker_count workers ≡ true }
     requires empty { kept_back writer.old ≡ [] }
 
     // All that the reader had was read.
@@ -101,7 +97,7 @@ fn run<T: Threads + Wait + Sync, R: io::Read + Drop, W: io::Write + Drop>(
     let Ok(mut reader) = io::BufReader::new(alloc, reader) else {
         return Err(Fault::OutOfMemory);
     };
-    match run_script_with(rt, alloc, seed, &mut reader, writer, workers) {
+    match run_script_with(rt, alloc, seed, &mut reader, writer, workers.count) {
         Err(Fault::WriteFailed) => Err(Fault::WriteFailed),
         ran => {
             flush(writer)?;

@@ -1,6 +1,5 @@
 //! Serves a store whose journal is in one of two files.
 ghost use Rattle.std.specs.Prelude.{◌≡◌, [], true, IfOk};
-ghost use Rattle.meta_types.specs.Limits.{is_worker_count};
 
 use crate::choosing::choice_of;
 use crate::ending::{not_ended, not_opened, not_read, not_started};
@@ -13,7 +12,7 @@ use crate::words::Serving;
 use journal::{Journal, Log, Sound};
 use kept_run::Input;
 use kept_store::{KeptStore, StartError, open};
-use meta_types::Fault;
+use meta_types::{Fault, Workers};
 use scripts::Fresh;
 use sqlite_disk::Disk;
 use sqlite_std_file::Start;
@@ -61,12 +60,11 @@ fn begin<L: Ledger, T: Threads + Wait + Sync, E: Log + Drop>(
     threads: &T,
     alloc: Global,
     fresh: Fresh,
-    workers: usize,
+    workers: Workers,
     log: E,
 ) -> Result<Started<L, E>, NotStarted<E>>
     requires name { fresh.blank.name ≡ L.name }
     requires parts { (fresh.blank.parts ≡ L.parts) × (fresh.blank.parts ≡ 65536) }
-    requires workers { is_worker_count workers ≡ true }
     requires rests { E.rests log }
     ensures { IfOk result (λ started. started.journal.pending.items ≡ []) }
 {
@@ -155,7 +153,7 @@ fn serve_named<
         Err(error) => return Err(Failure::Head(path, error)),
     }
     let file = telling(rt, path, log);
-    let workers = serving.workers.count;
+    let workers = serving.workers;
     let started = match begin::<L, T, _>(threads, rt.alloc(), fresh, workers, file) {
         Ok(started) => started,
         Err(not) => return Err(Failure::Start(not.error, not.log)),

@@ -1,15 +1,6 @@
 //! What the program's words ask for.
-ghost use Rattle.std.specs.Prelude.{◌≡◌, true};
-ghost use Rattle.meta_types.specs.Limits.{is_worker_count};
 
-use meta_types::is_worker_count;
-
-/// A number of workers that is allowed.
-#[derive(Clone, Copy)]
-pub struct Workers {
-    pub count: usize,
-    ghost allowed: { is_worker_count count ≡ true },
-}
+use meta_types::Workers;
 
 /// A run, as it is wanted.
 #[derive(Clone, Copy)]
@@ -51,10 +42,7 @@ fn number(text: &str) -> Option<Workers> {
     let Ok(count) = text.parse::<usize>() else {
         return None;
     };
-    if is_worker_count(count) {
-        return Some(Workers { count });
-    }
-    None
+    Workers::new(count)
 }
 
 // The options with one more. Each stands once at most.
@@ -123,7 +111,7 @@ pub fn read_words<'a>(words: &[&'a str]) -> Option<Words<'a>> {
     let dir = options.dir?;
     let asked = match (*command, options.workers) {
         ("serve", workers) => Asked::Serve(Serving {
-            workers: workers.unwrap_or(Workers { count: 1 }),
+            workers: workers.unwrap_or(Workers::ONE),
             has_checkpoint: options.has_checkpoint,
         }),
         _ if options.has_checkpoint => return None,
