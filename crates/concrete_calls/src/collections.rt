@@ -5,18 +5,18 @@
 ghost use Rattle.std.specs.Prelude.{◌≡◌};
 
 use crate::filling::{removal, request};
+use crate::seen::{Seen, are_same_entries, are_same_records};
 use backend_sweep::OpenSweepGate;
 use gc_report::Report;
-use lease_book::Lease;
 use meta_types::{Fault, Instant, Removal, Request};
-use request_core::{Records, State};
+use request_core::State;
 use std::alloc::Global;
 use std::marker::{Brand, Model};
 use std::sync::Wait;
 use std::sync::ledger::{Blank, Ledger};
 use std::thread::Threads;
 use steal_mark::OpenGate;
-use store_front::{Entry, History, Locked, Session};
+use store_front::{Locked, Session};
 
 // 2024-03-01T00:00:00Z
 const AT: Instant = Instant(1709251200000000000);
@@ -96,21 +96,32 @@ impl<L: Ledger> SessionStore<L> {
         &mut self,
         rt: &R,
         alloc: Global,
-        kind: u32,
         removal: Removal,
-        expected: &Report,
+        expected: &Expected<'_>,
     ) -> u8 {
-        let reply = self.collect(rt, alloc, kind, removal);
-        let told = number_of(&reply, expected);
+        let reply = self.collect(rt, alloc, expected.kind, removal);
+        let told = number_of(&reply, expected.report);
         drop(reply);
         told
     }
 
     fn seen(&self, alloc: Global) -> Result<Seen, Fault> {
         let history = self.locked.cut(alloc, &self.session)?;
-        let records = self.locked.records().copy(alloc)?;
-        Ok(Seen { history, records })
+        match self.locked.records().copy(alloc) {
+            Ok(records) => Ok(Seen { history, records }),
+            Err(fault) => {
+                drop(history);
+                Err(fault)
+            }
+        }
     }
+}
+
+// A kind of collection, and the report that it is to give.
+#[derive(Drop)]
+struct Expected<'r> {
+    kind: u32,
+    report: &'r Report,
 }
 
 fn number_of(reply: &Result<Report, Fault>, expected: &Report) -> u8 {
@@ -123,71 +134,24 @@ fn number_of(reply: &Result<Report, Fault>, expected: &Report) -> u8 {
 
 // ---- what a refused collection leaves
 
-// A history so far, which a cut gives only where the session's list is its part of the log; and
-// the records.
-#[derive(Drop)]
-struct Seen {
-    history: History,
-    records: Records,
-}
-
-// How many resources and labels one lease has.
-fn held(alloc: Global, lease: &Lease) -> Result<u128, Fault> {
-    let resources = lease.resources(alloc)?;
-    Ok(resources.len() as u128 + lease.labels().len() as u128)
-}
-
-// How many all leases have; the sum has no use but to be compared.
-fn held_by_all(alloc: Global, records: &Records) -> Result<u128, Fault> {
-    let mut count = 0u128;
-    let leases = records.leases.leases(alloc)?;
-    for lease in &leases {
-        count = count.wrapping_add(held(alloc, lease)?);
-    }
-    Ok(count)
-}
-
-fn hold_the_same(alloc: Global, one: &Records, two: &Records) -> bool {
-    match (held_by_all(alloc, one), held_by_all(alloc, two)) {
-        (Ok(held), Ok(other)) => held == other,
-        _ => false,
-    }
-}
-
-fn are_same_records(alloc: Global, one: &Records, two: &Records) -> bool {
-    one.tables.counts() == two.tables.counts()
-        && one.leases.len() == two.leases.len()
-        && hold_the_same(alloc, one, two)
-        && one.next == two.next
-}
-
-fn are_same_entries(one: &[Entry], two: &[Entry]) -> bool {
-    if one.len() != two.len() {
-        return false;
-    }
-    for (entry, other) in one.iter().zip(two) {
-        if entry.session != other.session
-            || !entry.event.is(&other.event)
-            || !entry.answer.is(&other.answer)
-        {
-            return false;
-        }
-    }
-    true
-}
-
 fn is_left<L: Ledger>(session_store: &SessionStore<L>, alloc: Global, before: &Seen) -> bool {
     let Ok(now) = session_store.seen(alloc) else {
         return false;
     };
-    are_same_entries(&now.history.log, &before.history.log)
-        && are_same_records(alloc, &now.records, &before.records)
+    let is_left = are_same_entries(&now.history.log, &before.history.log)
+        && are_same_records(alloc, &now.records, &before.records);
+    drop(now);
+    is_left
 }
 
 // Whether the log has this one entry more.
 fn is_entered<L: Ledger>(session_store: &SessionStore<L>, alloc: Global, before: &Seen) -> bool {
     match session_store.locked.cut(alloc, &session_store.session) {
-        Ok(history) => history.log.len() as u128 == before.history.log.len() as u128 + 1,
+        Ok(history) => {
+            let count = history.log.len() as u128;
+            drop(history);
+            count == before.history.log.len() as u128 + 1
+        }
         Err(Fault::OutOfMemory) => true,
         Err(_) => false,
     }
@@ -229,21 +193,32 @@ fn outcome_on<L: Ledger, R: Threads + Wait + Sync>(
     rt: &R,
     alloc: Global,
     session_store: &mut SessionStore<L>,
-    kind: u32,
     removals: (Removal, Removal),
     before: &Seen,
-    expected: &Report,
+    expected: &Expected<'_>,
 ) -> u8 {
     let (removal, once_more) = removals;
-    let told = session_store.tell(rt, alloc, kind, removal, expected);
+    let told = session_store.tell(rt, alloc, removal, expected);
     if told == 0 && is_entered(session_store, alloc, before) {
         return 0;
     }
     if told == 1 && is_left(session_store, alloc, before) {
-        let again = session_store.tell(rt, alloc, kind, once_more, expected);
+        let again = session_store.tell(rt, alloc, once_more, expected);
         return if again == 0 { 1 } else { 2 };
     }
     2
+}
+
+// What a collection of a kind removes beside, twice.
+fn two_removals(alloc: Global, kind: u32) -> Result<(Removal, Removal), Fault> {
+    let once = removal(alloc, kind)?;
+    match removal(alloc, kind) {
+        Ok(again) => Ok((once, again)),
+        Err(fault) => {
+            drop(once);
+            Err(fault)
+        }
+    }
 }
 
 // The same once the store is filled, and an error where that couldn't be done.
@@ -251,13 +226,20 @@ fn judged_on<L: Ledger, R: Threads + Wait + Sync>(
     rt: &R,
     alloc: Global,
     session_store: &mut SessionStore<L>,
-    kind: u32,
-    expected: &Report,
+    expected: &Expected<'_>,
 ) -> Result<u8, Fault> {
     session_store.fill(alloc)?;
-    let removals = (removal(alloc, kind)?, removal(alloc, kind)?);
-    let before = session_store.seen(alloc)?;
-    Ok(outcome_on(rt, alloc, session_store, kind, removals, &before, expected))
+    let removals = two_removals(alloc, expected.kind)?;
+    let before = match session_store.seen(alloc) {
+        Ok(before) => before,
+        Err(fault) => {
+            drop(removals);
+            return Err(fault);
+        }
+    };
+    let outcome = outcome_on(rt, alloc, session_store, removals, &before, expected);
+    drop(before);
+    Ok(outcome)
 }
 
 // The same on a store of its own.
@@ -265,22 +247,27 @@ fn judged<L: Ledger, R: Threads + Wait + Sync>(
     rt: &R,
     alloc: Global,
     blank: Blank,
-    kind: u32,
-    expected: &Report,
+    expected: &Expected<'_>,
 ) -> Result<u8, Fault>
     requires name { blank.name ≡ L.name }
     requires parts { (blank.parts ≡ L.parts) × (blank.parts ≡ 65536) }
 {
     let mut session_store = SessionStore::<L>::open(alloc, blank)?;
-    let judged = judged_on(rt, alloc, &mut session_store, kind, expected);
+    let judged = judged_on(rt, alloc, &mut session_store, expected);
     drop(session_store);
     judged
 }
 
 // The outcome of one kind of collection.
 fn outcome<R: Threads + Wait + Sync>(rt: &R, alloc: Global, kind: u32) -> Result<u8, Fault> {
-    let expected = reported::<Brand, R>(rt, alloc, Blank::new(65536), kind)?;
-    judged::<Brand, R>(rt, alloc, Blank::new(65536), kind, &expected)
+    let report = reported::<Brand, R>(rt, alloc, Blank::new(65536), kind)?;
+    let expected = Expected {
+        kind,
+        report: &report,
+    };
+    let judged = judged::<Brand, R>(rt, alloc, Blank::new(65536), &expected);
+    drop(report);
+    judged
 }
 
 /// How many collections went how.

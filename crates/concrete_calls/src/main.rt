@@ -11,6 +11,7 @@ mod graph;
 mod markings;
 mod questions;
 mod requests;
+mod seen;
 mod sessions;
 
 use collections::Outcomes;

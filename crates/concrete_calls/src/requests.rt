@@ -45,12 +45,16 @@ fn is_answered<S: SnapBackend, B: BlobBackend, I: IngestBackend>(
 
 fn calls_in_memory(alloc: Global) -> bool {
     let mut store = State::<MemBackend, MemBlobs, MemIngests>::empty(alloc);
-    is_answered(&mut store, alloc)
+    let is_answered = is_answered(&mut store, alloc);
+    drop(store);
+    is_answered
 }
 
 fn calls_with_fuses(alloc: Global) -> bool {
     let mut store = State::<FuseBackend, FuseBlobs, FuseIngests>::empty(alloc);
-    is_answered(&mut store, alloc)
+    let is_answered = is_answered(&mut store, alloc);
+    drop(store);
+    is_answered
 }
 
 /// Adds a namespace to a store in memory, and to one whose backends have fuses.

@@ -49,7 +49,9 @@ fn is_planned<L: Ledger, R: Threads + Wait + Sync>(
     session: &Session<L>,
 ) -> Result<bool, Fault> {
     let planned = store.plan_copy(rt, alloc, session, AT, 2, &OpenGate)?;
-    Ok(planned.cut.log.len() == 1)
+    let count = planned.cut.log.len();
+    drop(planned);
+    Ok(count == 1)
 }
 
 // There is no image to ask for.
@@ -80,7 +82,23 @@ fn ends<L: Ledger>(
     sessions.push(first)?;
     sessions.push(second)?;
     let history = finish(alloc, store, sessions)?;
-    Ok(history.log.len() == 2)
+    let count = history.log.len();
+    drop(history);
+    Ok(count == 2)
+}
+
+fn are_used<L: Ledger, R: Threads + Wait + Sync>(
+    rt: &R,
+    alloc: Global,
+    store: &Store<L>,
+    first: &mut Session<L>,
+    second: &mut Session<L>,
+) -> Result<bool, Fault> {
+    let is_called = is_called(rt, alloc, store, first)?;
+    let is_planned = is_planned(rt, alloc, store, first)?;
+    let is_asked = is_asked(rt, alloc, store, first)?;
+    let is_collected = is_collected(rt, alloc, store, second);
+    Ok(is_called && is_planned && is_asked && is_collected)
 }
 
 fn calls_named<L: Ledger, R: Threads + Wait + Sync>(
@@ -92,14 +110,18 @@ fn calls_named<L: Ledger, R: Threads + Wait + Sync>(
     requires parts { (blank.parts ≡ L.parts) × (blank.parts ≡ 65536) }
 {
     let store = Store::<L>::new(alloc, blank, State::empty(alloc))?;
-    let mut first = store.session(rt, alloc)?;
-    let mut second = store.session(rt, alloc)?;
-    let is_called = is_called(rt, alloc, &store, &mut first)?;
-    let is_planned = is_planned(rt, alloc, &store, &first)?;
-    let is_asked = is_asked(rt, alloc, &store, &first)?;
-    let is_collected = is_collected(rt, alloc, &store, &mut second);
+    let Ok(mut first) = store.session(rt, alloc) else {
+        drop(store);
+        return Err(Fault::OutOfMemory);
+    };
+    let Ok(mut second) = store.session(rt, alloc) else {
+        drop(first);
+        drop(store);
+        return Err(Fault::OutOfMemory);
+    };
+    let are_used = are_used(rt, alloc, &store, &mut first, &mut second);
     let is_ended = ends(alloc, store, first, second)?;
-    Ok(is_called && is_planned && is_asked && is_collected && is_ended)
+    Ok(are_used? && is_ended)
 }
 
 /// Adds a namespace in one session, plans and asks beside the lock, collects in another, and ends the
