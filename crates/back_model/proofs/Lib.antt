@@ -7,5 +7,4 @@ pub mod ShardPlaces
 pub mod ShardSearches
 pub mod Listed
 pub mod Making
-pub mod HeldParents
 pub mod Named

@@ -93,6 +93,10 @@ impl SnapBackend for FuseBackend {
         self.inner.numbers(alloc)
     }
 
+    fn list(&self, alloc: Global) -> Result<Vec<(u64, Option<u64>)>, Fault> {
+        self.inner.list(alloc)
+    }
+
     fn failures(&self) -> u64 {
         self.fuse.failures()
     }

@@ -40,10 +40,10 @@ pub(crate) fn push_snaps<S: SnapBackend>(
     ensures ok { OnOk result (map listed_snap into.new.items ≡ map listed_snap into.old.items
         ++ snaps_in (shown S.contents S.fails (snapshotter.now, shard.now))) }
 {
-    let numbers = shard.numbers(alloc)?;
-    make_room(into, numbers.len())?;
-    for number in &numbers {
-        into.push((snapshotter.copy()?, *number, shard.parent(*number)))?;
+    let list = shard.list(alloc)?;
+    make_room(into, list.len())?;
+    for snap in &list {
+        into.push((snapshotter.copy()?, snap.0, snap.1))?;
     }
     Ok(())
 }

@@ -195,6 +195,14 @@ impl SnapBackend for MemBackend {
         Ok(numbers)
     }
 
+    fn list(&self, alloc: Global) -> Result<Vec<(u64, Option<u64>)>, Fault> {
+        let mut list = Vec::with_capacity(alloc, self.nodes.len())?;
+        for entry in self.nodes.iter() {
+            list.push((*entry.0, entry.1.parent))?;
+        }
+        Ok(list)
+    }
+
     fn failures(&self) -> u64 {
         0
     }

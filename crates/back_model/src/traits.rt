@@ -66,6 +66,11 @@ pub trait SnapBackend: Send + Drop {
         ensures fault { Refuses result None }
         ensures ok { IfOk result (λ numbers. numbers.items ≡ finmap.keys (contents self.now)) };
 
+    /// The numbers, in their order, each with its parent.
+    fn list(&self, alloc: Global) -> Result<Vec<(u64, Option<u64>)>, Fault>
+        ensures fault { Refuses result None }
+        ensures ok { IfOk result (λ list. list.items ≡ finmap.entries (contents self.now)) };
+
     /// How often its device has failed.
     fn failures(&self) -> u64
         ensures { result ≡ fails self.now };
