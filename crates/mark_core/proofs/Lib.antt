@@ -3,6 +3,7 @@ pub mod Counts
 pub mod ClaimLemmas
 pub mod Walks
 pub mod ListEnds
+pub mod ListsJoined
 pub mod Explores
 pub mod Workers
 pub mod Keeping

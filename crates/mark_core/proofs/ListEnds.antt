@@ -1,5 +1,5 @@
 -- What ends cut a list into, list by list.
-use Rattle.std.proofs.Common.{◌≡◌, ◌<◌, ◌≤◌, ◌+◌, ◌-◌, ◌++◌, ◌∙◌, ℕ, zero, suc, List, [], ◌∷◌, length, get_or, take, drop, arith, refl, sym, ap, ap₂, subst}
+use Rattle.std.proofs.Common.{◌≡◌, ◌<◌, ◌≤◌, ◌+◌, ◌-◌, ◌++◌, ◌∙◌, ℕ, zero, suc, List, [], ◌∷◌, length, get_or, take, drop, arith, refl, ap, ap₂}
 use Rattle.std.specs.List.{slice_range}
 use Rattle.std.proofs.lemmas.List.{take-append-le, drop-append-le, length-drop}
 use Rattle.std.proofs.Math.Seq.{drop-append_seam, take-length}
@@ -43,12 +43,13 @@ ends_inside start (end ∷ ends) count (suc i) is inside =
     ends_inside end ends count i is.1 (omega arith)
 
 -- numbers at the end change no list before
-range_before : (numbers more : List ℕ) (start end : ℕ) → end ≤ length numbers → start ≤ end
+pub range_before : (numbers more : List ℕ) (start end : ℕ) → end ≤ length numbers → start ≤ end
     → slice_range (numbers ++ more) start end ≡ slice_range numbers start end
 range_before numbers more start end inside up =
     let dropped = drop-append-le start numbers more (omega arith) in
     let long = length-drop start numbers in
-    ap (take (end - start)) dropped ∙ take-append-le (end - start) (drop start numbers) more (omega arith)
+    ap (take (end - start)) dropped ∙ take-append-le (end - start) (drop start numbers) more
+    (omega arith)
 
 -- and are the list behind
 range_behind : (numbers more : List ℕ)

@@ -1,7 +1,7 @@
-use Rattle.std.proofs.Common.{◌≡◌, ◌<◌, ◌≤◌, ◌∙◌, ℕ, List, [], ◌∷◌, length, get_or, ap, ap₂, sym, arith, subst}
+use Rattle.std.proofs.Common.{◌≡◌, ◌<◌, ◌∙◌, ℕ, List, [], ◌∷◌, length, get_or, ap, ap₂, sym, arith}
 use Rattle.std.specs.List.{slice_range}
 use Rattle.std.proofs.lemmas.Grind.{get_or_default_zero}
-use Rattle.mark_core.specs.TargetLists.{lists_of, AreEnds}
+use Rattle.mark_core.specs.TargetLists.{lists_of}
 use Rattle.mark_core.proofs.ListEnds.{length-lists, list_at, ends_behind, ends_inside}
 use Rattle.mark_core.proofs.target_lists.TargetLists.list.Goals as goal
 
@@ -11,8 +11,8 @@ counted : (numbers ends : List ℕ) (lists : List (List ℕ)) → lists_of numbe
 counted numbers ends lists is = sym (length-lists numbers 0 ends) ∙ ap length is
 
 -- the index names an end
-pub index-end-requires : goal.index-end-requires
-index-end-requires c =
+pub index-requires : goal.index-requires
+index-requires c =
     let long = counted c.self.inside.targets.items c.self.inside.ends.items c.args.self.now
     c.self.view_is in
     let inside = c.requires in
@@ -44,8 +44,8 @@ part-requires-clause-order c =
     let inside = c.requires in
     let start = begun c.start_of-start.result ends c.deref.result.now c.args.index
     c.start_of-start.ensures c.deref.ensures.value in
-    let end = read_at ends c.args.index c.index-end.result.now (omega arith) c.index-end.ensures in
-    let up = ends_behind 0 ends (length c.self.inside.targets.items) c.args.index c.self.invariant
+    let end = read_at ends c.args.index c.index.result.now (omega arith) c.index.ensures in
+    let up = ends_behind 0 ends (length c.self.inside.targets.items) c.args.index c.self.invariant.0
     (omega arith) in
     omega arith
 
@@ -55,9 +55,9 @@ part-requires-clause-within c =
     let long = counted c.self.inside.targets.items ends c.args.self.now c.self.view_is in
     let inside = c.requires in
     let here = ap length c.deref-2.ensures.value in
-    let up = ends_inside 0 ends (length c.self.inside.targets.items) c.args.index c.self.invariant
+    let up = ends_inside 0 ends (length c.self.inside.targets.items) c.args.index c.self.invariant.0
     (omega arith) in
-    let end = read_at ends c.args.index c.index-end.result.now (omega arith) c.index-end.ensures in
+    let end = read_at ends c.args.index c.index.result.now (omega arith) c.index.ensures in
     omega arith
 
 pub returns : goal.returns
@@ -69,8 +69,8 @@ returns c =
     let start = begun c.start_of-start.result ends c.deref.result.now c.args.index
     c.start_of-start.ensures c.deref.ensures.value in
     c.part.ensures
-    ∙ ap (λ ns. slice_range ns c.start_of-start.result c.index-end.result.now) c.deref-2.ensures.value
+    ∙ ap (λ ns. slice_range ns c.start_of-start.result c.index.result.now) c.deref-2.ensures.value
     ∙ ap₂ (slice_range numbers) start
-    (read_at ends c.args.index c.index-end.result.now (omega arith) c.index-end.ensures)
+    (read_at ends c.args.index c.index.result.now (omega arith) c.index.ensures)
     ∙ sym (list_at numbers 0 ends c.args.index (omega arith))
     ∙ ap (λ ls. get_or ls c.args.index []) c.self.view_is
