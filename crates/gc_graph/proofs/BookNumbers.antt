@@ -1,12 +1,8 @@
 -- What the book has no number for, and what stays true of it.
-use Rattle.std.proofs.Common.{◌≡◌, ℕ, ◌+◌, ◌<◌, Bool, true, false, List, [], ◌∷◌, ◌++◌, length, get_or, refl, sym, ap, ◌∙◌, Option, Some, None, append-nil, append_assoc, take}
+use Rattle.std.proofs.Common.{◌≡◌, ℕ, ◌+◌, ◌<◌, Bool, true, false, List, [], ◌∷◌, ◌++◌, length, get_or, refl, sym, ap, ◌∙◌, Option, Some, None, append-nil, take}
 use Rattle.std.proofs.Math.Numerals.{add-one}
 use Rattle.std.proofs.Math.Seq.{take-suc}
-use Rattle.std.proofs.lemmas.Grind.{flat_map-append}
 use Rattle.std.proofs.lemmas.List.Elements.{filter_map-append}
-use Rattle.meta_types.specs.Text.{Text}
-use Rattle.meta_types.specs.Labels.{LabelList}
-use Rattle.gc_graph.specs.Targets.{content_target, snapshot_target, label_targets}
 use Rattle.std.specs.Prelude.{Err}
 use Rattle.std.specs.List.{cons_option}
 use Rattle.std.proofs.lemmas.Bool.{both_ways}
@@ -42,20 +38,3 @@ take_next xs i x lt is = rw add-one (take-suc xs i x lt) ∙ ap (λ y. take i xs
 
 pub numbers_in-append : (book xs ys : List Node) → numbers_in book (xs ++ ys) ≡ numbers_in book xs ++ numbers_in book ys
 numbers_in-append book xs ys = filter_map-append (number_of book) xs ys
-
-assoc3 : (a b c d : List ℕ) → ((a ++ b) ++ c) ++ d ≡ a ++ (b ++ (c ++ d))
-assoc3 a b c d = append_assoc (a ++ b) c d ∙ append_assoc a b (c ++ d)
-
-module _ (book : List Node) (ns : Text) where
-  pub label_step : (start now mid new : List ℕ) (entries : LabelList) (label : Text × Text)
-      → now ≡ start ++ numbers_in book (label_targets ns entries)
-      → mid ≡ now ++ numbers_in book (content_target ns label)
-      → new ≡ mid ++ numbers_in book (snapshot_target ns label)
-      → new ≡ start ++ numbers_in book (label_targets ns (entries ++ label ∷ []))
-  label_step start now mid new entries label a b c =
-      let all : label_targets ns (entries ++ label ∷ []) ≡ label_targets ns entries ++ (content_target ns label ++ snapshot_target ns label)
-      = flat_map-append (λ l. content_target ns l ++ snapshot_target ns l) entries (label ∷ []) ∙ ap (λ t. label_targets ns entries ++ t) (append-nil (content_target ns label ++ snapshot_target ns label)) in
-      let front = numbers_in book (label_targets ns entries) in
-      c ∙ ap (λ m. m ++ numbers_in book (snapshot_target ns label)) (b ∙ ap (λ n. n ++ numbers_in book (content_target ns label)) a)
-      ∙ assoc3 start front (numbers_in book (content_target ns label)) (numbers_in book (snapshot_target ns label))
-      ∙ sym (ap (λ ts. start ++ numbers_in book ts) all ∙ ap (λ t. start ++ t) (numbers_in-append book (label_targets ns entries) (content_target ns label ++ snapshot_target ns label) ∙ ap (λ t. front ++ t) (numbers_in-append book (content_target ns label) (snapshot_target ns label))))

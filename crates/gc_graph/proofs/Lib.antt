@@ -18,3 +18,4 @@ pub mod RowsApart
 pub mod AnyOrder
 pub mod LentRows
 pub mod NearPlaces
+pub mod LabelKinds

@@ -63,6 +63,32 @@ fn push_parent(
     Ok(())
 }
 
+// Adds the targets of content in full.
+fn push_full(
+    alloc: Global,
+    book: &NodeBook<'_>,
+    rows: &[&ContentRow],
+    full: &mut TargetLists,
+) -> Result<(), Fault>
+    ensures fault { Refuses result None }
+    ensures ok { OnOk result (full.new ≡ full.old
+        ++ map (λ row. targets_in book.now (content Full row.now)) rows.now) }
+{
+    let mut near = Near::first();
+    let mut in_full = Vec::new(alloc);
+    for row in rows {
+        in_full.clear();
+        let lookup = Lookup {
+            alloc,
+            book,
+            ns: &row.ns,
+        };
+        push_labels(&lookup, &row.labels, &mut near, &mut in_full)?;
+        full.push(&in_full)?;
+    }
+    Ok(())
+}
+
 /// Reads content: in flat it references nothing.
 #[derive(Clone, Copy)]
 struct Contents<'b, 'a> {
@@ -74,25 +100,69 @@ impl<'b, 'a, 'r> RowReader<&'r ContentRow> for Contents<'b, 'a> {
 
     ghost flat_of = { λ reader row. targets_in reader.book.now (content Flat row.now) };
 
-    fn near(&self, _rows: &[&'r ContentRow]) -> Near {
-        Near::first()
-    }
-
-    fn push_targets(
+    fn read(
         &self,
         alloc: Global,
-        row: &&'r ContentRow,
-        near: &mut Near,
-        full: &mut Vec<u32>,
-        _flat: &mut Vec<u32>,
+        rows: &[&'r ContentRow],
+        full: &mut TargetLists,
+        flat: &mut TargetLists,
     ) -> Result<(), Fault> {
-        let lookup = Lookup {
-            alloc,
-            book: self.book,
-            ns: &row.ns,
-        };
-        push_labels(&lookup, &row.labels, near, full)
+        push_full(alloc, self.book, rows, full)?;
+        flat.push_empty(rows.len())?;
+        Ok(())
     }
+}
+
+// Adds the numbers of what a snapshot references, in full and in flat.
+fn push_snapshot(
+    alloc: Global,
+    book: &NodeBook<'_>,
+    row: &SnapRow,
+    near: &mut Near,
+    full: &mut Vec<u32>,
+    flat: &mut Vec<u32>,
+) -> Result<(), Fault>
+    ensures fault { Refuses result None }
+    ensures full { OnOk result (full.new.items
+        ≡ full.old.items ++ targets_in book.now (snapshot Full row.now)) }
+    ensures flat { OnOk result (flat.new.items
+        ≡ flat.old.items ++ targets_in book.now (snapshot Flat row.now)) }
+{
+    push_parent(book, row, near.row, full, flat)?;
+    near.row = near.row.saturating_add(1);
+    let lookup = Lookup {
+        alloc,
+        book,
+        ns: &row.key.ns,
+    };
+    push_labels(&lookup, &row.labels, near, full)
+}
+
+// Adds the targets of snapshots, in full and in flat.
+fn push_both(
+    alloc: Global,
+    book: &NodeBook<'_>,
+    rows: &[&SnapRow],
+    full: &mut TargetLists,
+    flat: &mut TargetLists,
+) -> Result<(), Fault>
+    ensures fault { Refuses result None }
+    ensures full { OnOk result (full.new ≡ full.old
+        ++ map (λ row. targets_in book.now (snapshot Full row.now)) rows.now) }
+    ensures flat { OnOk result (flat.new ≡ flat.old
+        ++ map (λ row. targets_in book.now (snapshot Flat row.now)) rows.now) }
+{
+    let mut near = book.near_first(rows);
+    let mut in_full = Vec::new(alloc);
+    let mut in_flat = Vec::new(alloc);
+    for row in rows {
+        in_full.clear();
+        in_flat.clear();
+        push_snapshot(alloc, book, row, &mut near, &mut in_full, &mut in_flat)?;
+        full.push(&in_full)?;
+        flat.push(&in_flat)?;
+    }
+    Ok(())
 }
 
 /// Reads snapshots: in flat each references its parent in flat.
@@ -106,27 +176,14 @@ impl<'b, 'a, 'r> RowReader<&'r SnapRow> for Snapshots<'b, 'a> {
 
     ghost flat_of = { λ reader row. targets_in reader.book.now (snapshot Flat row.now) };
 
-    fn near(&self, rows: &[&'r SnapRow]) -> Near {
-        self.book.near_first(rows)
-    }
-
-    fn push_targets(
+    fn read(
         &self,
         alloc: Global,
-        row: &&'r SnapRow,
-        near: &mut Near,
-        full: &mut Vec<u32>,
-        flat: &mut Vec<u32>,
+        rows: &[&'r SnapRow],
+        full: &mut TargetLists,
+        flat: &mut TargetLists,
     ) -> Result<(), Fault> {
-        push_parent(self.book, row, near.row, full, flat)?;
-        near.row = near.row.saturating_add(1);
-        let lookup = Lookup {
-            alloc,
-            book: self.book,
-            ns: &row.key.ns,
-        };
-        let labels = &row.labels;
-        push_labels(&lookup, labels, near, full)
+        push_both(alloc, self.book, rows, full, flat)
     }
 }
 

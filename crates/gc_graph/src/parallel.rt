@@ -3,7 +3,6 @@ ghost use Rattle.std.specs.Prelude.{◌≡◌, ◌<◌, ◌++◌, ℕ, List, map
 ghost use Rattle.std.specs.List.{flat_map};
 ghost use Rattle.meta_types.specs.Faults.{Refuses};
 
-use crate::rows::near::Near;
 use mark_core::TargetLists;
 use meta_types::Fault;
 use rayon::iter::plumbing::LEAST_PIECE;
@@ -11,7 +10,7 @@ use rayon::prelude::*;
 use std::alloc::Global;
 use std::thread::Threads;
 
-/// A reader of what a row references in both modes.
+/// A reader of what rows reference in both modes.
 pub(crate) trait RowReader<T>: Sync {
     /// The numbers of what the row references in full.
     ghost full_of: { Self → T → List ℕ };
@@ -19,46 +18,17 @@ pub(crate) trait RowReader<T>: Sync {
     /// The numbers of what the row references in flat.
     ghost flat_of: { Self → T → List ℕ };
 
-    /// Where to look first for what these rows reference. No clause depends on it.
-    fn near(&self, rows: &[T]) -> Near;
-
-    /// Adds the numbers of what the row references.
-    fn push_targets(
+    /// Adds the targets of each row.
+    fn read(
         &self,
         alloc: Global,
-        row: &T,
-        near: &mut Near,
-        full: &mut Vec<u32>,
-        flat: &mut Vec<u32>,
+        rows: &[T],
+        full: &mut TargetLists,
+        flat: &mut TargetLists,
     ) -> Result<(), Fault>
         ensures fault { Refuses result None }
-        ensures full { OnOk result (full.new.items ≡ full.old.items ++ full_of self.now row.now) }
-        ensures flat { OnOk result (flat.new.items ≡ flat.old.items ++ flat_of self.now row.now) };
-}
-
-// Adds the targets of each row, read by the calling thread.
-fn read_alone<T, R: RowReader<T>>(
-    alloc: Global,
-    reader: &R,
-    rows: &[T],
-    full: &mut TargetLists,
-    flat: &mut TargetLists,
-) -> Result<(), Fault>
-    ensures fault { Refuses result None }
-    ensures full { OnOk result (full.new ≡ full.old ++ map (R.full_of reader.now) rows.now) }
-    ensures flat { OnOk result (flat.new ≡ flat.old ++ map (R.flat_of reader.now) rows.now) }
-{
-    let mut near = reader.near(rows);
-    let mut in_full = Vec::new(alloc);
-    let mut in_flat = Vec::new(alloc);
-    for row in rows {
-        in_full.clear();
-        in_flat.clear();
-        reader.push_targets(alloc, row, &mut near, &mut in_full, &mut in_flat)?;
-        full.push(&in_full)?;
-        flat.push(&in_flat)?;
-    }
-    Ok(())
+        ensures full { OnOk result (full.new ≡ full.old ++ map (full_of self.now) rows.now) }
+        ensures flat { OnOk result (flat.new ≡ flat.old ++ map (flat_of self.now) rows.now) };
 }
 
 // The targets of a part of the rows, in full and in flat.
@@ -73,7 +43,7 @@ fn read_part<T, R: RowReader<T>>(
 {
     let mut full = TargetLists::with_capacity(alloc, part.len())?;
     let mut flat = TargetLists::with_capacity(alloc, part.len())?;
-    read_alone(alloc, reader, part, &mut full, &mut flat)?;
+    reader.read(alloc, part, &mut full, &mut flat)?;
     Ok((full, flat))
 }
 
@@ -152,7 +122,7 @@ pub(crate) fn read_rows<T: Sync, R: RowReader<T>>(
     let size = part_size(rows.len(), workers);
     if rows.len() / 2 < size {
         let mut flat = TargetLists::with_capacity(alloc, rows.len())?;
-        read_alone(alloc, reader, rows, edges, &mut flat)?;
+        reader.read(alloc, rows, edges, &mut flat)?;
         edges.append(&flat)?;
         return Ok(());
     }

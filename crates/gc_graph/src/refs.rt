@@ -1,5 +1,5 @@
 //! The numbers of what a row references.
-ghost use Rattle.std.specs.Prelude.{◌≡◌, ◌++◌, ◌∷◌, [], OnOk, None, IfOk};
+ghost use Rattle.std.specs.Prelude.{◌≡◌, ◌++◌, ◌∷◌, [], OnOk, None, IfOk, slice_get};
 ghost use Rattle.std.specs.List.{cons_option};
 ghost use Rattle.meta_types.specs.Faults.{Refuses};
 ghost use Rattle.meta_types.specs.declared.resource.Mode.TheVariants.{Full};
@@ -155,6 +155,45 @@ fn push_label_snapshot(
     }
 }
 
+// Where keys of references differ first: behind `containerd.io/gc.ref.`.
+const KIND: usize = 21;
+
+// The byte there.
+fn kind_of(key: &str) -> Option<u8>
+    ensures { result ≡ slice_get key.now 21 }
+{
+    key.as_bytes().get(KIND).copied()
+}
+
+// Adds the number of what a label references in a namespace. One byte tells which keys need no
+// reading.
+fn push_label(
+    lookup: &Lookup<'_, '_>,
+    key: &str,
+    value: &str,
+    near: &mut Near,
+    numbers: &mut Vec<u32>,
+) -> Result<(), Fault>
+    ensures fault { Refuses result None }
+    ensures ok { OnOk result (numbers.new.items ≡ numbers.old.items
+        ++ numbers_in lookup.now.book.now
+        (content_target lookup.now.ns.now (key.now, value.now)
+        ++ snapshot_target lookup.now.ns.now (key.now, value.now))) }
+{
+    let Some(kind) = kind_of(key) else {
+        return Ok(());
+    };
+    if kind == b'c' {
+        push_label_content(lookup, key, value, near, numbers)?;
+        return Ok(());
+    }
+    if kind == b's' {
+        push_label_snapshot(lookup, key, value, near, numbers)?;
+        return Ok(());
+    }
+    Ok(())
+}
+
 // Adds the numbers of what labels reference in a namespace.
 pub(crate) fn push_labels(
     lookup: &Lookup<'_, '_>,
@@ -168,8 +207,7 @@ pub(crate) fn push_labels(
 {
     let entries = labels.entries();
     for entry in entries {
-        push_label_content(lookup, &entry.0, &entry.1, near, numbers)?;
-        push_label_snapshot(lookup, &entry.0, &entry.1, near, numbers)?;
+        push_label(lookup, &entry.0, &entry.1, near, numbers)?;
     }
     Ok(())
 }

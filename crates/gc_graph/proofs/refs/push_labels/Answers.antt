@@ -3,7 +3,8 @@ use Rattle.std.proofs.lemmas.List.{map-append}
 use Rattle.meta_types.specs.Text.{Text, texts_of}
 use Rattle.gc_graph.specs.Targets.{content_target, snapshot_target, label_targets}
 use Rattle.gc_graph.specs.Built.{numbers_in}
-use Rattle.gc_graph.proofs.BookNumbers.{label_step, take_next}
+use Rattle.gc_graph.proofs.BookNumbers.{take_next}
+use Rattle.gc_graph.proofs.LabelKinds.{label_step}
 use Rattle.gc_graph.proofs.refs.push_labels.Goals as goal
 
 pub loop-entry-preserved : goal.loop-entry-preserved
@@ -12,11 +13,15 @@ loop-entry-preserved c =
     let ns = c.args.lookup.now.ns.now in
     let item = c.entry-item.result in
     let label : Text × Text = (string_bytes item.0, string_bytes item.1) in
-    let a : c.push_label_content.new.numbers.items ≡ c.loop-entry.numbers.items ++ numbers_in book (content_target ns label)
-    = c.in_ok-push_label_content.ensures.ok ∙ (λ i. c.loop-entry.numbers.items ++ numbers_in book (content_target ns (c.deref.ensures i, c.deref-in-loop-entry.ensures i))) in
-    let b : c.push_label_snapshot.new.numbers.items ≡ c.push_label_content.new.numbers.items ++ numbers_in book (snapshot_target ns label)
-    = c.in_ok-push_label_snapshot.ensures.ok ∙ (λ i. c.push_label_content.new.numbers.items ++ numbers_in book (snapshot_target ns (c.deref-in-loop-entry-2.ensures i, c.deref-in-loop-entry-3.ensures i))) in
-    label_step book ns c.args.numbers.now.items c.loop-entry.numbers.items c.push_label_content.new.numbers.items c.push_label_snapshot.new.numbers.items
-    (texts_of (take c.loop-entry.entry-index c.entries-entries.result.now)) label c.loop-entry.invariant a b
+    let more : c.push_label.new.numbers.items ≡ c.loop-entry.numbers.items
+    ++ numbers_in book (content_target ns label ++ snapshot_target ns label)
+    = c.in_ok-push_label.ensures.ok ∙ (λ i. c.loop-entry.numbers.items
+    ++ numbers_in book (content_target ns (c.deref.ensures i, c.deref-in-loop-entry.ensures i)
+    ++ snapshot_target ns (c.deref.ensures i, c.deref-in-loop-entry.ensures i))) in
+    label_step book ns c.args.numbers.now.items c.loop-entry.numbers.items
+    c.push_label.new.numbers.items
+    (texts_of (take c.loop-entry.entry-index c.entries-entries.result.now)) label
+    c.loop-entry.invariant more
     ∙ ap (λ es. c.args.numbers.now.items ++ numbers_in book (label_targets ns es))
-    (sym (ap texts_of (take_next c.entries-entries.result.now c.loop-entry.entry-index item c.loop-entry-test.true c.entry-item.is) ∙ map-append (λ e. (string_bytes e.0, string_bytes e.1)) (take c.loop-entry.entry-index c.entries-entries.result.now) (item ∷ [])))
+    (sym (ap texts_of (take_next c.entries-entries.result.now c.loop-entry.entry-index item c.loop-entry-test.true c.entry-item.is)
+    ∙ map-append (λ e. (string_bytes e.0, string_bytes e.1)) (take c.loop-entry.entry-index c.entries-entries.result.now) (item ∷ [])))
