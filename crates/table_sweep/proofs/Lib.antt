@@ -14,6 +14,8 @@ pub mod Deep
 pub mod SortedObjects
 pub mod SortedRows
 pub mod NamesOrder
+pub mod Alike
+pub mod Permuted
 pub mod RecordsArrived
 pub mod KeyOrder
 pub mod Goes

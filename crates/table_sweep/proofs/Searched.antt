@@ -21,7 +21,8 @@ module _ {X : Type 0} (ord : X → Ordering) where
   abbrev hits : X → Bool
   hits x = is_eq (ord x)
 
-  hit_at : (xs : List X) (i : ℕ) → i < length xs → ((d : X) → ord (slice_index_or xs i d) ≡ Equal) → list_any hits xs ≡ true
+  hit_at : (xs : List X) (i : ℕ) → i < length xs → ((d : X) → ord (slice_index_or xs i d) ≡ Equal) →
+      list_any hits xs ≡ true
   hit_at [] i lt h = absurd (omega (arith, lt))
   hit_at (x ∷ xs) zero lt h = ap (λ r. is_eq r || list_any hits xs) (h x)
   hit_at (x ∷ xs) (suc i) lt h = elim (cases_Bool (hits x)) [
@@ -29,11 +30,14 @@ module _ {X : Type 0} (ord : X → Ordering) where
     | inr f ↦ rw f (hit_at xs i (omega (arith, lt)) h)
   ]
 
-  no_hit : (xs : List X) → ((k : ℕ) (d : X) → k < length xs → is_eq (ord (slice_index_or xs k d)) ≡ false) → list_any hits xs ≡ false
+  no_hit : (xs : List X) → ((k : ℕ) (d : X) → k < length xs → is_eq (ord (slice_index_or xs k d)) ≡
+      false) → list_any hits xs ≡ false
   no_hit [] h = refl
-  no_hit (x ∷ xs) h = λ j. h 0 x (omega arith) j || no_hit xs (λ k d lt. h (suc k) d (omega (arith, lt))) j
+  no_hit (x ∷ xs) h = λ j. h 0 x (omega arith) j || no_hit xs
+      (λ k d lt. h (suc k) d (omega (arith, lt))) j
 
-  pub searched_any : (xs : List X) (r : Result ℕ ℕ) → IsSearchInRange r (length xs) → IsBinarySearchResult ord xs r → IsNonDecreasingBy (λ y. ordering_index (ord y)) xs
+  pub searched_any : (xs : List X) (r : Result ℕ ℕ) → IsSearchInRange r (length xs) →
+      IsBinarySearchResult ord xs r → IsNonDecreasingBy (λ y. ordering_index (ord y)) xs
       → is_ok r ≡ list_any hits xs
   searched_any xs (Ok i) lt h rises = sym (hit_at xs i lt h)
   searched_any xs (Err i) le h rises =
@@ -48,7 +52,8 @@ module _ {X : Type 0} (ord : X → Ordering) where
 pub object_total : IsTotalOrder object_cmp
 object_total =
     then_total (λ (a b : Text × ℕ). nat_cmp a.1 b.1) (λ (a b : Text × ℕ). text_cmp a.0 b.0)
-    (on_total (λ (x : Text × ℕ). x.1) nat_cmp_total) (on_total (λ (x : Text × ℕ). x.0) nat_list_cmp_total)
+    (on_total (λ (x : Text × ℕ). x.1) nat_cmp_total) (on_total (λ (x : Text × ℕ). x.0)
+    nat_list_cmp_total)
 
 both_tie : (r s : Ordering) → is_eq (ordering_then r s) ≡ (is_eq s && is_eq r)
 both_tie Less Less = refl
@@ -62,17 +67,23 @@ both_tie Greater Equal = refl
 both_tie Greater Greater = refl
 
 -- the row is the snapshot's
-own_is : (row : SnapRow) (s : Listed) → is_eq (object_cmp (object_of row) (name_of s)) ≡ (bytes_eq row.key.snapshotter s.0 && row.number == s.1)
-own_is row s = both_tie (nat_cmp row.number s.1) (text_cmp row.key.snapshotter s.0) ∙ (λ i. is_eq-slice_cmp row.key.snapshotter s.0 i && unsigned_tied row.number s.1 i)
+own_is : (row : SnapRow) (s : Listed) → is_eq (object_cmp (object_of row) (name_of s)) ≡
+    (bytes_eq row.key.snapshotter s.0 && row.number == s.1)
+own_is row s = both_tie (nat_cmp row.number s.1) (text_cmp row.key.snapshotter s.0) ∙
+    (λ i. is_eq-slice_cmp row.key.snapshotter s.0 i && unsigned_tied row.number s.1 i)
 
-pub any_own : (rows : List (Bor SnapRow)) (s : Listed) → list_any (λ (row : Bor SnapRow). is_eq (object_cmp (object_of row.now) (name_of s))) rows
-    ≡ list_any (λ (row : SnapRow). bytes_eq row.key.snapshotter s.0 && row.number == s.1) (map (λ (row : Bor SnapRow). row.now) rows)
+pub any_own : (rows : List (Bor SnapRow)) (s : Listed) → list_any
+    (λ (row : Bor SnapRow). is_eq (object_cmp (object_of row.now) (name_of s))) rows
+    ≡ list_any (λ (row : SnapRow). bytes_eq row.key.snapshotter s.0 && row.number == s.1)
+    (map (λ (row : Bor SnapRow). row.now) rows)
 any_own [] s = refl
 any_own (row ∷ rows) s = λ i. own_is row.now s i || any_own rows s i
 
-pub any_number : (numbers : List ℕ) (number : ℕ) → list_any (λ other. is_eq (nat_cmp other number)) numbers ≡ list_any (λ other. other == number) numbers
+pub any_number : (numbers : List ℕ) (number : ℕ) → list_any (λ other. is_eq (nat_cmp other number))
+    numbers ≡ list_any (λ other. other == number) numbers
 any_number [] number = refl
-any_number (other ∷ numbers) number = λ i. unsigned_tied other number i || any_number numbers number i
+any_number (other ∷ numbers) number = λ i. unsigned_tied other number i || any_number numbers number
+    i
 
 pub err_is : (r : Result ℕ ℕ) → is_err r ≡ not (is_ok r)
 err_is (Ok i) = refl
@@ -92,3 +103,9 @@ any_at rows s i row lt is t =
     let ord : Bor SnapRow → Ordering = λ row. object_cmp (object_of row.now) (name_of s) in
     ap not (sym (any_own rows s)
     ∙ hit_at ord rows i lt (λ d. ap ord (sym (is d)) ∙ is_tied (ord row) (own_is row.now s ∙ t)))
+
+pub both_turned : (a b : Bool) → (a && b) ≡ (b && a)
+both_turned true true = refl
+both_turned true false = refl
+both_turned false true = refl
+both_turned false false = refl

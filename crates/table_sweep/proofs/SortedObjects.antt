@@ -171,3 +171,9 @@ module _ {X : Type 0} (R : X → X → Ordering) where
     sorted_in_order xs ys p s =
         unique ys (in_order (λ a b. is_lt (R a b)) xs) (sorted_ascends ys s) (order_ascends xs)
         (λ f. sym (weighed f ys) ∙ sum_by-IsPermutation f xs ys p ∙ weighed f xs ∙ sym (order_weighs f xs))
+
+    -- lists of the same items are one list when they are put in order
+    pub order_alike : (xs ys : List X) → IsPermutation xs ys → in_order (λ a b. is_lt (R a b)) ys ≡ in_order (λ a b. is_lt (R a b)) xs
+    order_alike xs ys p =
+        unique (in_order (λ a b. is_lt (R a b)) ys) (in_order (λ a b. is_lt (R a b)) xs) (order_ascends ys) (order_ascends xs)
+        (λ f. order_weighs f ys ∙ sym (weighed f ys) ∙ sum_by-IsPermutation f xs ys p ∙ weighed f xs ∙ sym (order_weighs f xs))

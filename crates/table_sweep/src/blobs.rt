@@ -1,6 +1,7 @@
 //! The blobs that no row owns, in the order of their digests.
 ghost use Rattle.std.specs.Prelude.{◌≡◌, ◌<◌, ◌++◌, ◌∷◌, [], map, filter, length, not, false, bytes_eq, ◌&&◌, ◌||◌, if◌then◌else◌, OnOk, None, IfOk, IfSome, Bool, position, slice_get};
 ghost use Rattle.std.specs.Option.{option_map_or};
+ghost use Rattle.std.specs.List.Sorted.{IsPermutation};
 ghost use Rattle.meta_types.specs.Keys.{is_key};
 ghost use Rattle.meta_types.specs.Text.{Text, text_cmp};
 ghost use Rattle.meta_types.specs.Faults.{Refuses};
@@ -11,6 +12,7 @@ ghost use Rattle.table_sweep.specs.Masks.{gone};
 ghost use Rattle.table_sweep.specs.Owned.{owns_blob};
 
 use crate::masks::count_gone;
+use crate::near::{Near, nearly_in_order, push_near};
 use meta_types::{ContentRow, Digest, Fault};
 use row_tables::RowTable;
 use std::alloc::Global;
@@ -111,16 +113,68 @@ fn push_blob(digest: &Digest, is_owned: bool, gone: &mut Vec<Digest>) -> Result<
 }
 
 // The blobs whose mark is unset, as they arrived.
-fn unowned(alloc: Global, blobs: &[Digest], owned: &[bool]) -> Result<Vec<Digest>, Fault>
-    requires { length owned.now ≡ length blobs.now }
+fn unowned_as_arrived(
+    digests: Vec<Digest>,
+    blobs: &[Digest],
+    owned: &[bool],
+) -> Result<Vec<Digest>, Fault>
+    requires length { length owned.now ≡ length blobs.now }
+    requires empty { digests.items ≡ [] }
     ensures fault { Refuses result None }
     ensures ok { IfOk result (λ gone_ones. gone_ones.items ≡ gone owned.now blobs.now) }
 {
-    let mut gone = Vec::with_capacity(alloc, count_gone(owned))?;
+    let mut gone = digests;
     for (i, digest) in blobs.iter().enumerate() {
         push_blob(digest, owned[i], &mut gone)?;
     }
     Ok(gone)
+}
+
+// The digests, as they are listed.
+fn copies_as_listed(digests: Vec<Digest>, near: &[Near<'_, Digest>]) -> Result<Vec<Digest>, Fault>
+    requires { digests.items ≡ [] }
+    ensures fault { Refuses result None }
+    ensures ok { IfOk result (λ copies. copies.items ≡ map (λ one. one.row.now) near.now) }
+{
+    let mut copies = digests;
+    for one in near {
+        copies.push(one.row.copy()?)?;
+    }
+    Ok(copies)
+}
+
+// The blobs whose mark is unset, lent as they arrived.
+fn near_unowned<'a>(
+    alloc: Global,
+    blobs: &'a [Digest],
+    owned: &[bool],
+) -> Result<Vec<Near<'a, Digest>>, Fault>
+    requires { length owned.now ≡ length blobs.now }
+    ensures fault { Refuses result None }
+    ensures ok { IfOk result (λ near. map (λ one. one.row.now) near.items
+        ≡ gone owned.now blobs.now) }
+{
+    let mut near = Vec::with_capacity(alloc, count_gone(owned))?;
+    for (i, digest) in blobs.iter().enumerate() {
+        push_near(digest, owned[i], &mut near)?;
+    }
+    Ok(near)
+}
+
+// The blobs whose mark is unset: nearly in order, where there is memory for that.
+fn unowned(alloc: Global, blobs: &[Digest], owned: &[bool]) -> Result<Vec<Digest>, Fault>
+    requires { length owned.now ≡ length blobs.now }
+    ensures fault { Refuses result None }
+    ensures ok { IfOk result (λ gone_ones. IsPermutation (gone owned.now blobs.now) gone_ones.items) }
+{
+    let digests = Vec::with_capacity(alloc, count_gone(owned))?;
+    let Ok(near) = near_unowned(alloc, blobs, owned) else {
+        let digests = unowned_as_arrived(digests, blobs, owned)?;
+        return Ok(digests);
+    };
+    let near = nearly_in_order(near);
+    let digests = copies_as_listed(digests, &near)?;
+    Ok(digests)
 }
 
 fn compare(a: &Digest, b: &Digest) -> Ordering

@@ -1,5 +1,6 @@
 //! The order in which backend snapshots are removed: children before their parents.
-ghost use Rattle.std.specs.Prelude.{◌≡◌, map, length, slice_get, None, IfOk};
+ghost use Rattle.std.specs.Prelude.{◌≡◌, ◌<◌, ◌≤◌, map, length, slice_get, None, IfOk};
+ghost use Rattle.std.specs.List.Sorted.{IsPermutation};
 ghost use Rattle.meta_types.specs.Faults.{Refuses};
 ghost use Rattle.meta_types.specs.Keys.{in_order};
 ghost use Rattle.table_sweep.specs.Depths.{depth_in, is_first, key_cmp, key_name};
@@ -91,12 +92,69 @@ fn compare(a: &Key, b: &Key) -> Ordering
         .then(a.number.cmp(&b.number))
 }
 
+// How two snapshots of one snapshotter compare.
+fn compare_beside(a: &Key, b: &Key) -> Ordering {
+    b.depth.cmp(&a.depth).then(a.number.cmp(&b.number))
+}
+
+// Sorts those from `start` up to `end`, which are of one snapshotter.
+fn sort_run(keys: &mut [Key], start: usize, end: usize)
+    requires start { start ≤ end }
+    requires end { end ≤ length keys.old }
+    ensures { IsPermutation keys.old keys.new }
+{
+    keys[start..end].sort_unstable_by(|a, b| compare_beside(a, b));
+}
+
+fn is_one_run(keys: &[Key], start: usize, at: usize) -> bool
+    requires start { start < length keys.now }
+    requires at { at < length keys.now }
+{
+    keys[start].snapshotter == keys[at].snapshotter
+}
+
+// Sorts those from `start` up to `at` where another snapshotter begins there, and tells where the
+// snapshotter begins that stands at `at`.
+fn sort_before(keys: &mut [Key], start: usize, at: usize) -> usize
+    requires start { start ≤ at }
+    requires at { at < length keys.old }
+    ensures keys { IsPermutation keys.old keys.new }
+    ensures start { result ≤ at }
+{
+    if is_one_run(keys, start, at) {
+        return start;
+    }
+    sort_run(keys, start, at);
+    at
+}
+
+// Each snapshotter's in order. Backends list a snapshotter's snapshots together: so then all are in
+// order.
+fn sort_each(keys: &mut [Key])
+    ensures { IsPermutation keys.old keys.new }
+{
+    let mut start = 0;
+    for at in 0..keys.len() {
+        start = sort_before(keys, start, at);
+    }
+    let end = keys.len();
+    sort_run(keys, start, end);
+}
+
+fn in_runs(keys: Vec<Key>) -> Vec<Key>
+    ensures { IsPermutation keys.items result.items }
+{
+    let mut keys = keys;
+    sort_each(&mut keys);
+    keys
+}
+
 // The snapshots by snapshotter, then the deepest first, then by number.
 pub(crate) fn in_order(keys: Vec<Key>) -> Result<Vec<Key>, Fault>
     ensures fault { Refuses result None }
     ensures ok { IfOk result (λ v. v.items ≡ in_order is_first keys.items) }
 {
-    let mut keys = keys;
+    let mut keys = in_runs(keys);
     keys.sort_unstable_by(|a, b| compare(a, b));
     Ok(keys)
 }

@@ -1,16 +1,19 @@
 //! The names of the removed rows, in key order.
 ghost use Rattle.std.specs.Prelude.{◌≡◌, ◌++◌, ◌∷◌, [], map, length, if◌then◌else◌, OnOk, None, IfOk};
+ghost use Rattle.std.specs.List.Sorted.{IsPermutation};
 ghost use Rattle.meta_types.specs.Faults.{Refuses};
+ghost use Rattle.row_tables.specs.Arrived.{sorted};
 ghost use Rattle.gc_graph.specs.Stored.{records_of};
 ghost use Rattle.table_sweep.specs.Masks.{gone};
 ghost use Rattle.table_sweep.specs.Stays.{FitRows, gone_names};
-ghost use Rattle.table_sweep.specs.InKeyOrder.{names_in_key_order};
+ghost use Rattle.table_sweep.specs.InKeyOrder.{name_key, snapshot_name_key, names_in_key_order};
 
+use crate::leases::lease_names;
 use crate::masks::{Masks, count_gone};
+use crate::near::{Near, nearly_sorted};
 use crate::sorting::{digests_in_order, names_in_order, snapshots_in_order};
 use gc_graph::StoreRows;
 use gc_report::Removed;
-use lease_book::Lease;
 use meta_types::{ContentRow, Digest, Fault, ImageRow, IngestRow, Name, ShortName, SnapRow};
 use std::alloc::Global;
 
@@ -38,34 +41,6 @@ fn image_names(
     let mut names = Vec::with_capacity(alloc, count_gone(mask))?;
     for (i, row) in rows.iter().enumerate() {
         push_image(row, mask[i], &mut names)?;
-    }
-    Ok(names)
-}
-
-fn push_lease(row: &Lease, stays: bool, names: &mut Vec<(ShortName, Name)>) -> Result<(), Fault>
-    ensures fault { Refuses result None }
-    ensures ok { OnOk result (names.new.items ≡ names.old.items
-        ++ (if stays then [] else (row.now.ns, row.now.id) ∷ [])) }
-{
-    if !stays {
-        names.push((row.ns().copy()?, row.id().copy()?))?;
-    }
-    Ok(())
-}
-
-fn lease_names(
-    alloc: Global,
-    rows: &[&Lease],
-    mask: &[bool],
-) -> Result<Vec<(ShortName, Name)>, Fault>
-    requires { length mask.now ≡ length rows.now }
-    ensures fault { Refuses result None }
-    ensures ok { IfOk result (λ names. names.items
-        ≡ map (λ row. (row.now.ns, row.now.id)) (gone mask.now rows.now)) }
-{
-    let mut names = Vec::with_capacity(alloc, count_gone(mask))?;
-    for (i, row) in rows.iter().enumerate() {
-        push_lease(row, mask[i], &mut names)?;
     }
     Ok(names)
 }
@@ -117,6 +92,44 @@ fn push_content(
     Ok(())
 }
 
+// The names of content, as it arrived.
+fn content_as_arrived(
+    names: Vec<(ShortName, Digest)>,
+    rows: &[&ContentRow],
+    mask: &[bool],
+) -> Result<Vec<(ShortName, Digest)>, Fault>
+    requires length { length mask.now ≡ length rows.now }
+    requires empty { names.items ≡ [] }
+    ensures fault { Refuses result None }
+    ensures ok { IfOk result (λ names. names.items
+        ≡ map (λ row. (row.now.ns, row.now.digest)) (gone mask.now rows.now)) }
+{
+    let mut names = names;
+    for (i, row) in rows.iter().enumerate() {
+        push_content(row, mask[i], &mut names)?;
+    }
+    Ok(names)
+}
+
+// The names of content, as it is listed.
+fn content_as_listed(
+    names: Vec<(ShortName, Digest)>,
+    near: &[Near<'_, ContentRow>],
+) -> Result<Vec<(ShortName, Digest)>, Fault>
+    requires { names.items ≡ [] }
+    ensures fault { Refuses result None }
+    ensures ok { IfOk result (λ names. names.items
+        ≡ map (λ one. (one.row.now.ns, one.row.now.digest)) near.now) }
+{
+    let mut names = names;
+    for one in near {
+        let listed = one.row;
+        names.push((listed.ns.copy()?, listed.digest.copy()?))?;
+    }
+    Ok(names)
+}
+
+// The names of content that goes: nearly in order, where there is memory for that.
 fn content_names(
     alloc: Global,
     rows: &[&ContentRow],
@@ -124,13 +137,31 @@ fn content_names(
 ) -> Result<Vec<(ShortName, Digest)>, Fault>
     requires { length mask.now ≡ length rows.now }
     ensures fault { Refuses result None }
-    ensures ok { IfOk result (λ names. names.items
-        ≡ map (λ row. (row.now.ns, row.now.digest)) (gone mask.now rows.now)) }
+    ensures ok { IfOk result (λ names. IsPermutation
+        (map (λ row. (row.now.ns, row.now.digest)) (gone mask.now rows.now)) names.items) }
 {
-    let mut names = Vec::with_capacity(alloc, count_gone(mask))?;
-    for (i, row) in rows.iter().enumerate() {
-        push_content(row, mask[i], &mut names)?;
-    }
+    let names = Vec::with_capacity(alloc, count_gone(mask))?;
+    let Ok(near) = nearly_sorted(alloc, rows, mask) else {
+        let names = content_as_arrived(names, rows, mask)?;
+        return Ok(names);
+    };
+    let names = content_as_listed(names, &near)?;
+    Ok(names)
+}
+
+// The names of content that goes, in key order.
+fn content_gone(
+    alloc: Global,
+    rows: &[&ContentRow],
+    mask: &[bool],
+) -> Result<Vec<(ShortName, Digest)>, Fault>
+    requires { length mask.now ≡ length rows.now }
+    ensures fault { Refuses result None }
+    ensures ok { IfOk result (λ names. names.items ≡ sorted name_key
+        (map (λ row. (row.now.ns, row.now.digest)) (gone mask.now rows.now))) }
+{
+    let names = content_names(alloc, rows, mask)?;
+    let names = digests_in_order(names)?;
     Ok(names)
 }
 
@@ -150,6 +181,50 @@ fn push_snapshot(
     Ok(())
 }
 
+// The names of snapshots, as they arrived.
+fn snapshots_as_arrived(
+    names: Vec<(ShortName, ShortName, Name)>,
+    rows: &[&SnapRow],
+    mask: &[bool],
+) -> Result<Vec<(ShortName, ShortName, Name)>, Fault>
+    requires length { length mask.now ≡ length rows.now }
+    requires empty { names.items ≡ [] }
+    ensures fault { Refuses result None }
+    ensures ok { IfOk result (λ names. names.items
+        ≡ map (λ row. (row.now.key.ns, row.now.key.snapshotter, row.now.key.name))
+        (gone mask.now rows.now)) }
+{
+    let mut names = names;
+    for (i, row) in rows.iter().enumerate() {
+        push_snapshot(row, mask[i], &mut names)?;
+    }
+    Ok(names)
+}
+
+// The names of snapshots, as they are listed.
+fn snapshots_as_listed(
+    names: Vec<(ShortName, ShortName, Name)>,
+    near: &[Near<'_, SnapRow>],
+) -> Result<Vec<(ShortName, ShortName, Name)>, Fault>
+    requires { names.items ≡ [] }
+    ensures fault { Refuses result None }
+    ensures ok { IfOk result (λ names. names.items
+        ≡ map (λ one. (one.row.now.key.ns, one.row.now.key.snapshotter, one.row.now.key.name))
+        near.now) }
+{
+    let mut names = names;
+    for one in near {
+        let listed = &one.row.key;
+        names.push((
+            listed.ns.copy()?,
+            listed.snapshotter.copy()?,
+            listed.name.copy()?,
+        ))?;
+    }
+    Ok(names)
+}
+
+// The names of snapshots that go: nearly in order, where there is memory for that.
 fn snapshot_names(
     alloc: Global,
     rows: &[&SnapRow],
@@ -157,14 +232,33 @@ fn snapshot_names(
 ) -> Result<Vec<(ShortName, ShortName, Name)>, Fault>
     requires { length mask.now ≡ length rows.now }
     ensures fault { Refuses result None }
-    ensures ok { IfOk result (λ names. names.items
-        ≡ map (λ row. (row.now.key.ns, row.now.key.snapshotter, row.now.key.name))
-        (gone mask.now rows.now)) }
+    ensures ok { IfOk result (λ names. IsPermutation
+        (map (λ row. (row.now.key.ns, row.now.key.snapshotter, row.now.key.name))
+        (gone mask.now rows.now)) names.items) }
 {
-    let mut names = Vec::with_capacity(alloc, count_gone(mask))?;
-    for (i, row) in rows.iter().enumerate() {
-        push_snapshot(row, mask[i], &mut names)?;
-    }
+    let names = Vec::with_capacity(alloc, count_gone(mask))?;
+    let Ok(near) = nearly_sorted(alloc, rows, mask) else {
+        let names = snapshots_as_arrived(names, rows, mask)?;
+        return Ok(names);
+    };
+    let names = snapshots_as_listed(names, &near)?;
+    Ok(names)
+}
+
+// The names of snapshots that go, in key order.
+fn snapshots_gone(
+    alloc: Global,
+    rows: &[&SnapRow],
+    mask: &[bool],
+) -> Result<Vec<(ShortName, ShortName, Name)>, Fault>
+    requires { length mask.now ≡ length rows.now }
+    ensures fault { Refuses result None }
+    ensures ok { IfOk result (λ names. names.items ≡ sorted snapshot_name_key
+        (map (λ row. (row.now.key.ns, row.now.key.snapshotter, row.now.key.name))
+        (gone mask.now rows.now))) }
+{
+    let names = snapshot_names(alloc, rows, mask)?;
+    let names = snapshots_in_order(names)?;
     Ok(names)
 }
 
@@ -179,16 +273,14 @@ pub(crate) fn removed_of(
     ensures ok { IfOk result (λ r. r
         ≡ names_in_key_order (gone_names (records_of rows.now) masks.now)) }
 {
-    let content = content_names(alloc, rows.content, &masks.content)?;
-    let content = digests_in_order(content)?;
+    let content = content_gone(alloc, rows.content, &masks.content)?;
     let images = image_names(alloc, rows.images, &masks.images)?;
     let images = names_in_order(images)?;
     let ingests = ingest_names(alloc, rows.ingests, &masks.ingests)?;
     let ingests = names_in_order(ingests)?;
     let leases = lease_names(alloc, rows.leases, &masks.leases)?;
     let leases = names_in_order(leases)?;
-    let snapshots = snapshot_names(alloc, rows.snapshots, &masks.snapshots)?;
-    let snapshots = snapshots_in_order(snapshots)?;
+    let snapshots = snapshots_gone(alloc, rows.snapshots, &masks.snapshots)?;
     Ok(Removed {
         content,
         images,

@@ -4,6 +4,7 @@ ghost use Rattle.std.specs.List.{flat_map};
 ghost use Rattle.meta_types.specs.Faults.{Refuses};
 ghost use Rattle.meta_types.specs.Backends.{no_objects, removed_objects};
 ghost use Rattle.gc_graph.specs.Stored.{records_of};
+ghost use Rattle.object_tables.specs.Calls.{kept};
 ghost use Rattle.table_sweep.specs.BlobMarks.{AreBlobMarks};
 ghost use Rattle.table_sweep.specs.Stays.{FitRows};
 ghost use Rattle.table_sweep.specs.Depths.{depth_in, key_at, key_of};
@@ -14,8 +15,8 @@ ghost use Rattle.table_sweep.specs.Backed.{lists_of, left_by};
 
 use crate::blobs::blobs_gone;
 use crate::depths::{BackSnap, Key, depths_of, in_order, names_of};
-use crate::masks::Masks;
-use crate::owners::{begun_goes, begun_owners, snap_goes, snapshot_owners};
+use crate::masks::{Masks, count_left};
+use crate::owners::{begun_goes, begun_owners, snaps_go, snapshot_owners};
 use gc_graph::StoreRows;
 use gc_report::Objects;
 use meta_types::{Digest, Fault, SnapRow};
@@ -69,19 +70,12 @@ fn ingests_gone(alloc: Global, owned: &[u64], numbers: &[u64]) -> Result<Vec<u64
     Ok(gone)
 }
 
-fn push_key(
-    owners: &[&SnapRow],
-    next: &mut usize,
-    snap: &BackSnap,
-    depth: usize,
-    keys: &mut Vec<Key>,
-) -> Result<(), Fault>
-    requires { IsSorted (λ a b. object_cmp (object_of a.now) (object_of b.now)) owners.now }
+fn push_key(snap: &BackSnap, goes: bool, depth: usize, keys: &mut Vec<Key>) -> Result<(), Fault>
     ensures fault { Refuses result None }
     ensures ok { OnOk result (keys.new.items ≡ keys.old.items
-        ++ (if snap_goes (map (λ owner. owner.now) owners.now) snap.now then key_at snap.now depth ∷ [] else [])) }
+        ++ (if goes then key_at snap.now depth ∷ [] else [])) }
 {
-    if snap_goes(owners, next, snap) {
+    if goes {
         let snapshotter = snap.0.copy()?;
         keys.push(Key {
             snapshotter,
@@ -92,36 +86,21 @@ fn push_key(
     Ok(())
 }
 
-// How many snapshots go.
-fn count_keys(owners: &[&SnapRow], snapshots: &[BackSnap]) -> usize
-    requires { IsSorted (λ a b. object_cmp (object_of a.now) (object_of b.now)) owners.now }
-{
-    let mut count: usize = 0;
-    let mut next = 0;
-    for snap in snapshots {
-        if snap_goes(owners, &mut next, snap) {
-            count = count.saturating_add(1);
-        }
-    }
-    count
-}
-
 fn keys_in(
     alloc: Global,
-    owners: &[&SnapRow],
+    goes: &[bool],
     snapshots: &[BackSnap],
     depths: &[usize],
 ) -> Result<Vec<Key>, Fault>
-    requires order { IsSorted (λ a b. object_cmp (object_of a.now) (object_of b.now)) owners.now }
+    requires goes { length goes.now ≡ length snapshots.now }
     requires depths { depths.now ≡ map (depth_in (length snapshots.now) snapshots.now) snapshots.now }
     ensures fault { Refuses result None }
-    ensures ok { IfOk result (λ v. v.items ≡ flat_map
-        (λ s. if snap_goes (map (λ owner. owner.now) owners.now) s then key_of snapshots.now s ∷ [] else []) snapshots.now) }
+    ensures ok { IfOk result (λ v. v.items
+        ≡ map (key_of snapshots.now) (kept goes.now snapshots.now)) }
 {
-    let mut keys = Vec::with_capacity(alloc, count_keys(owners, snapshots))?;
-    let mut next = 0;
+    let mut keys = Vec::with_capacity(alloc, count_left(goes))?;
     for (i, snap) in snapshots.iter().enumerate() {
-        push_key(owners, &mut next, snap, depths[i], &mut keys)?;
+        push_key(snap, goes[i], depths[i], &mut keys)?;
     }
     Ok(keys)
 }
@@ -132,8 +111,9 @@ fn keys_gone(alloc: Global, owners: &[&SnapRow], snapshots: &[BackSnap]) -> Resu
     ensures ok { IfOk result (λ v. v.items ≡ flat_map
         (λ s. if snap_goes (map (λ owner. owner.now) owners.now) s then key_of snapshots.now s ∷ [] else []) snapshots.now) }
 {
+    let goes = snaps_go(alloc, owners, snapshots)?;
     let depths = depths_of(alloc, snapshots)?;
-    let keys = keys_in(alloc, owners, snapshots, &depths)?;
+    let keys = keys_in(alloc, &goes, snapshots, &depths)?;
     Ok(keys)
 }
 

@@ -1,5 +1,5 @@
 //! The rows that own objects of ingests and snapshots, in the order of their numbers.
-ghost use Rattle.std.specs.Prelude.{◌≡◌, ◌++◌, ◌∷◌, ◌&&◌, ◌==◌, [], true, false, map, length, bytes_eq, is_err, if◌then◌else◌, OnOk, None, IfOk};
+ghost use Rattle.std.specs.Prelude.{◌≡◌, ◌++◌, ◌∷◌, ◌&&◌, ◌==◌, [], true, false, map, length, bytes_eq, is_err, if◌then◌else◌, OnOk, None, IfOk, IfSome};
 ghost use Rattle.std.specs.List.{list_any};
 ghost use Rattle.std.specs.List.Sorted.{IsSorted, IsPermutation};
 ghost use Rattle.std.specs.Ordering.{nat_cmp};
@@ -144,9 +144,9 @@ fn owner_place(owners: &[&SnapRow], snap: &BackSnap) -> Result<usize, usize>
 
 fn is_own(row: &SnapRow, snap: &BackSnap) -> bool
     ensures { result
-        ≡ (bytes_eq row.now.key.snapshotter snap.now.0 && row.now.number == snap.now.1) }
+        ≡ (row.now.number == snap.now.1 && bytes_eq row.now.key.snapshotter snap.now.0) }
 {
-    row.key.snapshotter == snap.0 && row.number == snap.1
+    row.number == snap.1 && row.key.snapshotter == snap.0
 }
 
 // Whether the owner at a place has the snapshot's name.
@@ -159,14 +159,30 @@ fn owns_at(owners: &[&SnapRow], place: usize, snap: &BackSnap) -> bool
     }
 }
 
+// How many places are tried for an owner. Numbers are given to all snapshotters in turn, so owners
+// of the others stand between.
+const TRIES: usize = 4;
+
+// The place of the owner that has the snapshot's name, if it is one of the next.
+fn near_owner(owners: &[&SnapRow], next: usize, snap: &BackSnap) -> Option<usize>
+    ensures { IfSome result (λ _. snap_goes (map (λ owner. owner.now) owners.now) snap.now ≡ false) }
+{
+    for at in next..next.saturating_add(TRIES) {
+        if owns_at(owners, at, snap) {
+            return Some(at);
+        }
+    }
+    None
+}
+
 // No row among the owners has the snapshot's name. Most snapshots are listed as their owners stand:
-// so the owner behind the last one that was found is tried first.
-pub(crate) fn snap_goes(owners: &[&SnapRow], next: &mut usize, snap: &BackSnap) -> bool
+// so the owners behind the last one that was found are tried first.
+fn snap_goes(owners: &[&SnapRow], next: &mut usize, snap: &BackSnap) -> bool
     requires { IsSorted (λ a b. object_cmp (object_of a.now) (object_of b.now)) owners.now }
     ensures { result ≡ snap_goes (map (λ owner. owner.now) owners.now) snap.now }
 {
-    if owns_at(owners, *next, snap) {
-        *next = next.saturating_add(1);
+    if let Some(place) = near_owner(owners, *next, snap) {
+        *next = place.saturating_add(1);
         return false;
     }
     match owner_place(owners, snap) {
@@ -179,4 +195,23 @@ pub(crate) fn snap_goes(owners: &[&SnapRow], next: &mut usize, snap: &BackSnap) 
             true
         }
     }
+}
+
+// For each snapshot whether it goes: whether no row among the owners has its name.
+pub(crate) fn snaps_go(
+    alloc: Global,
+    owners: &[&SnapRow],
+    snapshots: &[BackSnap],
+) -> Result<Vec<bool>, Fault>
+    requires { IsSorted (λ a b. object_cmp (object_of a.now) (object_of b.now)) owners.now }
+    ensures fault { Refuses result None }
+    ensures ok { IfOk result (λ goes. goes.items
+        ≡ map (snap_goes (map (λ owner. owner.now) owners.now)) snapshots.now) }
+{
+    let mut goes = Vec::with_capacity(alloc, snapshots.len())?;
+    let mut next = 0;
+    for snap in snapshots {
+        goes.push(snap_goes(owners, &mut next, snap))?;
+    }
+    Ok(goes)
 }

@@ -1,9 +1,16 @@
-use Rattle.std.proofs.Common.{Bor}
+use Rattle.std.proofs.Common.{◌∙◌, Bor, ap, map}
 use Rattle.meta_types.specs.declared.rows.ContentRow.{ContentRow}
-use Rattle.table_sweep.proofs.Gone.{names_step}
+use Rattle.table_sweep.specs.declared.near.Near.{Near}
+use Rattle.table_sweep.specs.Masks.{gone}
+use Rattle.table_sweep.proofs.Permuted.{names_permuted}
 use Rattle.table_sweep.proofs.names.content_names.Goals as goal
 
-pub loop-i-preserved : goal.loop-i-preserved
-loop-i-preserved c =
-    names_step (λ (row : Bor ContentRow). (row.now.ns, row.now.digest)) c.args.mask.now c.args.rows.now c.loop-i.i _ c.index-rows-i.result
-    c.loop-i.names.items c.push_content.new.names.items c.requires c.loop-i-test.true c.index-rows-i.is c.loop-i.invariant c.in_ok-push_content.ensures.ok
+-- the names of rows in another order
+pub returns-clause-ok : goal.returns-clause-ok
+returns-clause-ok c =
+    names_permuted (λ (row : ContentRow). (row.ns, row.digest)) (λ (row : Bor ContentRow). row.now)
+    (λ (one : Near ContentRow). one.row.now)
+    (gone c.args.mask.now c.args.rows.now) c.in-Ok.near.items c.in_ok-names-3.names.items
+    c.in-Ok.ensures.ok
+    (c.in_ok-names-3.ensures.ok ∙ ap (map (λ (one : Near ContentRow).
+    (one.row.now.ns, one.row.now.digest))) c.deref.ensures.value)

@@ -1,9 +1,16 @@
-use Rattle.std.proofs.Common.{Bor}
+use Rattle.std.proofs.Common.{◌∙◌, Bor, ap, map}
 use Rattle.meta_types.specs.declared.rows.SnapRow.{SnapRow}
-use Rattle.table_sweep.proofs.Gone.{names_step}
+use Rattle.table_sweep.specs.declared.near.Near.{Near}
+use Rattle.table_sweep.specs.Masks.{gone}
+use Rattle.table_sweep.proofs.Permuted.{names_permuted}
 use Rattle.table_sweep.proofs.names.snapshot_names.Goals as goal
 
-pub loop-i-preserved : goal.loop-i-preserved
-loop-i-preserved c =
-    names_step (λ (row : Bor SnapRow). (row.now.key.ns, row.now.key.snapshotter, row.now.key.name)) c.args.mask.now c.args.rows.now c.loop-i.i _ c.index-rows-i.result
-    c.loop-i.names.items c.push_snapshot.new.names.items c.requires c.loop-i-test.true c.index-rows-i.is c.loop-i.invariant c.in_ok-push_snapshot.ensures.ok
+-- the names of rows in another order
+pub returns-clause-ok : goal.returns-clause-ok
+returns-clause-ok c =
+    names_permuted (λ (row : SnapRow). (row.key.ns, row.key.snapshotter, row.key.name))
+    (λ (row : Bor SnapRow). row.now) (λ (one : Near SnapRow). one.row.now)
+    (gone c.args.mask.now c.args.rows.now) c.in-Ok.near.items c.in_ok-names-3.names.items
+    c.in-Ok.ensures.ok
+    (c.in_ok-names-3.ensures.ok ∙ ap (map (λ (one : Near SnapRow).
+    (one.row.now.key.ns, one.row.now.key.snapshotter, one.row.now.key.name))) c.deref.ensures.value)

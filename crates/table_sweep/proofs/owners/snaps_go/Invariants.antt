@@ -1,0 +1,8 @@
+use Rattle.std.proofs.Common.{◌≡◌, map, take}
+use Rattle.table_sweep.specs.Owned.{snap_goes}
+use Rattle.table_sweep.proofs.owners.snaps_go.Given as goal
+
+-- of those so far it is known
+abbrev pub invariant-loop-snap : goal.invariant-loop-snap
+invariant-loop-snap l = l.goes.items ≡ map (snap_goes (map (λ owner. owner.now) l.owners))
+    (take l.snap-index l.snapshots)
