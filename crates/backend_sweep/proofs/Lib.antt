@@ -23,4 +23,4 @@ pub mod Fated
 pub mod OnePass
 pub mod OnePart
 pub mod NamesStand
-pub mod LastShardPlan
+pub mod PassedShardPlans

@@ -1,7 +1,8 @@
 -- Shards beside what is to be swept of each, and what was. Ours, unless a source stands beside.
-use Rattle.std.specs.Prelude.{ℕ, ◌≡◌, Bool, false, not, ◌||◌, List, [], length, find, Option, None, Some, bytes_eq, if◌then◌else◌}
+use Rattle.std.specs.Prelude.{ℕ, ◌≡◌, ◌<◌, Bool, true, false, not, ◌||◌, List, [], length, drop, slice_index_or, find, Option, None, Some, bytes_eq, if◌then◌else◌}
 use Rattle.std.specs.Option.{option_map_or}
-use Rattle.meta_types.specs.Text.{Text}
+use Rattle.std.specs.Ordering.{is_le}
+use Rattle.meta_types.specs.Text.{Text, text_cmp}
 use Rattle.back_model.specs.Shown.{Shard}
 use Rattle.backend_sweep.specs.Shards.{has, numbers_of}
 use Rattle.backend_sweep.specs.Sweep.{Swept, Childfirst, IsRoomFor, Sweeps}
@@ -32,10 +33,18 @@ pub record SweepsShardPlan (old : Shard) (shard_plan swept : PlannedShard) (new 
   pub shard_plan_is : swept ≡ record shard_plan { swept = swept.swept }
   pub sweeps : Sweeps shard_plan.list old.snaps new.snaps old.failures new.failures swept.swept
 
--- its snapshotter's plan is this one
-abbrev pub IsFound : List PlannedShard → PlannedShard → Type 0
-IsFound shard_plans shard_plan =
-    find (λ (other : PlannedShard). bytes_eq other.snapshotter shard_plan.snapshotter) shard_plans ≡ Some shard_plan
+-- the plan of each snapshotter that isn't less than this one stands from the place on
+abbrev pub StandFrom : List PlannedShard → ℕ → Text → Type 0
+StandFrom shard_plans place snapshotter = (other : Text) → is_le (text_cmp snapshotter other) ≡ true
+    → find (λ (shard_plan : PlannedShard). bytes_eq shard_plan.snapshotter other) shard_plans
+    ≡ find (λ (shard_plan : PlannedShard). bytes_eq shard_plan.snapshotter other) (drop place shard_plans)
+
+-- the snapshotter's plan is the one at the place
+abbrev pub IsPlanAt : List PlannedShard → Text → ℕ → Type 0
+IsPlanAt shard_plans snapshotter place =
+    (place < length shard_plans) × ((other : PlannedShard)
+    → find (λ (shard_plan : PlannedShard). bytes_eq shard_plan.snapshotter snapshotter) shard_plans
+    ≡ Some (slice_index_or shard_plans place other))
 
 -- what became of the number, as its plan has it; one without a plan is kept
 abbrev pub fate_in : Option PlannedShard → ℕ → Fate

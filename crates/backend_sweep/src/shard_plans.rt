@@ -1,9 +1,9 @@
 //! Shards beside what is to be swept of each.
-ghost use Rattle.std.specs.Prelude.{◌≡◌, length, map, find, option_map, bytes_eq, None, IfOk, IfSome};
+ghost use Rattle.std.specs.Prelude.{◌≡◌, ◌≤◌, true, length, map, find, option_map, bytes_eq, None, Some, IfOk};
 ghost use Rattle.meta_types.specs.Faults.{Refuses};
 ghost use Rattle.backend_sweep.specs.Fated.{AreFatesOf};
 ghost use Rattle.backend_sweep.specs.Sweep.{Childfirst, IsRoomFor, Sweeps};
-ghost use Rattle.backend_sweep.specs.ShardPlans.{shard_plan_for, IsFound, fate_in, fate_of};
+ghost use Rattle.backend_sweep.specs.ShardPlans.{shard_plan_for, StandFrom, IsPlanAt, fate_in, fate_of};
 ghost use Rattle.backend_sweep.specs.Parts.{StandBySnapshotter};
 
 use crate::fates::{Fate, Fates};
@@ -128,33 +128,50 @@ fn shard_plan_at<'a, S: SnapBackend>(
     None
 }
 
-// The plan of a snapshotter's shard, if it has one: mostly that of the name before.
-#[tactic(auto, using(crate::proofs::LastShardPlan::same_shard_plan))]
-fn shard_plan_from<'a, S: SnapBackend>(
-    shard_plans: &'a [ShardPlan<S>],
-    last: Option<&'a ShardPlan<S>>,
+// A place among the plans, and whether the plan of the snapshotter that was looked for is there.
+#[derive(Clone, Copy)]
+struct Reached {
+    place: usize,
+    found: bool,
+}
+
+// Looks for a snapshotter's plan from a place on. It passes the plans of lesser snapshotters alone,
+// where no later name looks again.
+fn reach<S: SnapBackend>(
+    shard_plans: &[ShardPlan<S>],
+    from: usize,
     snapshotter: &ShortName,
-) -> Option<&'a ShardPlan<S>>
-    requires { IfSome last (λ shard_plan. IsFound shard_plans.now shard_plan.now) }
-    ensures shard_plan { option_map (λ shard_plan. shard_plan.now) result
-        ≡ find (λ shard_plan. bytes_eq shard_plan.snapshotter snapshotter.now) shard_plans.now }
-    ensures found { IfSome result (λ shard_plan. IsFound shard_plans.now shard_plan.now) }
+) -> Reached
+    requires within { from ≤ length shard_plans.now }
+    requires passed { StandFrom shard_plans.now from snapshotter.now }
+    ensures within { result.place ≤ length shard_plans.now }
+    ensures passed { StandFrom shard_plans.now result.place snapshotter.now }
+    ensures found { result.found ≡ true
+        → IsPlanAt shard_plans.now snapshotter.now result.place }
 {
-    if let Some(shard_plan) = last {
-        if shard_plan.snapshotter == *snapshotter {
-            return Some(shard_plan);
+    for place in from..shard_plans.len() {
+        let shard_plan = &shard_plans[place];
+        let order = shard_plan.snapshotter.cmp(snapshotter);
+        if order.is_eq() {
+            return Reached { place, found: true };
+        }
+        if order.is_gt() {
+            return Reached {
+                place,
+                found: false,
+            };
         }
     }
-    shard_plan_at(shard_plans, snapshotter)
+    Reached {
+        place: shard_plans.len(),
+        found: false,
+    }
 }
 
 // What became of a number, as its shard's plan has it.
-fn fate_in<S: SnapBackend>(shard_plan: Option<&ShardPlan<S>>, number: u64) -> Fate
-    ensures { result ≡ fate_in (option_map (λ shard_plan. shard_plan.now) shard_plan.entry) number }
+fn fate_in<S: SnapBackend>(shard_plan: &ShardPlan<S>, number: u64) -> Fate
+    ensures { result ≡ fate_in (Some shard_plan.now) number }
 {
-    let Some(shard_plan) = shard_plan else {
-        return Fate::Kept;
-    };
     if shard_plan.outcome.has_failed(number) {
         return Fate::Failed;
     }
@@ -164,19 +181,41 @@ fn fate_in<S: SnapBackend>(shard_plan: Option<&ShardPlan<S>>, number: u64) -> Fa
     Fate::Removed
 }
 
+// What became of a name, by the plan that was reached; all plans are asked where that isn't its
+// own.
+fn fate_at<S: SnapBackend>(
+    shard_plans: &[ShardPlan<S>],
+    reached: Reached,
+    name: &(ShortName, u64),
+) -> Fate
+    requires { reached.found ≡ true → IsPlanAt shard_plans.now name.now.0 reached.place }
+    ensures { result ≡ fate_of shard_plans.now name.now }
+{
+    if reached.found {
+        return fate_in(&shard_plans[reached.place], name.1);
+    }
+    let Some(shard_plan) = shard_plan_at(shard_plans, &name.0) else {
+        return Fate::Kept;
+    };
+    fate_in(shard_plan, name.1)
+}
+
+// Sets the fate of each name, in one pass over names and plans.
 fn set_fates<S: SnapBackend>(
     shard_plans: &[ShardPlan<S>],
     names: &[(ShortName, u64)],
     fates: &mut [Fate],
 )
+    requires names { StandBySnapshotter names.now }
     requires fates { length fates.old ≡ length names.now }
     ensures { fates.new ≡ map (fate_of shard_plans.now) names.now }
 {
-    let mut last = None;
+    let mut from = 0;
     for i in 0..names.len() {
         let name = &names[i];
-        last = shard_plan_from(shard_plans, last, &name.0);
-        fates[i] = fate_in(last, name.1);
+        let reached = reach(shard_plans, from, &name.0);
+        from = reached.place;
+        fates[i] = fate_at(shard_plans, reached, name);
     }
 }
 
@@ -186,7 +225,8 @@ pub(crate) fn set_snapshots<S: SnapBackend>(
     plan: &Plan,
     fates: &mut Fates,
 )
-    requires { AreFatesOf plan.now.report.backend fates.old }
+    requires names { StandBySnapshotter plan.now.report.backend.snapshots }
+    requires fates { AreFatesOf plan.now.report.backend fates.old }
     ensures set { fates.new ≡ record fates.old {
       snapshots = map (fate_of shard_plans.now) plan.now.report.backend.snapshots;
     } }

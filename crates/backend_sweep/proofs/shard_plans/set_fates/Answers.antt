@@ -1,7 +1,7 @@
-use Rattle.std.proofs.Common.{rules, ◌∙◌, ap, length, ◌<◌}
-use Rattle.std.specs.Prelude.{Option}
-use Rattle.backend_sweep.specs.ShardPlans.{PlannedShard, fate_in, fate_of}
+use Rattle.std.proofs.Common.{rules, ◌<◌, length, arith}
+use Rattle.backend_sweep.specs.ShardPlans.{fate_of}
 use Rattle.backend_sweep.proofs.Fated.{set_more}
+use Rattle.backend_sweep.proofs.PassedShardPlans.{passed_on}
 use Rattle.backend_sweep.proofs.shard_plans.set_fates.Goals as goal
 
 -- the next fate is that of the next name
@@ -11,8 +11,8 @@ loop-i-preserved g c =
     let n = c.index-names-i.result in
     let here : c.loop-i.i < length c.args.names.now = search rules in
     record {
-      set = set_more (fate_of c.args.shard_plans.now) c.args.names.now c.loop-i.fates c.loop-i.i n c.fate_in.result i.set c.index-names-i.is here i.same
-          (c.fate_in.ensures ∙ ap (λ (o : Option PlannedShard). fate_in o n.1) c.shard_plan_from-last.ensures.shard_plan);
+      set = set_more (fate_of c.args.shard_plans.now) c.args.names.now c.loop-i.fates c.loop-i.i n c.fate_at.result i.set c.index-names-i.is here i.same c.fate_at.ensures;
       same = search rules;
-      last = c.shard_plan_from-last.ensures.found;
+      within = c.reach-reached.ensures.within;
+      passed = λ k d above inside. passed_on c.args.shard_plans.now c.reach-reached.result.place c.args.names.now c.requires.names c.loop-i.i n c.index-names-i.is here c.reach-reached.ensures.passed k d (omega (arith, above)) inside;
     }
