@@ -7,3 +7,4 @@ pub mod Putting
 mod ReportTexts
 mod Plain
 mod DigestsPlain
+mod ShortNamesPlain

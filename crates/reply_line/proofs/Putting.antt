@@ -101,6 +101,11 @@ pub puts_here : (h0 h1 : Option (List ℕ)) (stood rest text : List ℕ) → Put
     rest [] → Puts h0 stood h1 rest text
 puts_here h0 h1 stood rest text p = (p.0, p.1 ∙ append-nil (stood ++ text), p.2)
 
+-- a text is put into the block, and nothing is written
+pub puts_into : (held : Option (List ℕ)) (stood block text : List ℕ) → block ≡ stood ++ text → Puts
+    held stood held block text
+puts_into held stood block text is = ([], is, Appends-none held)
+
 -- one text is put behind another
 pub puts_then : (h0 h1 h2 : Option (List ℕ)) (b0 b1 b2 xs ys : List ℕ) → Puts h0 b0 h1 b1 xs → Puts
     h1 b1 h2 b2 ys → Puts h0 b0 h2 b2 (xs ++ ys)

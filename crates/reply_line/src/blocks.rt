@@ -105,7 +105,7 @@ fn put_item<W: Write, T: PutJson>(
     ensures fault { IfErr result IsBlockFault }
 {
     if later {
-        put_text(writer, block, ",")?;
+        block.push(b',')?;
     }
     put_named(writer, alloc, block, item)
 }

@@ -5,7 +5,7 @@ ghost use Rattle.std.specs.List.{list_all};
 ghost use Rattle.json.specs.Print.{quoted};
 ghost use Rattle.json.specs.Run.{is_plain};
 ghost use Rattle.serde_json.specs.Written.{compact_text};
-ghost use Rattle.meta_types.specs.Text.{IsDigest};
+ghost use Rattle.meta_types.specs.Text.{IsDigest, IsShortName};
 
 use gc_report::WriteJson;
 use itoa::Buffer;
@@ -44,9 +44,10 @@ fn are_plain(text: &[u8]) -> bool
 fn put_plain(block: &mut Vec<u8>, text: &[u8]) -> Result<(), AllocError>
     ensures { OnOk result (block.new.items ≡ block.old.items ++ 34 ∷ (text.now ++ 34 ∷ [])) }
 {
-    block.extend_from_slice(b"\"")?;
+    block.push(b'"')?;
     block.extend_from_slice(text)?;
-    block.extend_from_slice(b"\"")
+    block.push(b'"')?;
+    Ok(())
 }
 
 // Puts a text with its escapes.
@@ -79,6 +80,14 @@ fn put_digest(block: &mut Vec<u8>, text: &str) -> Result<(), AllocError>
     put_plain(block, text.as_bytes())
 }
 
+// Puts a short name as a string, without a look for what is escaped.
+fn put_short_name(block: &mut Vec<u8>, text: &str) -> Result<(), AllocError>
+    requires { IsShortName text.now }
+    ensures { OnOk result (block.new.items ≡ block.old.items ++ quoted text.now) }
+{
+    put_plain(block, text.as_bytes())
+}
+
 impl PutJson for u64 {
     fn put(&self, _alloc: Global, block: &mut Vec<u8>) -> Result<(), AllocError> {
         let mut buffer = Buffer::new();
@@ -100,29 +109,31 @@ impl PutJson for Name {
 }
 
 impl PutJson for ShortName {
-    fn put(&self, alloc: Global, block: &mut Vec<u8>) -> Result<(), AllocError> {
-        put_string(alloc, block, self.text())
+    fn put(&self, _alloc: Global, block: &mut Vec<u8>) -> Result<(), AllocError> {
+        put_short_name(block, self.text())
     }
 }
 
 impl<A: PutJson, B: PutJson> PutJson for (A, B) {
     fn put(&self, alloc: Global, block: &mut Vec<u8>) -> Result<(), AllocError> {
-        block.extend_from_slice(b"[")?;
+        block.push(b'[')?;
         self.0.put(alloc, block)?;
-        block.extend_from_slice(b",")?;
+        block.push(b',')?;
         self.1.put(alloc, block)?;
-        block.extend_from_slice(b"]")
+        block.push(b']')?;
+        Ok(())
     }
 }
 
 impl<A: PutJson, B: PutJson, C: PutJson> PutJson for (A, B, C) {
     fn put(&self, alloc: Global, block: &mut Vec<u8>) -> Result<(), AllocError> {
-        block.extend_from_slice(b"[")?;
+        block.push(b'[')?;
         self.0.put(alloc, block)?;
-        block.extend_from_slice(b",")?;
+        block.push(b',')?;
         self.1.put(alloc, block)?;
-        block.extend_from_slice(b",")?;
+        block.push(b',')?;
         self.2.put(alloc, block)?;
-        block.extend_from_slice(b"]")
+        block.push(b']')?;
+        Ok(())
     }
 }
