@@ -10,6 +10,8 @@ garbage     content and snapshots that nothing references
 lease       content, snapshots and ingests under one lease
 namespaces  layers in namespaces of some 100 rows
 mix         layers in four namespaces, with ingests, reads, changed labels and removals between
+peer        what containerd sends while it pulls and runs images: each pull under a lease, layers
+            through ingests, snapshots named by the digests of their chains, labels in between
 """
 
 import hashlib
@@ -132,6 +134,57 @@ def mix(rows):
         yield request("content.list", ns)
 
 
+# two layers that five share and four of its own, config, manifest and index, each layer with a
+# snapshot; an image; every second image has a container with its snapshot
+ROWS_OF_PULL = 17
+
+
+def pull(number):
+    """One image's pull, as the client sends it, and a container."""
+    ns = "k8s.io" if number % 3 else "default"
+    lease, at = "pull-%d" % number, {"containerd.io/gc.expire": "2024-03-02T00:00:00Z"}
+    yield request("lease.add", ns, at, id=lease)
+
+    def fetched(name, labels):
+        ref = "fetch-%s-%d" % (digest(name)[7:19], number)
+        yield request("ingest.begin", ns, ref=ref, at=MOMENT, expected=digest(name), lease=lease)
+        yield request("ingest.commit", ns, labels, ref=ref, digest=digest(name), lease=lease)
+
+    source = {"containerd.io/distribution.source.registry.example": "library/image-%d" % number}
+    layers = ["shared %d %s" % (number // 5, layer) for layer in "ab"] + ["own %d %d" % (number, at) for at in range(4)]
+    config, manifest, index = ("%s of %d" % (word, number) for word in ("config", "manifest", "index"))
+    for name in [index, manifest, config] + layers:
+        yield from fetched(name, source)
+    yield request("content.label", ns, digest=digest(index), key=REFERENCE + "content.m.0", value=digest(manifest))
+    for place, name in enumerate([config] + layers):
+        key = "config" if place == 0 else "l.%d" % (place - 1)
+        yield request("content.label", ns, digest=digest(manifest), key=REFERENCE + "content." + key, value=digest(name))
+    parent = {}
+    for place, layer in enumerate(layers):
+        name = digest("%s chain %d %s" % (ns, place, layer))
+        key = "extract-%d%d %s" % (number, place, name)
+        kept = {"containerd.io/snapshot.ref": name}
+        yield request("snap.prepare", ns, kept, snapshotter="overlayfs", key=key, lease=lease, **parent)
+        yield request("snap.commit", ns, kept, snapshotter="overlayfs", key=key, name=name, lease=lease)
+        parent = {"parent": name}
+        yield request("content.label", ns, digest=digest(layer), key="containerd.io/uncompressed", value=name)
+    top = parent["parent"]
+    yield request("content.label", ns, digest=digest(config), key=REFERENCE + "snapshot.overlayfs", value=top)
+    yield request("image.add", ns, name="registry.example/library/image-%d:latest" % number, target=digest(index))
+    yield request("lease.remove", ns, id=lease)
+    if number % 2 == 0:
+        run = digest("container %d" % number)[7:]
+        yield request("snap.prepare", ns, snapshotter="overlayfs", key=run, parent=top)
+        yield request("container.add", ns, name=run, snapshotter="overlayfs", key=run)
+
+
+def peer(rows):
+    yield request("ns.add", "default")
+    yield request("ns.add", "k8s.io")
+    for number in range(max(1, rows // ROWS_OF_PULL)):
+        yield from pull(number)
+
+
 def scattered(rows):
     """References stay within the part that is reached or within the other."""
     rng = random.Random(rows)
@@ -224,7 +277,7 @@ def refused(requests):
 
 
 SHAPES = {"layers": layers, "random": scattered, "chain": chain, "fan": fan, "garbage": unreferenced,
-          "lease": lambda rows: unreferenced(rows, "l"), "namespaces": namespaces, "mix": mix}
+          "lease": lambda rows: unreferenced(rows, "l"), "namespaces": namespaces, "mix": mix, "peer": peer}
 STEADY = {"reads": reads, "refused": refused}
 
 
