@@ -54,7 +54,7 @@ impl<L: Ledger> SessionStore<L> {
     }
 
     // Whether the request was answered with a success.
-    fn ask(&mut self, alloc: Global, request: Request) -> bool {
+    fn ask(&mut self, alloc: Global, request: Request<'static>) -> bool {
         let reply = self.locked.apply(alloc, &mut self.session, request);
         let is_done = reply.is_ok();
         drop(reply);
@@ -78,7 +78,7 @@ impl<L: Ledger> SessionStore<L> {
         rt: &R,
         alloc: Global,
         kind: u32,
-        removal: Removal,
+        removal: Removal<'static>,
     ) -> Result<Report, Fault> {
         let SessionStore { locked, session } = self;
         let (gate, sweep_gate) = (&OpenGate, &OpenSweepGate);
@@ -96,7 +96,7 @@ impl<L: Ledger> SessionStore<L> {
         &mut self,
         rt: &R,
         alloc: Global,
-        removal: Removal,
+        removal: Removal<'static>,
         expected: &Expected<'_>,
     ) -> u8 {
         let reply = self.collect(rt, alloc, expected.kind, removal);
@@ -193,7 +193,7 @@ fn outcome_on<L: Ledger, R: Threads + Wait + Sync>(
     rt: &R,
     alloc: Global,
     session_store: &mut SessionStore<L>,
-    removals: (Removal, Removal),
+    removals: (Removal<'static>, Removal<'static>),
     before: &Seen,
     expected: &Expected<'_>,
 ) -> u8 {
@@ -210,7 +210,7 @@ fn outcome_on<L: Ledger, R: Threads + Wait + Sync>(
 }
 
 // What a collection of a kind removes beside, twice.
-fn two_removals(alloc: Global, kind: u32) -> Result<(Removal, Removal), Fault> {
+fn two_removals(alloc: Global, kind: u32) -> Result<(Removal<'static>, Removal<'static>), Fault> {
     let once = removal(alloc, kind)?;
     match removal(alloc, kind) {
         Ok(again) => Ok((once, again)),

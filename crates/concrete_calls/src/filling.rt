@@ -12,22 +12,22 @@ const B: &str = "sha256:bbbbbbbbbbbbbbbbbbbbbbbbbbbbbbbbbbbbbbbbbbbbbbbbbbbbbbbb
 
 const C: &str = "sha256:cccccccccccccccccccccccccccccccccccccccccccccccccccccccccccccccc";
 
-fn words(alloc: Global, text: &str) -> Result<RawText, Fault> {
+fn words(alloc: Global, text: &str) -> Result<RawText<'static>, Fault> {
     Ok(RawText::new(String::from_str(alloc, text)?))
 }
 
-fn labels(alloc: Global, key: &str, value: &str) -> Result<RawLabels, Fault> {
-    let key = String::from_str(alloc, key)?;
-    let value = String::from_str(alloc, value)?;
+fn labels(alloc: Global, key: &str, value: &str) -> Result<RawLabels<'static>, Fault> {
+    let key = words(alloc, key)?;
+    let value = words(alloc, value)?;
     Ok(RawLabels::new(vec![in alloc; (key, value)]?))
 }
 
-fn space(alloc: Global) -> Result<Request, Fault> {
+fn space(alloc: Global) -> Result<Request<'static>, Fault> {
     let ns = words(alloc, "x")?;
     Ok(Request::NsAdd { ns })
 }
 
-fn lease(alloc: Global, id: &str, key: &str, value: &str) -> Result<Request, Fault> {
+fn lease(alloc: Global, id: &str, key: &str, value: &str) -> Result<Request<'static>, Fault> {
     let ns = words(alloc, "x")?;
     let id = words(alloc, id)?;
     let labels = labels(alloc, key, value)?;
@@ -37,7 +37,7 @@ fn lease(alloc: Global, id: &str, key: &str, value: &str) -> Result<Request, Fau
     }))
 }
 
-fn content(alloc: Global, digest: &str) -> Result<Request, Fault> {
+fn content(alloc: Global, digest: &str) -> Result<Request<'static>, Fault> {
     let ns = words(alloc, "x")?;
     let digest = words(alloc, digest)?;
     Ok(Request::ContentAdd(ContentAdd {
@@ -47,7 +47,7 @@ fn content(alloc: Global, digest: &str) -> Result<Request, Fault> {
     }))
 }
 
-fn held_content(alloc: Global, digest: &str, lease: &str) -> Result<Request, Fault> {
+fn held_content(alloc: Global, digest: &str, lease: &str) -> Result<Request<'static>, Fault> {
     let ns = words(alloc, "x")?;
     let digest = words(alloc, digest)?;
     let lease = words(alloc, lease)?;
@@ -58,7 +58,7 @@ fn held_content(alloc: Global, digest: &str, lease: &str) -> Result<Request, Fau
     }))
 }
 
-fn image(alloc: Global) -> Result<Request, Fault> {
+fn image(alloc: Global) -> Result<Request<'static>, Fault> {
     let ns = words(alloc, "x")?;
     let name = words(alloc, "i")?;
     let target = words(alloc, B)?;
@@ -70,7 +70,7 @@ fn image(alloc: Global) -> Result<Request, Fault> {
     }))
 }
 
-fn begin(alloc: Global) -> Result<Request, Fault> {
+fn begin(alloc: Global) -> Result<Request<'static>, Fault> {
     let ns = words(alloc, "x")?;
     let name = words(alloc, "r")?;
     let at = words(alloc, "2024-02-01T00:00:00Z")?;
@@ -82,7 +82,7 @@ fn begin(alloc: Global) -> Result<Request, Fault> {
     }))
 }
 
-fn prepare(alloc: Global, snapshotter: &str, key: &str) -> Result<Request, Fault> {
+fn prepare(alloc: Global, snapshotter: &str, key: &str) -> Result<Request<'static>, Fault> {
     let ns = words(alloc, "x")?;
     let snapshotter = words(alloc, snapshotter)?;
     let key = words(alloc, key)?;
@@ -98,7 +98,7 @@ fn prepare(alloc: Global, snapshotter: &str, key: &str) -> Result<Request, Fault
     }))
 }
 
-fn commit(alloc: Global) -> Result<Request, Fault> {
+fn commit(alloc: Global) -> Result<Request<'static>, Fault> {
     let ns = words(alloc, "x")?;
     let snapshotter = words(alloc, "overlayfs")?;
     let key = words(alloc, "p")?;
@@ -115,7 +115,7 @@ fn commit(alloc: Global) -> Result<Request, Fault> {
     }))
 }
 
-fn view(alloc: Global) -> Result<Request, Fault> {
+fn view(alloc: Global) -> Result<Request<'static>, Fault> {
     let ns = words(alloc, "x")?;
     let snapshotter = words(alloc, "overlayfs")?;
     let key = words(alloc, "v")?;
@@ -135,7 +135,7 @@ fn view(alloc: Global) -> Result<Request, Fault> {
 // The request at a place of the store's filling, from 0 to 12: content A, which nothing references;
 // B, which the image `i` has; C under the lease `l`; a lease whose expiry can't be read, and one that
 // has expired, as the ingest has; and snapshots by two snapshotters, one of them over another.
-pub(crate) fn request(alloc: Global, place: u32) -> Result<Request, Fault> {
+pub(crate) fn request(alloc: Global, place: u32) -> Result<Request<'static>, Fault> {
     match place {
         0 => space(alloc),
         1 => lease(alloc, "l", "k", "v"),
@@ -159,7 +159,7 @@ pub(crate) fn request(alloc: Global, place: u32) -> Result<Request, Fault> {
 }
 
 // What a kind of collection removes: the lease `l`, or the image `i`.
-pub(crate) fn removal(alloc: Global, kind: u32) -> Result<Removal, Fault> {
+pub(crate) fn removal(alloc: Global, kind: u32) -> Result<Removal<'static>, Fault> {
     let ns = words(alloc, "x")?;
     if kind == 4 {
         let id = words(alloc, "l")?;

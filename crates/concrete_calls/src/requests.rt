@@ -9,7 +9,7 @@ use meta_types::{Fault, RawText, Reply, Request};
 use request_core::State;
 use std::alloc::Global;
 
-pub(crate) fn space(alloc: Global) -> Result<Request, Fault> {
+pub(crate) fn space(alloc: Global) -> Result<Request<'static>, Fault> {
     let ns = RawText::new(String::from_str(alloc, "x")?);
     Ok(Request::NsAdd { ns })
 }
@@ -17,7 +17,7 @@ pub(crate) fn space(alloc: Global) -> Result<Request, Fault> {
 fn answer<S: SnapBackend, B: BlobBackend, I: IngestBackend>(
     store: &mut State<S, B, I>,
     alloc: Global,
-    request: Result<Request, Fault>,
+    request: Result<Request<'static>, Fault>,
 ) -> Result<Reply, Fault>
     requires { IsSound store.old.state }
 {

@@ -13,54 +13,61 @@ use Rattle.meta_types.specs.contracts.request.SnapAdd as snap_adds
 use Rattle.meta_types.specs.contracts.request.SnapCommit as snap_commits
 use Rattle.meta_types.specs.contracts.request.LeaseAdd as lease_adds
 use Rattle.meta_types.specs.contracts.request.LeaseResource as lease_resources
+use mathlib.Core.List.{[]}
+use mir.Syntax.{named}
+use denote.Ref.{NamedLft}
 use Rattle.meta_types.proofs.Decided.{Test, text, maybe, one, ◌⊗◌, fields}
 use Rattle.meta_types.proofs.RowTests.{labels}
 
-abbrev pub label : Test raw_labels.struct.D
-label = fields raw_labels.struct raw_labels.the_propositions (text ⊗ one text)
+-- some lifetime: what is compared depends on none
+abbrev pub any : NamedLft
+any = record { mir = named 1; lft = [] }
 
-abbrev pub name : Test names.struct.D
-name = fields names.struct names.the_propositions (text ⊗ one text)
+abbrev pub label : (k : NamedLft) → Test (raw_labels.struct k).D
+label k = fields (raw_labels.struct k) raw_labels.the_propositions (text ⊗ one text)
 
-abbrev pub content : Test contents.struct.D
-content = fields contents.struct contents.the_propositions (text ⊗ one text)
+abbrev pub name : (k : NamedLft) → Test (names.struct k).D
+name k = fields (names.struct k) names.the_propositions (text ⊗ one text)
 
-abbrev pub snap : Test snaps.struct.D
-snap = fields snaps.struct snaps.the_propositions (text ⊗ text ⊗ one text)
+abbrev pub content : (k : NamedLft) → Test (contents.struct k).D
+content k = fields (contents.struct k) contents.the_propositions (text ⊗ one text)
 
-abbrev pub image_add : Test image_adds.struct.D
-image_add = fields image_adds.struct image_adds.the_propositions (name ⊗ text ⊗ one labels)
+abbrev pub snap : (k : NamedLft) → Test (snaps.struct k).D
+snap k = fields (snaps.struct k) snaps.the_propositions (text ⊗ text ⊗ one text)
 
-abbrev pub image_target : Test image_targets.struct.D
-image_target = fields image_targets.struct image_targets.the_propositions (name ⊗ one text)
+abbrev pub image_add : (k : NamedLft) → Test (image_adds.struct k).D
+image_add k = fields (image_adds.struct k) image_adds.the_propositions (name k ⊗ text ⊗ one labels)
 
-abbrev pub container_add : Test container_adds.struct.D
-container_add = fields container_adds.struct container_adds.the_propositions
-    (name ⊗ maybe text ⊗ maybe text ⊗ one labels)
+abbrev pub image_target : (k : NamedLft) → Test (image_targets.struct k).D
+image_target k = fields (image_targets.struct k) image_targets.the_propositions (name k ⊗ one text)
 
-abbrev pub content_add : Test content_adds.struct.D
-content_add = fields content_adds.struct content_adds.the_propositions
-    (content ⊗ labels ⊗ one (maybe text))
+abbrev pub container_add : (k : NamedLft) → Test (container_adds.struct k).D
+container_add k = fields (container_adds.struct k) container_adds.the_propositions
+    (name k ⊗ maybe text ⊗ maybe text ⊗ one labels)
 
-abbrev pub ingest_begin : Test ingest_begins.struct.D
-ingest_begin = fields ingest_begins.struct ingest_begins.the_propositions
-    (name ⊗ text ⊗ maybe text ⊗ one (maybe text))
+abbrev pub content_add : (k : NamedLft) → Test (content_adds.struct k).D
+content_add k = fields (content_adds.struct k) content_adds.the_propositions
+    (content k ⊗ labels ⊗ one (maybe text))
 
-abbrev pub ingest_commit : Test ingest_commits.struct.D
-ingest_commit = fields ingest_commits.struct ingest_commits.the_propositions
-    (name ⊗ text ⊗ labels ⊗ one (maybe text))
+abbrev pub ingest_begin : (k : NamedLft) → Test (ingest_begins.struct k).D
+ingest_begin k = fields (ingest_begins.struct k) ingest_begins.the_propositions
+    (name k ⊗ text ⊗ maybe text ⊗ one (maybe text))
 
-abbrev pub snap_add : Test snap_adds.struct.D
-snap_add = fields snap_adds.struct snap_adds.the_propositions
-    (snap ⊗ maybe text ⊗ labels ⊗ one (maybe text))
+abbrev pub ingest_commit : (k : NamedLft) → Test (ingest_commits.struct k).D
+ingest_commit k = fields (ingest_commits.struct k) ingest_commits.the_propositions
+    (name k ⊗ text ⊗ labels ⊗ one (maybe text))
 
-abbrev pub snap_commit : Test snap_commits.struct.D
-snap_commit = fields snap_commits.struct snap_commits.the_propositions
-    (snap ⊗ text ⊗ labels ⊗ one (maybe text))
+abbrev pub snap_add : (k : NamedLft) → Test (snap_adds.struct k).D
+snap_add k = fields (snap_adds.struct k) snap_adds.the_propositions
+    (snap k ⊗ maybe text ⊗ labels ⊗ one (maybe text))
 
-abbrev pub lease_add : Test lease_adds.struct.D
-lease_add = fields lease_adds.struct lease_adds.the_propositions (name ⊗ one labels)
+abbrev pub snap_commit : (k : NamedLft) → Test (snap_commits.struct k).D
+snap_commit k = fields (snap_commits.struct k) snap_commits.the_propositions
+    (snap k ⊗ text ⊗ labels ⊗ one (maybe text))
 
-abbrev pub lease_resource : Test lease_resources.struct.D
-lease_resource = fields lease_resources.struct lease_resources.the_propositions
-    (name ⊗ text ⊗ one text)
+abbrev pub lease_add : (k : NamedLft) → Test (lease_adds.struct k).D
+lease_add k = fields (lease_adds.struct k) lease_adds.the_propositions (name k ⊗ one labels)
+
+abbrev pub lease_resource : (k : NamedLft) → Test (lease_resources.struct k).D
+lease_resource k = fields (lease_resources.struct k) lease_resources.the_propositions
+    (name k ⊗ text ⊗ one text)

@@ -14,7 +14,7 @@ pub enum By {
     Resource,
     Expected,
     Parent,
-    Label(RawText),
+    Label(RawText<'static>),
 }
 
 /// A thing of a path. `mode` is that of content and of snapshots; `expire` is the expiry label of a
@@ -24,7 +24,7 @@ pub struct PathStep {
     pub by: By,
     pub object: Object,
     pub mode: Option<Mode>,
-    pub expire: Option<RawText>,
+    pub expire: Option<RawText<'static>>,
 }
 
 /// What keeps a row, from the root on. Where nothing does, `kept` is false, and the path is that

@@ -3,160 +3,179 @@ use crate::raw::{RawLabel, RawLabels, RawText};
 
 /// What names an image, a container, an ingest or a lease.
 #[derive(PartialEq, Drop)]
-pub struct RawName {
-    pub ns: RawText,
-    pub name: RawText,
+pub struct RawName<'a> {
+    pub ns: RawText<'a>,
+    pub name: RawText<'a>,
 }
 
 /// What names content.
 #[derive(PartialEq, Drop)]
-pub struct RawContent {
-    pub ns: RawText,
-    pub digest: RawText,
+pub struct RawContent<'a> {
+    pub ns: RawText<'a>,
+    pub digest: RawText<'a>,
 }
 
 /// What names a snapshot.
 #[derive(PartialEq, Drop)]
-pub struct RawSnapshot {
-    pub ns: RawText,
-    pub snapshotter: RawText,
-    pub name: RawText,
+pub struct RawSnapshot<'a> {
+    pub ns: RawText<'a>,
+    pub snapshotter: RawText<'a>,
+    pub name: RawText<'a>,
 }
 
 /// A new image.
 #[derive(PartialEq, Drop)]
-pub struct ImageAdd {
-    pub image: RawName,
-    pub target: RawText,
-    pub labels: RawLabels,
+pub struct ImageAdd<'a> {
+    pub image: RawName<'a>,
+    pub target: RawText<'a>,
+    pub labels: RawLabels<'a>,
 }
 
 /// An image's new target.
 #[derive(PartialEq, Drop)]
-pub struct ImageTarget {
-    pub image: RawName,
-    pub target: RawText,
+pub struct ImageTarget<'a> {
+    pub image: RawName<'a>,
+    pub target: RawText<'a>,
 }
 
 /// A new container, with the snapshot that it runs on, if any.
 #[derive(PartialEq, Drop)]
-pub struct ContainerAdd {
-    pub container: RawName,
-    pub snapshotter: Option<RawText>,
-    pub key: Option<RawText>,
-    pub labels: RawLabels,
+pub struct ContainerAdd<'a> {
+    pub container: RawName<'a>,
+    pub snapshotter: Option<RawText<'a>>,
+    pub key: Option<RawText<'a>>,
+    pub labels: RawLabels<'a>,
 }
 
 /// New content, with the lease that is to hold it, if any.
 #[derive(PartialEq, Drop)]
-pub struct ContentAdd {
-    pub content: RawContent,
-    pub labels: RawLabels,
-    pub lease: Option<RawText>,
+pub struct ContentAdd<'a> {
+    pub content: RawContent<'a>,
+    pub labels: RawLabels<'a>,
+    pub lease: Option<RawText<'a>>,
 }
 
 /// A new ingest: when it begins, the digest that it expects, and the lease that is to hold it, if
 /// any.
 #[derive(PartialEq, Drop)]
-pub struct IngestBegin {
-    pub ingest: RawName,
-    pub at: RawText,
-    pub expected: Option<RawText>,
-    pub lease: Option<RawText>,
+pub struct IngestBegin<'a> {
+    pub ingest: RawName<'a>,
+    pub at: RawText<'a>,
+    pub expected: Option<RawText<'a>>,
+    pub lease: Option<RawText<'a>>,
 }
 
 /// The content that an ingest becomes, with the lease that is to hold it, if any.
 #[derive(PartialEq, Drop)]
-pub struct IngestCommit {
-    pub ingest: RawName,
-    pub digest: RawText,
-    pub labels: RawLabels,
-    pub lease: Option<RawText>,
+pub struct IngestCommit<'a> {
+    pub ingest: RawName<'a>,
+    pub digest: RawText<'a>,
+    pub labels: RawLabels<'a>,
+    pub lease: Option<RawText<'a>>,
 }
 
 /// A new snapshot, active or a view, over a parent or none, with the lease that is to hold it, if
 /// any.
 #[derive(PartialEq, Drop)]
-pub struct SnapAdd {
-    pub snapshot: RawSnapshot,
-    pub parent: Option<RawText>,
-    pub labels: RawLabels,
-    pub lease: Option<RawText>,
+pub struct SnapAdd<'a> {
+    pub snapshot: RawSnapshot<'a>,
+    pub parent: Option<RawText<'a>>,
+    pub labels: RawLabels<'a>,
+    pub lease: Option<RawText<'a>>,
 }
 
 /// The name under which a snapshot is committed, with the lease that is to hold it, if any.
 #[derive(PartialEq, Drop)]
-pub struct SnapCommit {
-    pub snapshot: RawSnapshot,
-    pub name: RawText,
-    pub labels: RawLabels,
-    pub lease: Option<RawText>,
+pub struct SnapCommit<'a> {
+    pub snapshot: RawSnapshot<'a>,
+    pub name: RawText<'a>,
+    pub labels: RawLabels<'a>,
+    pub lease: Option<RawText<'a>>,
 }
 
 /// A new lease.
 #[derive(PartialEq, Drop)]
-pub struct LeaseAdd {
-    pub lease: RawName,
-    pub labels: RawLabels,
+pub struct LeaseAdd<'a> {
+    pub lease: RawName<'a>,
+    pub labels: RawLabels<'a>,
 }
 
 /// A resource that a lease is to hold, or to let go.
 #[derive(PartialEq, Drop)]
-pub struct LeaseResource {
-    pub lease: RawName,
-    pub kind: RawText,
-    pub resource: RawText,
+pub struct LeaseResource<'a> {
+    pub lease: RawName<'a>,
+    pub kind: RawText<'a>,
+    pub resource: RawText<'a>,
 }
 
 /// What a client asks for, but a collection.
 #[derive(PartialEq, Drop)]
-pub enum Request {
-    NsAdd { ns: RawText },
-    NsRemove { ns: RawText },
+pub enum Request<'a> {
+    NsAdd {
+        ns: RawText<'a>,
+    },
+    NsRemove {
+        ns: RawText<'a>,
+    },
     NsList,
-    ImageAdd(ImageAdd),
-    ImageTarget(ImageTarget),
-    ImageRemove(RawName),
-    ImageGet(RawName),
-    ImageList { ns: RawText },
-    ImageLabel(RawName, RawLabel),
-    ContainerAdd(ContainerAdd),
-    ContainerRemove(RawName),
-    ContainerGet(RawName),
-    ContainerList { ns: RawText },
-    ContainerLabel(RawName, RawLabel),
-    ContentAdd(ContentAdd),
-    ContentRemove(RawContent),
-    ContentGet(RawContent),
-    ContentLabel(RawContent, RawLabel),
-    ContentList { ns: RawText },
-    IngestBegin(IngestBegin),
-    IngestCommit(IngestCommit),
-    IngestAbort(RawName),
-    IngestGet(RawName),
-    IngestList { ns: RawText },
-    SnapPrepare(SnapAdd),
-    SnapView(SnapAdd),
-    SnapCommit(SnapCommit),
-    SnapRemove(RawSnapshot),
-    SnapGet(RawSnapshot),
-    SnapLabel(RawSnapshot, RawLabel),
-    SnapList { ns: RawText, snapshotter: RawText },
-    LeaseAdd(LeaseAdd),
-    LeaseRemove(RawName),
-    LeaseGet(RawName),
-    LeaseLabel(RawName, RawLabel),
-    LeaseList { ns: RawText },
-    LeaseHold(LeaseResource),
-    LeaseDrop(LeaseResource),
-    LeaseResources(RawName),
+    ImageAdd(ImageAdd<'a>),
+    ImageTarget(ImageTarget<'a>),
+    ImageRemove(RawName<'a>),
+    ImageGet(RawName<'a>),
+    ImageList {
+        ns: RawText<'a>,
+    },
+    ImageLabel(RawName<'a>, RawLabel<'a>),
+    ContainerAdd(ContainerAdd<'a>),
+    ContainerRemove(RawName<'a>),
+    ContainerGet(RawName<'a>),
+    ContainerList {
+        ns: RawText<'a>,
+    },
+    ContainerLabel(RawName<'a>, RawLabel<'a>),
+    ContentAdd(ContentAdd<'a>),
+    ContentRemove(RawContent<'a>),
+    ContentGet(RawContent<'a>),
+    ContentLabel(RawContent<'a>, RawLabel<'a>),
+    ContentList {
+        ns: RawText<'a>,
+    },
+    IngestBegin(IngestBegin<'a>),
+    IngestCommit(IngestCommit<'a>),
+    IngestAbort(RawName<'a>),
+    IngestGet(RawName<'a>),
+    IngestList {
+        ns: RawText<'a>,
+    },
+    SnapPrepare(SnapAdd<'a>),
+    SnapView(SnapAdd<'a>),
+    SnapCommit(SnapCommit<'a>),
+    SnapRemove(RawSnapshot<'a>),
+    SnapGet(RawSnapshot<'a>),
+    SnapLabel(RawSnapshot<'a>, RawLabel<'a>),
+    SnapList {
+        ns: RawText<'a>,
+        snapshotter: RawText<'a>,
+    },
+    LeaseAdd(LeaseAdd<'a>),
+    LeaseRemove(RawName<'a>),
+    LeaseGet(RawName<'a>),
+    LeaseLabel(RawName<'a>, RawLabel<'a>),
+    LeaseList {
+        ns: RawText<'a>,
+    },
+    LeaseHold(LeaseResource<'a>),
+    LeaseDrop(LeaseResource<'a>),
+    LeaseResources(RawName<'a>),
     /// Which profile the store follows: 2 where images may expire.
-    Profile { v: u64 },
+    Profile {
+        v: u64,
+    },
 }
 
 /// A removal that is done with a collection, as one event.
 #[derive(PartialEq, Drop)]
-pub enum Removal {
-    Image(RawName),
-    Lease(RawName),
+pub enum Removal<'a> {
+    Image(RawName<'a>),
+    Lease(RawName<'a>),
 }

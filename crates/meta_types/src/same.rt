@@ -8,37 +8,37 @@ use crate::request::{Removal, Request};
 use crate::resource::Resource;
 use crate::rows::{ContainerRow, ContentRow, ImageRow, IngestRow, SnapKey, SnapRow};
 
-impl RawText {
+impl<'a> RawText<'a> {
     /// Whether both are of one text.
-    pub fn is(&self, words: &RawText) -> bool
+    pub fn is(&self, words: &RawText<'a>) -> bool
         ensures { IsTrue result ↔ (self.now ≡ words.now) }
     {
         self == words
     }
 }
 
-impl RawLabels {
+impl<'a> RawLabels<'a> {
     /// Whether both are of the same texts, in the same order.
     #[tactic(auto, using(crate::proofs::Decided::same_labels))]
-    pub fn is(&self, pairs: &RawLabels) -> bool
+    pub fn is(&self, pairs: &RawLabels<'a>) -> bool
         ensures { IsTrue result ↔ (self.now ≡ pairs.now) }
     {
         self == pairs
     }
 }
 
-impl Removal {
+impl<'a> Removal<'a> {
     /// Whether both are of the same texts.
-    pub fn is(&self, removal: &Removal) -> bool
+    pub fn is(&self, removal: &Removal<'a>) -> bool
         ensures { IsTrue result ↔ (self.now ≡ removal.now) }
     {
         self == removal
     }
 }
 
-impl Request {
+impl<'a> Request<'a> {
     /// Whether both ask for the same, in the same texts.
-    pub fn is(&self, request: &Request) -> bool
+    pub fn is(&self, request: &Request<'a>) -> bool
         ensures { IsTrue result ↔ (self.now ≡ request.now) }
     {
         self == request

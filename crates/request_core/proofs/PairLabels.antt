@@ -1,10 +1,8 @@
 -- The labels of the last pairs of a list.
-use Rattle.std.proofs.Common.{◌≡◌, ◌∙◌, ℕ, zero, suc, ◌+◌, ◌-◌, ◌<◌, ◌≤◌, None, ap, Bool, true, false, List, [], ◌∷◌, length, get_or, drop, refl, sym, ap, arith, inl, inr, Err, drop-cons, String, Global, subst}
-use Rattle.std.proofs.lemmas.List.{length-map, get_or-map}
-use Rattle.std.specs.Prelude.{string_bytes}
+use Rattle.std.proofs.Common.{◌≡◌, ◌∙◌, ℕ, zero, suc, ◌+◌, ◌-◌, ◌<◌, ◌≤◌, None, ap, Bool, true, false, List, [], ◌∷◌, length, get_or, drop, refl, sym, ap, arith, inl, inr, Err, drop-cons, subst}
 use Rattle.std.proofs.Math.Numerals.{add-one}
 use Rattle.std.proofs.lemmas.Bool.{cases_Bool, and_right}
-use Rattle.meta_types.specs.Text.{Text, texts_of}
+use Rattle.meta_types.specs.Text.{Text}
 use Rattle.meta_types.specs.Labels.{LabelList, are_labels, labels_of, takes_label, put_label}
 use Rattle.meta_types.specs.Faults.{Refuses, unless}
 use Rattle.meta_types.specs.declared.fault.Fault.{Fault}
@@ -41,39 +39,37 @@ module _ (pairs : List (Text × Text)) (k : ℕ) (d : Text × Text) (lt : k < le
         rw same (refl, not_all pairs k (ap are_labels one_more ∙ and_right (are_labels (drop (k + 1) pairs)) _ f)))
   ]
 
--- the same of entries, which are strings: one before the place is put
-module _ (entries : List (String Global × String Global)) (place : ℕ) (some : 0 < place) (within : place ≤ length entries) (held : LabelList) (allowed : are_labels (drop place (texts_of entries)) ≡ true) (held_is : held ≡ labels_of (drop place (texts_of entries)))
-    (entry : String Global × String Global) (at : entry ≡ get_or entries (place - 1) entry) (key value : Text) (key_is : key ≡ string_bytes entry.0) (value_is : value ≡ string_bytes entry.1) where
+-- one before the place is put
+module _ (entries : List (Text × Text)) (place : ℕ) (some : 0 < place) (within : place ≤ length entries) (held : LabelList) (allowed : are_labels (drop place entries) ≡ true) (held_is : held ≡ labels_of (drop place entries))
+    (entry : Text × Text) (at : entry ≡ get_or entries (place - 1) entry) (key value : Text) (key_is : key ≡ entry.0) (value_is : value ≡ entry.1) where
   abbrev k : ℕ
   k = place - 1
 
   next : k + 1 ≡ place
   next = omega arith
 
-  inside : k < length (texts_of entries)
-  inside = subst (λ n. k < n) (sym (length-map entries (λ (entry : String Global × String Global). (string_bytes entry.0, string_bytes entry.1)))) (omega arith)
+  inside : k < length entries
+  inside = omega arith
 
-  text_at : get_or (texts_of entries) k (key, value) ≡ (key, value)
-  text_at = get_or-map (λ (entry : String Global × String Global). (string_bytes entry.0, string_bytes entry.1)) entries k entry (key, value) (omega arith)
-      ∙ ap (λ (entry : String Global × String Global). (string_bytes entry.0, string_bytes entry.1)) (sym at)
-      ∙ λ i. (sym key_is i, sym value_is i)
+  text_at : get_or entries k (key, value) ≡ (key, value)
+  text_at = (λ i. get_or entries k (key_is i, value_is i)) ∙ sym at ∙ λ i. (sym key_is i, sym value_is i)
 
-  held_next : labels_of (drop (k + 1) (texts_of entries)) ≡ held
-  held_next = ap (λ n. labels_of (drop n (texts_of entries))) next ∙ sym held_is
+  held_next : labels_of (drop (k + 1) entries) ≡ held
+  held_next = ap (λ n. labels_of (drop n entries)) next ∙ sym held_is
 
-  pub put_is : (new : LabelList) → new ≡ put_label key value held → new ≡ labels_of (drop (place - 1) (texts_of entries))
-  put_is new e = e ∙ (λ i. put_label (sym text_at i).0 (sym text_at i).1 (sym held_next i)) ∙ labels_more (texts_of entries) k (key, value) inside
+  pub put_is : (new : LabelList) → new ≡ put_label key value held → new ≡ labels_of (drop (place - 1) entries)
+  put_is new e = e ∙ (λ i. put_label (sym text_at i).0 (sym text_at i).1 (sym held_next i)) ∙ labels_more entries k (key, value) inside
 
-  taken_is : takes_label key value held ≡ takes_label (get_or (texts_of entries) k (key, value)).0 (get_or (texts_of entries) k (key, value)).1 (labels_of (drop (k + 1) (texts_of entries)))
+  taken_is : takes_label key value held ≡ takes_label (get_or entries k (key, value)).0 (get_or entries k (key, value)).1 (labels_of (drop (k + 1) entries))
   taken_is = λ i. takes_label (sym text_at i).0 (sym text_at i).1 (sym held_next i)
 
-  pub still_allowed : unless (takes_label key value held) InvalidArgument ≡ None → are_labels (drop (place - 1) (texts_of entries)) ≡ true
-  still_allowed e = allowed_more (texts_of entries) k (key, value) inside (ap (λ n. are_labels (drop n (texts_of entries))) next ∙ allowed)
+  pub still_allowed : unless (takes_label key value held) InvalidArgument ≡ None → are_labels (drop (place - 1) entries) ≡ true
+  still_allowed e = allowed_more entries k (key, value) inside (ap (λ n. are_labels (drop n entries)) next ∙ allowed)
       (sym taken_is ∙ is_taken (takes_label key value held) e)
     where
       is_taken : (b : Bool) → unless b InvalidArgument ≡ None → b ≡ true
       is_taken true f = refl
       is_taken false f = absurd cc
 
-  pub refused : (X Y : Type 0) (fault : Fault) (read : Y) → Refuses {X = X} (Err fault) (unless (takes_label key value held) InvalidArgument) → ReadsTexts {X = Y} (Err (reading fault)) (are_labels (texts_of entries)) read
-  refused X Y fault read r = refused_more (texts_of entries) k (key, value) inside X Y fault read (subst (λ b. Refuses {X = X} (Err fault) (unless b InvalidArgument)) taken_is r)
+  pub refused : (X Y : Type 0) (fault : Fault) (read : Y) → Refuses {X = X} (Err fault) (unless (takes_label key value held) InvalidArgument) → ReadsTexts {X = Y} (Err (reading fault)) (are_labels entries) read
+  refused X Y fault read r = refused_more entries k (key, value) inside X Y fault read (subst (λ b. Refuses {X = X} (Err fault) (unless b InvalidArgument)) taken_is r)

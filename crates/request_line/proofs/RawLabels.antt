@@ -1,10 +1,10 @@
 -- On the keys and texts of an object.
-use Rattle.std.proofs.Common.{◌≡◌, ◌∙◌, refl, sym, ap, List, [], ◌∷◌, ◌++◌, String, Global, Bor, map, string_bytes, unwrap_or}
+use Rattle.std.proofs.Common.{◌≡◌, ◌∙◌, refl, sym, ap, List, [], ◌∷◌, ◌++◌, Bor, map, string_bytes, unwrap_or}
 use Rattle.std.proofs.lemmas.List.{map-append}
 use Rattle.serde_json.specs.Find.{as_str}
 use Rattle.serde_json.specs.View.{view, members_view}
 use Rattle.serde_json.proofs.Views.{Entry}
-use Rattle.meta_types.specs.Text.{Text, texts_of}
+use Rattle.meta_types.specs.Text.{Text}
 use Rattle.request_line.specs.Members.{pairs_from}
 
 -- one more member
@@ -16,20 +16,19 @@ pairs_from-push (x ∷ es) e =
     ap (λ ps. (string_bytes x.0, unwrap_or (as_str (view x.1)) []) ∷ ps) (pairs_from-push es e)
 
 -- a turn of the loop over the members
-pub pairs_turn : (entries more : List (String Global × String Global)) (es : List Entry) (e : Entry) (key text : String Global)
-    → texts_of entries ≡ pairs_from (members_view es) → string_bytes key ≡ string_bytes e.0
-    → string_bytes text ≡ unwrap_or (as_str (view e.1)) [] → more ≡ entries ++ (key, text) ∷ []
-    → texts_of more ≡ pairs_from (members_view (es ++ e ∷ []))
+pub pairs_turn : (entries more : List (Text × Text)) (es : List Entry) (e : Entry) (key text : Text)
+    → entries ≡ pairs_from (members_view es) → key ≡ string_bytes e.0
+    → text ≡ unwrap_or (as_str (view e.1)) [] → more ≡ entries ++ (key, text) ∷ []
+    → more ≡ pairs_from (members_view (es ++ e ∷ []))
 pairs_turn entries more es e key text before named is pushed =
-    ap texts_of pushed ∙ map-append _ entries _
-    ∙ rw (before, named, is) (sym (pairs_from-push es e))
+    pushed ∙ (λ i. before i ++ (named i, is i) ∷ []) ∙ sym (pairs_from-push es e)
 
--- a turn of the loop over texts that are copied
-pub copied_turn : (entries more : List (String Global × String Global))
-    (ts : List (Bor Text × Bor Text)) (t : Bor Text × Bor Text) (key text : String Global)
-    → texts_of entries ≡ map (λ t. (t.0.now, t.1.now)) ts → string_bytes key ≡ t.0.now
-    → string_bytes text ≡ t.1.now → more ≡ entries ++ (key, text) ∷ []
-    → texts_of more ≡ map (λ t. (t.0.now, t.1.now)) (ts ++ t ∷ [])
-copied_turn entries more ts t key text before named is pushed =
-    ap texts_of pushed ∙ map-append _ entries _
-    ∙ rw (before, named, is) (sym (map-append (λ t. (t.0.now, t.1.now)) ts (t ∷ [])))
+-- a turn of the loop over texts that are lent
+pub lent_turn : (entries more : List (Text × Text)) (ts : List (Bor Text × Bor Text))
+    (t : Bor Text × Bor Text) (key text : Text)
+    → entries ≡ map (λ t. (t.0.now, t.1.now)) ts → key ≡ t.0.now → text ≡ t.1.now
+    → more ≡ entries ++ (key, text) ∷ []
+    → more ≡ map (λ t. (t.0.now, t.1.now)) (ts ++ t ∷ [])
+lent_turn entries more ts t key text before named is pushed =
+    pushed ∙ (λ i. before i ++ (named i, is i) ∷ [])
+    ∙ sym (map-append (λ t. (t.0.now, t.1.now)) ts (t ∷ []))

@@ -3,30 +3,30 @@ use meta_types::{RawText, Removal, Request};
 
 /// What a line asks for, in texts that are not yet read.
 #[derive(Drop)]
-pub enum Asked {
-    Request(Request),
+pub enum Asked<'a> {
+    Request(Request<'a>),
     /// A collection at a moment, or a dry run of one.
     Collect {
-        at: RawText,
+        at: RawText<'a>,
         dry: bool,
     },
     /// A removal with a collection at a moment, as one event.
     Remove {
-        removal: Removal,
-        at: RawText,
+        removal: Removal<'a>,
+        at: RawText<'a>,
     },
     /// Why a row is kept at a moment: a question, and no event.
     Explain {
-        ns: RawText,
-        kind: RawText,
-        resource: RawText,
-        at: RawText,
+        ns: RawText<'a>,
+        kind: RawText<'a>,
+        resource: RawText<'a>,
+        at: RawText<'a>,
     },
     /// What would go at a moment without a row: a question too.
     Impact {
-        ns: RawText,
-        kind: RawText,
-        resource: RawText,
-        at: RawText,
+        ns: RawText<'a>,
+        kind: RawText<'a>,
+        resource: RawText<'a>,
+        at: RawText<'a>,
     },
 }

@@ -27,7 +27,7 @@ fn all_texts(members: &Map<String, Value>) -> bool
 }
 
 // Whether a value is an object of texts.
-fn are_labels(value: &LineValue<'_>) -> bool
+fn are_labels(value: &LineValue<'_, '_>) -> bool
     ensures { result ≡ are_labels (value_of value.now) }
 {
     match value {
@@ -37,7 +37,7 @@ fn are_labels(value: &LineValue<'_>) -> bool
     }
 }
 
-fn is_whole(value: &LineValue<'_>) -> bool
+fn is_whole(value: &LineValue<'_, '_>) -> bool
     ensures { result ≡ is_whole (value_of value.now) }
 {
     match value {
@@ -47,7 +47,7 @@ fn is_whole(value: &LineValue<'_>) -> bool
     }
 }
 
-fn is_text(value: &LineValue<'_>) -> bool
+fn is_text(value: &LineValue<'_, '_>) -> bool
     ensures { result ≡ is_text (value_of value.now) }
 {
     match value {
@@ -58,7 +58,7 @@ fn is_text(value: &LineValue<'_>) -> bool
 }
 
 // Whether a member is of its kind.
-fn has_kind(key: &str, value: &LineValue<'_>) -> bool
+fn has_kind(key: &str, value: &LineValue<'_, '_>) -> bool
     ensures { result ≡ has_kind key.now (value_of value.now) }
 {
     if is_same(key, "labels") {
@@ -99,26 +99,26 @@ fn is_listed(row: &OpForm, key: &str) -> bool
 }
 
 // Whether a member may stand in the line, and is of its kind.
-fn fits(row: &OpForm, one: &Member<'_>) -> bool
+fn fits(row: &OpForm, one: &Member<'_, '_>) -> bool
     ensures { result ≡ fits (row_view row.now) one.now }
 {
     is_listed(row, one.0) && has_kind(one.0, &one.1)
 }
 
-fn all_fit(row: &OpForm, members: &[Member<'_>]) -> bool
+fn all_fit(row: &OpForm, members: &[Member<'_, '_>]) -> bool
     ensures { result ≡ list_all (fits (row_view row.now)) members.now }
 {
     members.iter().all(|one| fits(row, one))
 }
 
 // Whether each member that must stand in the line is there.
-fn has_required(row: &OpForm, members: &[Member<'_>]) -> bool
+fn has_required(row: &OpForm, members: &[Member<'_, '_>]) -> bool
     ensures { result ≡ has_required (row_view row.now) (object_of members.now) }
 {
     has_all(row.required, members)
 }
 
-fn has_all(keys: &[&str], members: &[Member<'_>]) -> bool
+fn has_all(keys: &[&str], members: &[Member<'_, '_>]) -> bool
     ensures { result ≡ list_all (λ k. is_some (get_member k.now
         (object_of members.now))) keys.now }
 {
@@ -126,7 +126,7 @@ fn has_all(keys: &[&str], members: &[Member<'_>]) -> bool
 }
 
 // Whether each member is one of the op's, and those that must stand are there.
-pub(crate) fn are_of(op: Op, members: &[Member<'_>]) -> bool
+pub(crate) fn are_of(op: Op, members: &[Member<'_, '_>]) -> bool
     ensures { result ≡ (list_all (fits (members_of op)) members.now
         && has_required (members_of op) (object_of members.now)) }
 {
@@ -135,7 +135,7 @@ pub(crate) fn are_of(op: Op, members: &[Member<'_>]) -> bool
 }
 
 // The op that the members name.
-pub(crate) fn op_in(members: &[Member<'_>]) -> Option<Op>
+pub(crate) fn op_in(members: &[Member<'_, '_>]) -> Option<Op>
     ensures { result ≡ op_in (object_of members.now) }
 {
     Op::named(text_in(members, "op")?)

@@ -10,7 +10,7 @@ use crate::op::Op;
 use meta_types::Fault;
 use std::alloc::Global;
 
-pub(crate) fn gc_run(alloc: Global, members: &[Member<'_>]) -> Result<Asked, Fault>
+pub(crate) fn gc_run<'a>(alloc: Global, members: &[Member<'a, '_>]) -> Result<Asked<'a>, Fault>
     ensures fault { Refuses result None }
     ensures ok { IfOk result (λ asked. asked ≡ asked_of Op.GcRun (object_of members.now)) }
 {
@@ -18,7 +18,7 @@ pub(crate) fn gc_run(alloc: Global, members: &[Member<'_>]) -> Result<Asked, Fau
     Ok(Asked::Collect { at, dry: false })
 }
 
-pub(crate) fn gc_plan(alloc: Global, members: &[Member<'_>]) -> Result<Asked, Fault>
+pub(crate) fn gc_plan<'a>(alloc: Global, members: &[Member<'a, '_>]) -> Result<Asked<'a>, Fault>
     ensures fault { Refuses result None }
     ensures ok { IfOk result (λ asked. asked ≡ asked_of Op.GcPlan (object_of members.now)) }
 {

@@ -10,7 +10,10 @@ use crate::op::Op;
 use meta_types::{ContainerAdd, Fault, Request};
 use std::alloc::Global;
 
-pub(crate) fn container_add(alloc: Global, members: &[Member<'_>]) -> Result<Asked, Fault>
+pub(crate) fn container_add<'a>(
+    alloc: Global,
+    members: &[Member<'a, '_>],
+) -> Result<Asked<'a>, Fault>
     ensures fault { Refuses result None }
     ensures ok { IfOk result (λ asked. asked ≡ asked_of Op.ContainerAdd (object_of members.now)) }
 {
@@ -26,7 +29,10 @@ pub(crate) fn container_add(alloc: Global, members: &[Member<'_>]) -> Result<Ask
     })))
 }
 
-pub(crate) fn container_remove(alloc: Global, members: &[Member<'_>]) -> Result<Asked, Fault>
+pub(crate) fn container_remove<'a>(
+    alloc: Global,
+    members: &[Member<'a, '_>],
+) -> Result<Asked<'a>, Fault>
     ensures fault { Refuses result None }
     ensures ok { IfOk result (λ asked. asked ≡ asked_of Op.ContainerRemove (object_of members.now)) }
 {
@@ -34,7 +40,10 @@ pub(crate) fn container_remove(alloc: Global, members: &[Member<'_>]) -> Result<
     Ok(Asked::Request(Request::ContainerRemove(container)))
 }
 
-pub(crate) fn container_get(alloc: Global, members: &[Member<'_>]) -> Result<Asked, Fault>
+pub(crate) fn container_get<'a>(
+    alloc: Global,
+    members: &[Member<'a, '_>],
+) -> Result<Asked<'a>, Fault>
     ensures fault { Refuses result None }
     ensures ok { IfOk result (λ asked. asked ≡ asked_of Op.ContainerGet (object_of members.now)) }
 {
@@ -42,7 +51,10 @@ pub(crate) fn container_get(alloc: Global, members: &[Member<'_>]) -> Result<Ask
     Ok(Asked::Request(Request::ContainerGet(container)))
 }
 
-pub(crate) fn container_list(alloc: Global, members: &[Member<'_>]) -> Result<Asked, Fault>
+pub(crate) fn container_list<'a>(
+    alloc: Global,
+    members: &[Member<'a, '_>],
+) -> Result<Asked<'a>, Fault>
     ensures fault { Refuses result None }
     ensures ok { IfOk result (λ asked. asked ≡ asked_of Op.ContainerList (object_of members.now)) }
 {
@@ -50,7 +62,10 @@ pub(crate) fn container_list(alloc: Global, members: &[Member<'_>]) -> Result<As
     Ok(Asked::Request(Request::ContainerList { ns }))
 }
 
-pub(crate) fn container_label(alloc: Global, members: &[Member<'_>]) -> Result<Asked, Fault>
+pub(crate) fn container_label<'a>(
+    alloc: Global,
+    members: &[Member<'a, '_>],
+) -> Result<Asked<'a>, Fault>
     ensures fault { Refuses result None }
     ensures ok { IfOk result (λ asked. asked ≡ asked_of Op.ContainerLabel (object_of members.now)) }
 {

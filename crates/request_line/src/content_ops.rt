@@ -10,7 +10,7 @@ use crate::op::Op;
 use meta_types::{ContentAdd, Fault, IngestBegin, IngestCommit, Request};
 use std::alloc::Global;
 
-pub(crate) fn content_add(alloc: Global, members: &[Member<'_>]) -> Result<Asked, Fault>
+pub(crate) fn content_add<'a>(alloc: Global, members: &[Member<'a, '_>]) -> Result<Asked<'a>, Fault>
     ensures fault { Refuses result None }
     ensures ok { IfOk result (λ asked. asked ≡ asked_of Op.ContentAdd (object_of members.now)) }
 {
@@ -24,7 +24,10 @@ pub(crate) fn content_add(alloc: Global, members: &[Member<'_>]) -> Result<Asked
     })))
 }
 
-pub(crate) fn content_remove(alloc: Global, members: &[Member<'_>]) -> Result<Asked, Fault>
+pub(crate) fn content_remove<'a>(
+    alloc: Global,
+    members: &[Member<'a, '_>],
+) -> Result<Asked<'a>, Fault>
     ensures fault { Refuses result None }
     ensures ok { IfOk result (λ asked. asked ≡ asked_of Op.ContentRemove (object_of members.now)) }
 {
@@ -32,7 +35,7 @@ pub(crate) fn content_remove(alloc: Global, members: &[Member<'_>]) -> Result<As
     Ok(Asked::Request(Request::ContentRemove(content)))
 }
 
-pub(crate) fn content_get(alloc: Global, members: &[Member<'_>]) -> Result<Asked, Fault>
+pub(crate) fn content_get<'a>(alloc: Global, members: &[Member<'a, '_>]) -> Result<Asked<'a>, Fault>
     ensures fault { Refuses result None }
     ensures ok { IfOk result (λ asked. asked ≡ asked_of Op.ContentGet (object_of members.now)) }
 {
@@ -40,7 +43,10 @@ pub(crate) fn content_get(alloc: Global, members: &[Member<'_>]) -> Result<Asked
     Ok(Asked::Request(Request::ContentGet(content)))
 }
 
-pub(crate) fn content_label(alloc: Global, members: &[Member<'_>]) -> Result<Asked, Fault>
+pub(crate) fn content_label<'a>(
+    alloc: Global,
+    members: &[Member<'a, '_>],
+) -> Result<Asked<'a>, Fault>
     ensures fault { Refuses result None }
     ensures ok { IfOk result (λ asked. asked ≡ asked_of Op.ContentLabel (object_of members.now)) }
 {
@@ -49,7 +55,10 @@ pub(crate) fn content_label(alloc: Global, members: &[Member<'_>]) -> Result<Ask
     Ok(Asked::Request(Request::ContentLabel(content, label)))
 }
 
-pub(crate) fn content_list(alloc: Global, members: &[Member<'_>]) -> Result<Asked, Fault>
+pub(crate) fn content_list<'a>(
+    alloc: Global,
+    members: &[Member<'a, '_>],
+) -> Result<Asked<'a>, Fault>
     ensures fault { Refuses result None }
     ensures ok { IfOk result (λ asked. asked ≡ asked_of Op.ContentList (object_of members.now)) }
 {
@@ -57,7 +66,10 @@ pub(crate) fn content_list(alloc: Global, members: &[Member<'_>]) -> Result<Aske
     Ok(Asked::Request(Request::ContentList { ns }))
 }
 
-pub(crate) fn ingest_begin(alloc: Global, members: &[Member<'_>]) -> Result<Asked, Fault>
+pub(crate) fn ingest_begin<'a>(
+    alloc: Global,
+    members: &[Member<'a, '_>],
+) -> Result<Asked<'a>, Fault>
     ensures fault { Refuses result None }
     ensures ok { IfOk result (λ asked. asked ≡ asked_of Op.IngestBegin (object_of members.now)) }
 {
@@ -73,7 +85,10 @@ pub(crate) fn ingest_begin(alloc: Global, members: &[Member<'_>]) -> Result<Aske
     })))
 }
 
-pub(crate) fn ingest_commit(alloc: Global, members: &[Member<'_>]) -> Result<Asked, Fault>
+pub(crate) fn ingest_commit<'a>(
+    alloc: Global,
+    members: &[Member<'a, '_>],
+) -> Result<Asked<'a>, Fault>
     ensures fault { Refuses result None }
     ensures ok { IfOk result (λ asked. asked ≡ asked_of Op.IngestCommit (object_of members.now)) }
 {
@@ -89,7 +104,10 @@ pub(crate) fn ingest_commit(alloc: Global, members: &[Member<'_>]) -> Result<Ask
     })))
 }
 
-pub(crate) fn ingest_abort(alloc: Global, members: &[Member<'_>]) -> Result<Asked, Fault>
+pub(crate) fn ingest_abort<'a>(
+    alloc: Global,
+    members: &[Member<'a, '_>],
+) -> Result<Asked<'a>, Fault>
     ensures fault { Refuses result None }
     ensures ok { IfOk result (λ asked. asked ≡ asked_of Op.IngestAbort (object_of members.now)) }
 {
@@ -97,7 +115,7 @@ pub(crate) fn ingest_abort(alloc: Global, members: &[Member<'_>]) -> Result<Aske
     Ok(Asked::Request(Request::IngestAbort(ingest)))
 }
 
-pub(crate) fn ingest_get(alloc: Global, members: &[Member<'_>]) -> Result<Asked, Fault>
+pub(crate) fn ingest_get<'a>(alloc: Global, members: &[Member<'a, '_>]) -> Result<Asked<'a>, Fault>
     ensures fault { Refuses result None }
     ensures ok { IfOk result (λ asked. asked ≡ asked_of Op.IngestGet (object_of members.now)) }
 {
@@ -105,7 +123,7 @@ pub(crate) fn ingest_get(alloc: Global, members: &[Member<'_>]) -> Result<Asked,
     Ok(Asked::Request(Request::IngestGet(ingest)))
 }
 
-pub(crate) fn ingest_list(alloc: Global, members: &[Member<'_>]) -> Result<Asked, Fault>
+pub(crate) fn ingest_list<'a>(alloc: Global, members: &[Member<'a, '_>]) -> Result<Asked<'a>, Fault>
     ensures fault { Refuses result None }
     ensures ok { IfOk result (λ asked. asked ≡ asked_of Op.IngestList (object_of members.now)) }
 {

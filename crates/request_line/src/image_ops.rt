@@ -10,7 +10,7 @@ use crate::op::Op;
 use meta_types::{Fault, ImageAdd, ImageTarget, Removal, Request};
 use std::alloc::Global;
 
-pub(crate) fn image_add(alloc: Global, members: &[Member<'_>]) -> Result<Asked, Fault>
+pub(crate) fn image_add<'a>(alloc: Global, members: &[Member<'a, '_>]) -> Result<Asked<'a>, Fault>
     ensures fault { Refuses result None }
     ensures ok { IfOk result (λ asked. asked ≡ asked_of Op.ImageAdd (object_of members.now)) }
 {
@@ -24,7 +24,10 @@ pub(crate) fn image_add(alloc: Global, members: &[Member<'_>]) -> Result<Asked, 
     })))
 }
 
-pub(crate) fn image_target(alloc: Global, members: &[Member<'_>]) -> Result<Asked, Fault>
+pub(crate) fn image_target<'a>(
+    alloc: Global,
+    members: &[Member<'a, '_>],
+) -> Result<Asked<'a>, Fault>
     ensures fault { Refuses result None }
     ensures ok { IfOk result (λ asked. asked ≡ asked_of Op.ImageTarget (object_of members.now)) }
 {
@@ -33,7 +36,10 @@ pub(crate) fn image_target(alloc: Global, members: &[Member<'_>]) -> Result<Aske
     Ok(Asked::Request(Request::ImageTarget(ImageTarget { image, target })))
 }
 
-pub(crate) fn image_remove(alloc: Global, members: &[Member<'_>]) -> Result<Asked, Fault>
+pub(crate) fn image_remove<'a>(
+    alloc: Global,
+    members: &[Member<'a, '_>],
+) -> Result<Asked<'a>, Fault>
     ensures fault { Refuses result None }
     ensures ok { IfOk result (λ asked. asked ≡ asked_of Op.ImageRemove (object_of members.now)) }
 {
@@ -48,7 +54,7 @@ pub(crate) fn image_remove(alloc: Global, members: &[Member<'_>]) -> Result<Aske
     }
 }
 
-pub(crate) fn image_get(alloc: Global, members: &[Member<'_>]) -> Result<Asked, Fault>
+pub(crate) fn image_get<'a>(alloc: Global, members: &[Member<'a, '_>]) -> Result<Asked<'a>, Fault>
     ensures fault { Refuses result None }
     ensures ok { IfOk result (λ asked. asked ≡ asked_of Op.ImageGet (object_of members.now)) }
 {
@@ -56,7 +62,7 @@ pub(crate) fn image_get(alloc: Global, members: &[Member<'_>]) -> Result<Asked, 
     Ok(Asked::Request(Request::ImageGet(image)))
 }
 
-pub(crate) fn image_list(alloc: Global, members: &[Member<'_>]) -> Result<Asked, Fault>
+pub(crate) fn image_list<'a>(alloc: Global, members: &[Member<'a, '_>]) -> Result<Asked<'a>, Fault>
     ensures fault { Refuses result None }
     ensures ok { IfOk result (λ asked. asked ≡ asked_of Op.ImageList (object_of members.now)) }
 {
@@ -64,7 +70,7 @@ pub(crate) fn image_list(alloc: Global, members: &[Member<'_>]) -> Result<Asked,
     Ok(Asked::Request(Request::ImageList { ns }))
 }
 
-pub(crate) fn image_label(alloc: Global, members: &[Member<'_>]) -> Result<Asked, Fault>
+pub(crate) fn image_label<'a>(alloc: Global, members: &[Member<'a, '_>]) -> Result<Asked<'a>, Fault>
     ensures fault { Refuses result None }
     ensures ok { IfOk result (λ asked. asked ≡ asked_of Op.ImageLabel (object_of members.now)) }
 {

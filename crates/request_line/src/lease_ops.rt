@@ -11,7 +11,7 @@ use meta_types::{Fault, LeaseAdd, LeaseResource, Removal, Request};
 use std::alloc::Global;
 
 // A lease, and a resource.
-fn resource(alloc: Global, members: &[Member<'_>]) -> Result<LeaseResource, Fault>
+fn resource<'a>(alloc: Global, members: &[Member<'a, '_>]) -> Result<LeaseResource<'a>, Fault>
     ensures fault { Refuses result None }
     ensures ok { IfOk result (λ asked. asked ≡ resource.said (object_of members.now)) }
 {
@@ -25,7 +25,7 @@ fn resource(alloc: Global, members: &[Member<'_>]) -> Result<LeaseResource, Faul
     })
 }
 
-pub(crate) fn lease_add(alloc: Global, members: &[Member<'_>]) -> Result<Asked, Fault>
+pub(crate) fn lease_add<'a>(alloc: Global, members: &[Member<'a, '_>]) -> Result<Asked<'a>, Fault>
     ensures fault { Refuses result None }
     ensures ok { IfOk result (λ asked. asked ≡ asked_of Op.LeaseAdd (object_of members.now)) }
 {
@@ -34,7 +34,10 @@ pub(crate) fn lease_add(alloc: Global, members: &[Member<'_>]) -> Result<Asked, 
     Ok(Asked::Request(Request::LeaseAdd(LeaseAdd { lease, labels })))
 }
 
-pub(crate) fn lease_remove(alloc: Global, members: &[Member<'_>]) -> Result<Asked, Fault>
+pub(crate) fn lease_remove<'a>(
+    alloc: Global,
+    members: &[Member<'a, '_>],
+) -> Result<Asked<'a>, Fault>
     ensures fault { Refuses result None }
     ensures ok { IfOk result (λ asked. asked ≡ asked_of Op.LeaseRemove (object_of members.now)) }
 {
@@ -49,7 +52,7 @@ pub(crate) fn lease_remove(alloc: Global, members: &[Member<'_>]) -> Result<Aske
     }
 }
 
-pub(crate) fn lease_get(alloc: Global, members: &[Member<'_>]) -> Result<Asked, Fault>
+pub(crate) fn lease_get<'a>(alloc: Global, members: &[Member<'a, '_>]) -> Result<Asked<'a>, Fault>
     ensures fault { Refuses result None }
     ensures ok { IfOk result (λ asked. asked ≡ asked_of Op.LeaseGet (object_of members.now)) }
 {
@@ -57,7 +60,7 @@ pub(crate) fn lease_get(alloc: Global, members: &[Member<'_>]) -> Result<Asked, 
     Ok(Asked::Request(Request::LeaseGet(lease)))
 }
 
-pub(crate) fn lease_label(alloc: Global, members: &[Member<'_>]) -> Result<Asked, Fault>
+pub(crate) fn lease_label<'a>(alloc: Global, members: &[Member<'a, '_>]) -> Result<Asked<'a>, Fault>
     ensures fault { Refuses result None }
     ensures ok { IfOk result (λ asked. asked ≡ asked_of Op.LeaseLabel (object_of members.now)) }
 {
@@ -66,7 +69,7 @@ pub(crate) fn lease_label(alloc: Global, members: &[Member<'_>]) -> Result<Asked
     Ok(Asked::Request(Request::LeaseLabel(lease, label)))
 }
 
-pub(crate) fn lease_list(alloc: Global, members: &[Member<'_>]) -> Result<Asked, Fault>
+pub(crate) fn lease_list<'a>(alloc: Global, members: &[Member<'a, '_>]) -> Result<Asked<'a>, Fault>
     ensures fault { Refuses result None }
     ensures ok { IfOk result (λ asked. asked ≡ asked_of Op.LeaseList (object_of members.now)) }
 {
@@ -74,7 +77,7 @@ pub(crate) fn lease_list(alloc: Global, members: &[Member<'_>]) -> Result<Asked,
     Ok(Asked::Request(Request::LeaseList { ns }))
 }
 
-pub(crate) fn lease_hold(alloc: Global, members: &[Member<'_>]) -> Result<Asked, Fault>
+pub(crate) fn lease_hold<'a>(alloc: Global, members: &[Member<'a, '_>]) -> Result<Asked<'a>, Fault>
     ensures fault { Refuses result None }
     ensures ok { IfOk result (λ asked. asked ≡ asked_of Op.LeaseHold (object_of members.now)) }
 {
@@ -82,7 +85,7 @@ pub(crate) fn lease_hold(alloc: Global, members: &[Member<'_>]) -> Result<Asked,
     Ok(Asked::Request(Request::LeaseHold(asked)))
 }
 
-pub(crate) fn lease_drop(alloc: Global, members: &[Member<'_>]) -> Result<Asked, Fault>
+pub(crate) fn lease_drop<'a>(alloc: Global, members: &[Member<'a, '_>]) -> Result<Asked<'a>, Fault>
     ensures fault { Refuses result None }
     ensures ok { IfOk result (λ asked. asked ≡ asked_of Op.LeaseDrop (object_of members.now)) }
 {
@@ -90,7 +93,10 @@ pub(crate) fn lease_drop(alloc: Global, members: &[Member<'_>]) -> Result<Asked,
     Ok(Asked::Request(Request::LeaseDrop(asked)))
 }
 
-pub(crate) fn lease_resources(alloc: Global, members: &[Member<'_>]) -> Result<Asked, Fault>
+pub(crate) fn lease_resources<'a>(
+    alloc: Global,
+    members: &[Member<'a, '_>],
+) -> Result<Asked<'a>, Fault>
     ensures fault { Refuses result None }
     ensures ok { IfOk result (λ asked. asked ≡ asked_of Op.LeaseResources (object_of members.now)) }
 {

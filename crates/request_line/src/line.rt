@@ -37,7 +37,7 @@ use serde_json::{Map, Value};
 use std::alloc::Global;
 
 // What an op asks for with these members.
-fn ask_for(alloc: Global, op: Op, members: &[Member<'_>]) -> Result<Asked, Fault>
+fn ask_for<'a>(alloc: Global, op: Op, members: &[Member<'a, '_>]) -> Result<Asked<'a>, Fault>
     ensures fault { Refuses result None }
     ensures ok { IfOk result (λ asked. asked ≡ asked_of op (object_of members.now)) }
 {
@@ -90,7 +90,7 @@ fn ask_for(alloc: Global, op: Op, members: &[Member<'_>]) -> Result<Asked, Fault
 }
 
 // What members ask for of which each one is the op's.
-fn ask(alloc: Global, members: &[Member<'_>]) -> Result<Option<Asked>, Fault>
+fn ask<'a>(alloc: Global, members: &[Member<'a, '_>]) -> Result<Option<Asked<'a>>, Fault>
     ensures fault { Refuses result None }
     ensures ok { IfOk result (λ found. found ≡ asked_by_all members.now) }
 {
@@ -105,7 +105,11 @@ fn ask(alloc: Global, members: &[Member<'_>]) -> Result<Option<Asked>, Fault>
 }
 
 // What a plain line asks for: nothing also where it isn't plain.
-fn ask_plain(alloc: Global, line: &[u8], scratch: &mut Scratch) -> Result<Option<Asked>, Fault>
+fn ask_plain<'a>(
+    alloc: Global,
+    line: &'a [u8],
+    scratch: &'a mut Scratch,
+) -> Result<Option<Asked<'a>>, Fault>
     ensures fault { Refuses result None }
     ensures ok { IfOk result (λ found. IfSome found (λ asked. asked_in line.now ≡ Some asked)) }
 {
@@ -119,7 +123,10 @@ fn ask_plain(alloc: Global, line: &[u8], scratch: &mut Scratch) -> Result<Option
 }
 
 // The members of an object, in the order of their names.
-fn members_of<'a>(alloc: Global, members: &'a Map<String, Value>) -> Result<Vec<Member<'a>>, Fault>
+fn members_of<'a, 'v>(
+    alloc: Global,
+    members: &'v Map<String, Value>,
+) -> Result<Vec<Member<'a, 'v>>, Fault>
     ensures fault { Refuses result None }
     ensures object { IfOk result (λ ms. object_of ms.items ≡ members_view members.now.entries) }
     ensures listed { IfOk result (λ ms. (row : Members) → list_all (fits row) ms.items
@@ -133,7 +140,7 @@ fn members_of<'a>(alloc: Global, members: &'a Map<String, Value>) -> Result<Vec<
 }
 
 // What an object asks for.
-fn ask_object(alloc: Global, members: &Map<String, Value>) -> Result<Asked, Fault>
+fn ask_object<'a>(alloc: Global, members: &Map<String, Value>) -> Result<Asked<'a>, Fault>
     ensures fault { IfErr result (IsUnread (asked_by (members_view members.now.entries))) }
     ensures ok { IfOk result (λ asked. asked_by (members_view members.now.entries) ≡ Some asked) }
 {
@@ -146,7 +153,7 @@ fn ask_object(alloc: Global, members: &Map<String, Value>) -> Result<Asked, Faul
 }
 
 // What a value asks for.
-fn ask_by(alloc: Global, value: &Value) -> Result<Asked, Fault>
+fn ask_by<'a>(alloc: Global, value: &Value) -> Result<Asked<'a>, Fault>
     ensures fault { IfErr result (IsUnread (asked_from (view value.now))) }
     ensures ok { IfOk result (λ asked. asked_from (view value.now) ≡ Some asked) }
 {
@@ -157,7 +164,7 @@ fn ask_by(alloc: Global, value: &Value) -> Result<Asked, Fault>
 }
 
 // What any line asks for, read as a tree of values.
-fn ask_any(alloc: Global, line: &[u8]) -> Result<Asked, Fault>
+fn ask_any<'a>(alloc: Global, line: &[u8]) -> Result<Asked<'a>, Fault>
     ensures fault { IfErr result (IsUnread (asked_in line.now)) }
     ensures ok { IfOk result (λ asked. asked_in line.now ≡ Some asked) }
 {
@@ -168,8 +175,13 @@ fn ask_any(alloc: Global, line: &[u8]) -> Result<Asked, Fault>
     }
 }
 
-/// What a line asks for: `BadLine` where it is no request. The scratch is kept from line to line.
-pub fn read_line(alloc: Global, line: &[u8], scratch: &mut Scratch) -> Result<Asked, Fault>
+/// What a line asks for, in texts that a plain line lends: `BadLine` where it is no request. The
+/// scratch is kept from line to line.
+pub fn read_line<'a>(
+    alloc: Global,
+    line: &'a [u8],
+    scratch: &'a mut Scratch,
+) -> Result<Asked<'a>, Fault>
     ensures fault { IfErr result (IsUnread (asked_in line.now)) }
     ensures ok { IfOk result (λ asked. asked_in line.now ≡ Some asked) }
 {

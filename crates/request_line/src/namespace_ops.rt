@@ -10,7 +10,7 @@ use crate::op::Op;
 use meta_types::{Fault, Request};
 use std::alloc::Global;
 
-pub(crate) fn ns_add(alloc: Global, members: &[Member<'_>]) -> Result<Asked, Fault>
+pub(crate) fn ns_add<'a>(alloc: Global, members: &[Member<'a, '_>]) -> Result<Asked<'a>, Fault>
     ensures fault { Refuses result None }
     ensures ok { IfOk result (λ asked. asked ≡ asked_of Op.NsAdd (object_of members.now)) }
 {
@@ -18,7 +18,7 @@ pub(crate) fn ns_add(alloc: Global, members: &[Member<'_>]) -> Result<Asked, Fau
     Ok(Asked::Request(Request::NsAdd { ns }))
 }
 
-pub(crate) fn ns_remove(alloc: Global, members: &[Member<'_>]) -> Result<Asked, Fault>
+pub(crate) fn ns_remove<'a>(alloc: Global, members: &[Member<'a, '_>]) -> Result<Asked<'a>, Fault>
     ensures fault { Refuses result None }
     ensures ok { IfOk result (λ asked. asked ≡ asked_of Op.NsRemove (object_of members.now)) }
 {
@@ -26,7 +26,7 @@ pub(crate) fn ns_remove(alloc: Global, members: &[Member<'_>]) -> Result<Asked, 
     Ok(Asked::Request(Request::NsRemove { ns }))
 }
 
-pub(crate) fn profile(members: &[Member<'_>]) -> Asked
+pub(crate) fn profile<'a>(members: &[Member<'a, '_>]) -> Asked<'a>
     ensures { result ≡ asked_of Op.Profile (object_of members.now) }
 {
     Asked::Request(Request::Profile {

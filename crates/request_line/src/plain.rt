@@ -58,7 +58,10 @@ fn read_labels<'a>(
 }
 
 // The value of a member: nothing, where it is neither a text nor such an object of texts.
-fn read_value<'a>(alloc: Global, reader: &mut Reader<'a>) -> Result<Option<LineValue<'a>>, Fault>
+fn read_value<'a>(
+    alloc: Global,
+    reader: &mut Reader<'a>,
+) -> Result<Option<LineValue<'a, 'a>>, Fault>
     ensures fault { Refuses result None }
     ensures ok { IfOk result (λ found. IfSome found (λ one.
         converted of_json (value 126 reader.old) ≡ Some (value_of one, reader.new))) }
@@ -78,7 +81,7 @@ fn read_value<'a>(alloc: Global, reader: &mut Reader<'a>) -> Result<Option<LineV
 fn read_members<'a>(
     alloc: Global,
     reader: &mut Reader<'a>,
-) -> Result<Option<Vec<Member<'a>>>, Fault>
+) -> Result<Option<Vec<Member<'a, 'a>>>, Fault>
     ensures fault { Refuses result None }
     ensures ok { IfOk result (λ found. IfSome found (λ ms.
         converted (λ ms. of_members ms no_members)
@@ -108,7 +111,7 @@ pub(crate) fn read_plain<'a>(
     alloc: Global,
     text: &'a str,
     scratch: &'a mut Scratch,
-) -> Result<Option<Vec<Member<'a>>>, Fault>
+) -> Result<Option<Vec<Member<'a, 'a>>>, Fault>
     ensures fault { Refuses result None }
     ensures ok { IfOk result (λ found. IfSome found (λ ms.
         read text.now ≡ Some (object (object_of ms.items)))) }

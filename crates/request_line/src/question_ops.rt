@@ -10,7 +10,7 @@ use crate::op::Op;
 use meta_types::Fault;
 use std::alloc::Global;
 
-pub(crate) fn gc_explain(alloc: Global, members: &[Member<'_>]) -> Result<Asked, Fault>
+pub(crate) fn gc_explain<'a>(alloc: Global, members: &[Member<'a, '_>]) -> Result<Asked<'a>, Fault>
     ensures fault { Refuses result None }
     ensures ok { IfOk result (λ asked. asked ≡ asked_of Op.GcExplain (object_of members.now)) }
 {
@@ -26,7 +26,7 @@ pub(crate) fn gc_explain(alloc: Global, members: &[Member<'_>]) -> Result<Asked,
     })
 }
 
-pub(crate) fn gc_impact(alloc: Global, members: &[Member<'_>]) -> Result<Asked, Fault>
+pub(crate) fn gc_impact<'a>(alloc: Global, members: &[Member<'a, '_>]) -> Result<Asked<'a>, Fault>
     ensures fault { Refuses result None }
     ensures ok { IfOk result (λ asked. asked ≡ asked_of Op.GcImpact (object_of members.now)) }
 {

@@ -11,7 +11,7 @@ use meta_types::{Fault, Request, SnapAdd, SnapCommit};
 use std::alloc::Global;
 
 // A new snapshot.
-fn new_snapshot(alloc: Global, members: &[Member<'_>]) -> Result<SnapAdd, Fault>
+fn new_snapshot<'a>(alloc: Global, members: &[Member<'a, '_>]) -> Result<SnapAdd<'a>, Fault>
     ensures fault { Refuses result None }
     ensures ok { IfOk result (λ asked. asked ≡ new_snapshot.said (object_of members.now)) }
 {
@@ -27,7 +27,10 @@ fn new_snapshot(alloc: Global, members: &[Member<'_>]) -> Result<SnapAdd, Fault>
     })
 }
 
-pub(crate) fn snap_prepare(alloc: Global, members: &[Member<'_>]) -> Result<Asked, Fault>
+pub(crate) fn snap_prepare<'a>(
+    alloc: Global,
+    members: &[Member<'a, '_>],
+) -> Result<Asked<'a>, Fault>
     ensures fault { Refuses result None }
     ensures ok { IfOk result (λ asked. asked ≡ asked_of Op.SnapPrepare (object_of members.now)) }
 {
@@ -35,7 +38,7 @@ pub(crate) fn snap_prepare(alloc: Global, members: &[Member<'_>]) -> Result<Aske
     Ok(Asked::Request(Request::SnapPrepare(asked)))
 }
 
-pub(crate) fn snap_view(alloc: Global, members: &[Member<'_>]) -> Result<Asked, Fault>
+pub(crate) fn snap_view<'a>(alloc: Global, members: &[Member<'a, '_>]) -> Result<Asked<'a>, Fault>
     ensures fault { Refuses result None }
     ensures ok { IfOk result (λ asked. asked ≡ asked_of Op.SnapView (object_of members.now)) }
 {
@@ -43,7 +46,7 @@ pub(crate) fn snap_view(alloc: Global, members: &[Member<'_>]) -> Result<Asked, 
     Ok(Asked::Request(Request::SnapView(asked)))
 }
 
-pub(crate) fn snap_commit(alloc: Global, members: &[Member<'_>]) -> Result<Asked, Fault>
+pub(crate) fn snap_commit<'a>(alloc: Global, members: &[Member<'a, '_>]) -> Result<Asked<'a>, Fault>
     ensures fault { Refuses result None }
     ensures ok { IfOk result (λ asked. asked ≡ asked_of Op.SnapCommit (object_of members.now)) }
 {
@@ -59,7 +62,7 @@ pub(crate) fn snap_commit(alloc: Global, members: &[Member<'_>]) -> Result<Asked
     })))
 }
 
-pub(crate) fn snap_remove(alloc: Global, members: &[Member<'_>]) -> Result<Asked, Fault>
+pub(crate) fn snap_remove<'a>(alloc: Global, members: &[Member<'a, '_>]) -> Result<Asked<'a>, Fault>
     ensures fault { Refuses result None }
     ensures ok { IfOk result (λ asked. asked ≡ asked_of Op.SnapRemove (object_of members.now)) }
 {
@@ -67,7 +70,7 @@ pub(crate) fn snap_remove(alloc: Global, members: &[Member<'_>]) -> Result<Asked
     Ok(Asked::Request(Request::SnapRemove(snapshot)))
 }
 
-pub(crate) fn snap_get(alloc: Global, members: &[Member<'_>]) -> Result<Asked, Fault>
+pub(crate) fn snap_get<'a>(alloc: Global, members: &[Member<'a, '_>]) -> Result<Asked<'a>, Fault>
     ensures fault { Refuses result None }
     ensures ok { IfOk result (λ asked. asked ≡ asked_of Op.SnapGet (object_of members.now)) }
 {
@@ -75,7 +78,7 @@ pub(crate) fn snap_get(alloc: Global, members: &[Member<'_>]) -> Result<Asked, F
     Ok(Asked::Request(Request::SnapGet(snapshot)))
 }
 
-pub(crate) fn snap_label(alloc: Global, members: &[Member<'_>]) -> Result<Asked, Fault>
+pub(crate) fn snap_label<'a>(alloc: Global, members: &[Member<'a, '_>]) -> Result<Asked<'a>, Fault>
     ensures fault { Refuses result None }
     ensures ok { IfOk result (λ asked. asked ≡ asked_of Op.SnapLabel (object_of members.now)) }
 {
@@ -84,7 +87,7 @@ pub(crate) fn snap_label(alloc: Global, members: &[Member<'_>]) -> Result<Asked,
     Ok(Asked::Request(Request::SnapLabel(snapshot, label)))
 }
 
-pub(crate) fn snap_list(alloc: Global, members: &[Member<'_>]) -> Result<Asked, Fault>
+pub(crate) fn snap_list<'a>(alloc: Global, members: &[Member<'a, '_>]) -> Result<Asked<'a>, Fault>
     ensures fault { Refuses result None }
     ensures ok { IfOk result (λ asked. asked ≡ asked_of Op.SnapList (object_of members.now)) }
 {

@@ -1,12 +1,10 @@
 //! Answers one line of a script.
-ghost use Rattle.std.specs.Prelude.{◌≡◌, ◌≤◌, ◌<◌, length, true, false, IfOk, IfErr, OnErr, Option, Some, None, string_bytes};
+ghost use Rattle.std.specs.Prelude.{◌≡◌, ◌≤◌, ◌<◌, length, true, false, IfOk, IfErr, OnErr, IfSome, IfNone, Option, Some, None, string_bytes};
 ghost use Rattle.meta_types.specs.Faults.{Refuses};
 ghost use Rattle.meta_types.specs.Limits.{is_worker_count};
 ghost use Rattle.meta_types.specs.Steps.{answered, refused};
 ghost use Rattle.meta_types.specs.declared.fault.Fault.TheVariants.{OutOfMemory as out_of_memory_fault, TooLong as too_long_fault};
 ghost use Rattle.meta_types.specs.Questions.{explains, foresees, of_event, of_question};
-ghost use Rattle.request_line.specs.Lines.{asked_in};
-ghost use Rattle.request_line.specs.Refusals.{IsUnread};
 ghost use Rattle.reply_line.specs.Replies.{answer_text};
 ghost use Rattle.reply_line.specs.Explained.{told_of};
 ghost use Rattle.scripts.specs.DryRuns.{is_dry_run};
@@ -23,37 +21,19 @@ use crate::serving::do_asked;
 use gc_report::Impact;
 use meta_types::{Explanation, Fault, Reply, Workers};
 use reply_line::{explanation_text, impact_text, refusal_text, reply_text};
-use request_line::{Asked, read_line};
+use request_line::read_line;
 use std::alloc::Global;
 use std::borrow::CowStr;
 use std::mem::drop;
 use std::sync::Wait;
 use std::sync::ledger::Ledger;
 use std::thread::Threads;
-use store_front::{Keeps, MemLocked, Session};
-
-fn wants_memory(read: &Result<Asked, Fault>) -> bool {
-    matches!(read, Err(Fault::OutOfMemory))
-}
-
-// What a line asks for. Where memory refuses it, it gets the room that is kept for a line.
-fn read_asked(alloc: Global, line: &[u8], memory: &mut LineMemory) -> Result<Asked, Fault>
-    ensures ok { IfOk result (λ asked. asked_in line.now ≡ Some asked) }
-    ensures fault { IfErr result (λ fault. IsUnread (asked_in line.now) fault) }
-{
-    let read = read_line(alloc, line, &mut memory.scratch);
-    if !wants_memory(&read) {
-        return read;
-    }
-    drop(read);
-    memory.room.give_up(alloc);
-    read_line(alloc, line, &mut memory.scratch)
-}
+use store_front::{MemLocked, Session, WithoutHistory};
 
 // What a line asks for, done.
-fn do_line<L: Ledger, K: Keeps, R: Threads + Wait + Sync>(
+fn do_once<L: Ledger, R: Threads + Wait + Sync>(
     crew: &Crew<'_, R>,
-    locked: &mut MemLocked<L, K>,
+    locked: &mut MemLocked<L, WithoutHistory>,
     session: &mut Session<L>,
     line: &[u8],
     memory: &mut LineMemory,
@@ -66,14 +46,72 @@ fn do_line<L: Ledger, K: Keeps, R: Threads + Wait + Sync>(
         (of_event (refused fault)) locked.new.store.state) }
     ensures opened { session.new.number < locked.new.opened }
 {
-    let asked = read_asked(crew.alloc, line, memory)?;
-    do_asked(crew, locked, session, asked, memory)
+    let asked = read_line(crew.alloc, line, &mut memory.scratch)?;
+    let done = do_asked(crew, locked, session, &asked, &mut memory.reserves);
+    drop(asked);
+    done
+}
+
+// What a line asks for, done: nothing where memory refuses to read it.
+fn try_line<L: Ledger, R: Threads + Wait + Sync>(
+    crew: &Crew<'_, R>,
+    locked: &mut MemLocked<L, WithoutHistory>,
+    session: &mut Session<L>,
+    line: &[u8],
+    memory: &mut LineMemory,
+) -> Option<Result<LineAnswer, Fault>>
+    requires opened { session.old.number < locked.old.opened }
+    requires length { length line.now ≤ 65536 }
+    ensures ok { IfSome result (λ done. IfOk done (λ answer. IsLineAnswer locked.old.store.state
+        line.now (line_answer_of answer) locked.new.store.state)) }
+    ensures err { IfSome result (λ done. IfErr done (λ fault. IsLineAnswer locked.old.store.state
+        line.now (of_event (refused fault)) locked.new.store.state)) }
+    ensures none { IfNone result (locked.new.store.state ≡ locked.old.store.state) }
+    ensures opened { session.new.number < locked.new.opened }
+{
+    match read_line(crew.alloc, line, &mut memory.scratch) {
+        Ok(asked) => {
+            let done = do_asked(crew, locked, session, &asked, &mut memory.reserves);
+            drop(asked);
+            Some(done)
+        }
+        Err(fault) => {
+            if fault == Fault::OutOfMemory {
+                return None;
+            }
+            Some(Err(fault))
+        }
+    }
+}
+
+// What a line asks for, done. Where memory refuses to read it, it gets the room that is kept for a
+// line.
+fn do_line<L: Ledger, R: Threads + Wait + Sync>(
+    crew: &Crew<'_, R>,
+    locked: &mut MemLocked<L, WithoutHistory>,
+    session: &mut Session<L>,
+    line: &[u8],
+    memory: &mut LineMemory,
+) -> Result<LineAnswer, Fault>
+    requires opened { session.old.number < locked.old.opened }
+    requires length { length line.now ≤ 65536 }
+    ensures ok { IfOk result (λ answer. IsLineAnswer locked.old.store.state line.now
+        (line_answer_of answer) locked.new.store.state) }
+    ensures err { IfErr result (λ fault. IsLineAnswer locked.old.store.state line.now
+        (of_event (refused fault)) locked.new.store.state) }
+    ensures opened { session.new.number < locked.new.opened }
+{
+    if let Some(done) = try_line(crew, locked, session, line, memory) {
+        return done;
+    }
+    memory.reserves.room.give_up(crew.alloc);
+    do_once(crew, locked, session, line, memory)
 }
 
 // The answer to a line that isn't empty.
-fn line_outcome<L: Ledger, K: Keeps, R: Threads + Wait + Sync>(
+fn line_outcome<L: Ledger, R: Threads + Wait + Sync>(
     crew: &Crew<'_, R>,
-    locked: &mut MemLocked<L, K>,
+    locked: &mut MemLocked<L, WithoutHistory>,
     session: &mut Session<L>,
     line: &[u8],
     memory: &mut LineMemory,
@@ -157,8 +195,8 @@ fn said(alloc: Global, answer: LineAnswer) -> Said
 
 /// Answers one line, without its line feed: nothing for an empty one. What is read-only is refused
 /// where memory for its text is.
-pub fn answer_line<L: Ledger, K: Keeps, R: Threads + Wait + Sync>(
-    locked: &mut MemLocked<L, K>,
+pub fn answer_line<L: Ledger, R: Threads + Wait + Sync>(
+    locked: &mut MemLocked<L, WithoutHistory>,
     rt: &R,
     alloc: Global,
     session: &mut Session<L>,
@@ -189,7 +227,7 @@ pub fn answer_line<L: Ledger, K: Keeps, R: Threads + Wait + Sync>(
         workers: Workers { count: workers },
     };
     let answer = line_outcome(&crew, locked, session, line, memory);
-    take_in(&mut memory.reserve, &stored_in(locked), &answer);
+    take_in(&mut memory.reserves.reserve, &stored_in(locked), &answer);
     Ok(Some(said(alloc, answer)))
 }
 

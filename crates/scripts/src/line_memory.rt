@@ -11,11 +11,18 @@ use std::alloc::Global;
 // The bytes of the longest line that is read.
 const LONGEST: usize = 65536;
 
-/// What is kept for a collection and for the next line, and room to read any line in.
+/// What is kept for a collection, and for the next line.
 #[derive(Drop)]
-pub struct LineMemory {
+pub struct Reserves {
     pub(crate) reserve: Reserve,
     pub(crate) room: LineRoom,
+}
+
+/// What is kept for a collection and for the next line, and room to read any line in, which lends a
+/// request its texts.
+#[derive(Drop)]
+pub struct LineMemory {
+    pub(crate) reserves: Reserves,
     pub(crate) scratch: Scratch,
 }
 
@@ -30,8 +37,7 @@ impl LineMemory {
         scratch.reserve(LONGEST)?;
         let room = LineRoom::new(alloc);
         Ok(LineMemory {
-            reserve,
-            room,
+            reserves: Reserves { reserve, room },
             scratch,
         })
     }
@@ -39,8 +45,8 @@ impl LineMemory {
     /// From now on each addition is refused with 7, or none for this. So a service that has no room
     /// left to keep additions still removes and collects.
     pub fn refuse_additions(&mut self, are_refused: bool)
-        ensures { self.new.reserve.refuses_additions ≡ are_refused }
+        ensures { self.new.reserves.reserve.refuses_additions ≡ are_refused }
     {
-        self.reserve.refuse_additions(are_refused);
+        self.reserves.reserve.refuse_additions(are_refused);
     }
 }

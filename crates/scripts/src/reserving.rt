@@ -1,7 +1,7 @@
 //! When what is kept for collections and questions is given up, and what lines do to it.
 
 use crate::line_answer::LineAnswer;
-use crate::line_memory::LineMemory;
+use crate::line_memory::Reserves;
 use meta_types::Workers;
 use request_line::Asked;
 use reserve::{Reserve, Stored, lists};
@@ -22,23 +22,23 @@ pub(crate) fn stored_in<L: Ledger, K: Keeps>(locked: &MemLocked<L, K>) -> Stored
 
 /// Gives up what is kept where the line collects, asks or lists. Answers how many workers collect.
 pub(crate) fn make_way(
-    memory: &mut LineMemory,
+    kept: &mut Reserves,
     alloc: Global,
     stored: &Stored<'_>,
-    asked: &Asked,
+    asked: &Asked<'_>,
     workers: Workers,
 ) -> Workers {
     match asked {
         Asked::Request(request) => {
             if lists(request) {
-                memory.reserve.give_up();
+                kept.reserve.give_up();
             }
             workers
         }
         _ => {
-            memory.room.give_up(alloc);
-            let workers = memory.reserve.workers(alloc, stored, workers);
-            memory.reserve.give_up();
+            kept.room.give_up(alloc);
+            let workers = kept.reserve.workers(alloc, stored, workers);
+            kept.reserve.give_up();
             workers
         }
     }

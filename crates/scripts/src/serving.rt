@@ -11,7 +11,7 @@ ghost use Rattle.scripts.specs.Served.{IsServed, IsRefused};
 
 use crate::crew::Crew;
 use crate::line_answer::LineAnswer;
-use crate::line_memory::LineMemory;
+use crate::line_memory::Reserves;
 use crate::line_room::make_room;
 use crate::reserving::{make_way, stored_in};
 use backend_sweep::OpenSweepGate;
@@ -20,37 +20,29 @@ use gc_report::{Impact, Report};
 use meta_types::{Explanation, Fault, Object, RawText, Removal, Reply, Request, ShortName};
 use request_line::Asked;
 use std::alloc::Global;
-use std::mem::drop;
 use std::sync::Wait;
 use std::sync::ledger::Ledger;
 use std::thread::Threads;
 use steal_mark::OpenGate;
-use store_front::{Keeps, MemLocked, Session};
+use store_front::{Keeps, MemLocked, Session, WithoutHistory};
 
 // Answers a request, where memory is left for the next line.
-fn do_request<L: Ledger, K: Keeps>(
-    locked: &mut MemLocked<L, K>,
+fn do_request<L: Ledger>(
+    locked: &mut MemLocked<L, WithoutHistory>,
     alloc: Global,
     session: &mut Session<L>,
-    request: Request,
-    memory: &mut LineMemory,
+    request: &Request<'_>,
+    kept: &mut Reserves,
 ) -> Result<Reply, Fault>
     requires { session.old.number < locked.old.opened }
-    ensures ok { IfOk result (λ reply. IsServed locked.old.store.state (A.Request request)
+    ensures ok { IfOk result (λ reply. IsServed locked.old.store.state (A.Request request.now)
         (of_event (answered reply)) locked.new.store.state) }
-    ensures err { IfErr result (λ fault. IsRefused locked.old.store.state (A.Request request)
+    ensures err { IfErr result (λ fault. IsRefused locked.old.store.state (A.Request request.now)
         fault locked.new.store.state) }
     ensures opened { session.new.number < locked.new.opened }
 {
     let stored = stored_in(locked);
-    let Ok(()) = make_room(
-        alloc,
-        &mut memory.room,
-        &mut memory.reserve,
-        &stored,
-        &request,
-    ) else {
-        drop(request);
+    let Ok(()) = make_room(alloc, &mut kept.room, &mut kept.reserve, &stored, request) else {
         return Err(Fault::OutOfMemory);
     };
     locked.never_failed();
@@ -112,18 +104,18 @@ fn collect<L: Ledger, K: Keeps, R: Threads + Wait + Sync>(
 }
 
 // Removes an image or a lease, and collects at a moment, where the text is one.
-fn remove<L: Ledger, K: Keeps, R: Threads + Wait + Sync>(
+fn remove<L: Ledger, R: Threads + Wait + Sync>(
     crew: &Crew<'_, R>,
-    locked: &mut MemLocked<L, K>,
+    locked: &mut MemLocked<L, WithoutHistory>,
     session: &mut Session<L>,
-    removal: Removal,
+    removal: &Removal<'_>,
     at: &RawText,
 ) -> Result<Box<Report>, Fault>
     requires opened { session.old.number < locked.old.opened }
     ensures ok { IfOk result (λ report. IsServed locked.old.store.state
-        (A.Remove removal at.now) (of_event (reported (box_value report))) locked.new.store.state) }
+        (A.Remove removal.now at.now) (of_event (reported (box_value report))) locked.new.store.state) }
     ensures err { IfErr result (λ fault. IsRefused locked.old.store.state
-        (A.Remove removal at.now) fault locked.new.store.state) }
+        (A.Remove removal.now at.now) fault locked.new.store.state) }
     ensures opened { session.new.number < locked.new.opened }
 {
     let Some(at) = read_instant(at.text()) else {
@@ -195,22 +187,22 @@ fn foresee<L: Ledger, K: Keeps, R: Threads + Wait + Sync>(
 
 /// Does what a line asks for. What is kept for collections is given up where it is one, or a
 /// question.
-pub fn do_asked<L: Ledger, K: Keeps, R: Threads + Wait + Sync>(
+pub fn do_asked<L: Ledger, R: Threads + Wait + Sync>(
     crew: &Crew<'_, R>,
-    locked: &mut MemLocked<L, K>,
+    locked: &mut MemLocked<L, WithoutHistory>,
     session: &mut Session<L>,
-    asked: Asked,
-    memory: &mut LineMemory,
+    asked: &Asked<'_>,
+    kept: &mut Reserves,
 ) -> Result<LineAnswer, Fault>
     requires opened { session.old.number < locked.old.opened }
-    ensures ok { IfOk result (λ answer. IsServed locked.old.store.state asked
+    ensures ok { IfOk result (λ answer. IsServed locked.old.store.state asked.now
         (line_answer_of answer) locked.new.store.state) }
-    ensures err { IfErr result (λ fault. IsRefused locked.old.store.state asked fault
+    ensures err { IfErr result (λ fault. IsRefused locked.old.store.state asked.now fault
         locked.new.store.state) }
     ensures opened { session.new.number < locked.new.opened }
 {
     let alloc = crew.alloc;
-    let workers = make_way(memory, alloc, &stored_in(locked), &asked, crew.workers);
+    let workers = make_way(kept, alloc, &stored_in(locked), asked, crew.workers);
     let crew = Crew {
         rt: crew.rt,
         alloc,
@@ -218,15 +210,15 @@ pub fn do_asked<L: Ledger, K: Keeps, R: Threads + Wait + Sync>(
     };
     match asked {
         Asked::Request(asked) => {
-            let reply = do_request(locked, alloc, session, asked, memory)?;
+            let reply = do_request(locked, alloc, session, asked, kept)?;
             Ok(LineAnswer::Replied(reply))
         }
         Asked::Collect { at, dry } => {
-            let report = collect(&crew, locked, session, &at, dry)?;
+            let report = collect(&crew, locked, session, at, *dry)?;
             Ok(LineAnswer::Reported(report))
         }
         Asked::Remove { removal, at } => {
-            let report = remove(&crew, locked, session, removal, &at)?;
+            let report = remove(&crew, locked, session, removal, at)?;
             Ok(LineAnswer::Reported(report))
         }
         Asked::Explain {
@@ -235,7 +227,7 @@ pub fn do_asked<L: Ledger, K: Keeps, R: Threads + Wait + Sync>(
             resource,
             at,
         } => {
-            let told = explain(&crew, locked, &ns, &kind, &resource, &at)?;
+            let told = explain(&crew, locked, ns, kind, resource, at)?;
             Ok(LineAnswer::Explained(told))
         }
         Asked::Impact {
@@ -244,7 +236,7 @@ pub fn do_asked<L: Ledger, K: Keeps, R: Threads + Wait + Sync>(
             resource,
             at,
         } => {
-            let found = foresee(&crew, locked, &ns, &kind, &resource, &at)?;
+            let found = foresee(&crew, locked, ns, kind, resource, at)?;
             Ok(LineAnswer::Foreseen(found))
         }
     }

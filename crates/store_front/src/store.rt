@@ -93,28 +93,6 @@ impl<L: Ledger, S: SnapBackend, B: BlobBackend, I: IngestBackend, K: Keeps> Stor
         self.inner.lock(rt).session(alloc)
     }
 
-    /// Answers a request, of a sound store: the one that was there when the lock was taken. The
-    /// session's list has it with its answer, where it is an entry.
-    pub fn call(
-        &self,
-        rt: &impl Wait,
-        alloc: Global,
-        session: &mut Session<L>,
-        request: Request,
-    ) -> Result<Reply, Fault>
-        ensures step { (old : Stored) × (new : Stored) × IsSound old
-            × Takes old (requested request) (kept_reply result) new
-            × IfErr result (λ f. Fails f (least_fault (outcome old request))) }
-        ensures list { session.new.list ≡ list_after session.old.list (requested request)
-            (kept_if K.KEPT (kept_reply result)) }
-        ensures number { session.new.number ≡ session.old.number }
-    {
-        let mut guard = self.inner.lock(rt);
-        let locked = &mut *guard;
-        locked.admit(session);
-        locked.apply(alloc, session, request)
-    }
-
     /// Collects, or with `dry` only reports, as `Locked::collect`.
     pub fn collect<R: Threads + Wait + Sync, G: Gate, H: SweepGate>(
         &self,
@@ -139,6 +117,30 @@ impl<L: Ledger, S: SnapBackend, B: BlobBackend, I: IngestBackend, K: Keeps> Stor
         locked.admit(session);
         locked.collect(rt, alloc, session, at, dry, workers, gate, sweep_gate)
     }
+}
+
+impl<L: Ledger, S: SnapBackend, B: BlobBackend, I: IngestBackend> Store<L, S, B, I> {
+    /// Answers a request, of a sound store: the one that was there when the lock was taken. The
+    /// session's list has it with its answer, where it is an entry.
+    pub fn call(
+        &self,
+        rt: &impl Wait,
+        alloc: Global,
+        session: &mut Session<L>,
+        request: Request<'static>,
+    ) -> Result<Reply, Fault>
+        ensures step { (old : Stored) × (new : Stored) × IsSound old
+            × Takes old (requested request.entry) (kept_reply result) new
+            × IfErr result (λ f. Fails f (least_fault (outcome old request.entry))) }
+        ensures list { session.new.list ≡ list_after session.old.list (requested request.entry)
+            (kept_reply result) }
+        ensures number { session.new.number ≡ session.old.number }
+    {
+        let mut guard = self.inner.lock(rt);
+        let locked = &mut *guard;
+        locked.admit(session);
+        locked.apply(alloc, session, request)
+    }
 
     /// Removes an image or a lease and collects, as `Locked::remove_collect`.
     pub fn remove_collect<R: Threads + Wait + Sync, G: Gate, H: SweepGate>(
@@ -146,17 +148,17 @@ impl<L: Ledger, S: SnapBackend, B: BlobBackend, I: IngestBackend, K: Keeps> Stor
         rt: &R,
         alloc: Global,
         session: &mut Session<L>,
-        removal: Removal,
+        removal: Removal<'static>,
         at: Instant,
         workers: usize,
         gate: &G,
         sweep_gate: &H,
     ) -> Result<Report, Fault>
         ensures step { (old : Stored) × (new : Stored) × IsSound old
-            × Takes old (remove_collect removal at.0 workers) (kept_report result) new
-            × IfErr result (λ f. CollectFails f (remove_collect_fault old removal workers)) }
+            × Takes old (remove_collect removal.entry at.0 workers) (kept_report result) new
+            × IfErr result (λ f. CollectFails f (remove_collect_fault old removal.entry workers)) }
         ensures list { session.new.list ≡ list_after session.old.list
-            (remove_collect removal at.0 workers) (kept_if K.KEPT (kept_report result)) }
+            (remove_collect removal.entry at.0 workers) (kept_report result) }
         ensures number { session.new.number ≡ session.old.number }
     {
         let mut guard = self.inner.lock(rt);
@@ -164,9 +166,7 @@ impl<L: Ledger, S: SnapBackend, B: BlobBackend, I: IngestBackend, K: Keeps> Stor
         locked.admit(session);
         locked.remove_collect(rt, alloc, session, removal, at, workers, gate, sweep_gate)
     }
-}
 
-impl<L: Ledger, S: SnapBackend, B: BlobBackend, I: IngestBackend> Store<L, S, B, I> {
     /// A history so far, in which the session's part is its list.
     pub fn cut(&self, rt: &impl Wait, alloc: Global, session: &Session<L>) -> Result<History, Fault>
         ensures ok { IfOk result (λ h. IsPart h.log session.now × IsHistory h) }

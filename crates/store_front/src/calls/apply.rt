@@ -1,14 +1,13 @@
-//! Requests to the locked store, each with its entry.
+//! Requests to a locked store that keeps its history, each with its entry.
 ghost use Rattle.std.specs.Prelude.{◌≡◌, ◌+◌, ◌<◌, IfErr};
 ghost use Rattle.meta_types.specs.Steps.{requested};
 ghost use Rattle.meta_types.specs.Ops.{least_fault};
 ghost use Rattle.meta_types.specs.Requests.{outcome};
 ghost use Rattle.request_core.specs.Follows.{Fails};
-ghost use Rattle.store_front.specs.KeptAnswers.{kept_if, kept_reply, Takes, log_after, list_after, reply_failures};
+ghost use Rattle.store_front.specs.KeptAnswers.{kept_reply, Takes, log_after, list_after, reply_failures};
 
 use crate::event::pairs::Events;
 use crate::event::room::{keep_reply, make_room};
-use crate::keeps::Keeps;
 use crate::locked::Locked;
 use crate::session::Session;
 use back_model::{BlobBackend, IngestBackend, SnapBackend};
@@ -16,24 +15,24 @@ use meta_types::{Fault, Reply, Request};
 use std::alloc::Global;
 use std::sync::ledger::Ledger;
 
-impl<L: Ledger, S: SnapBackend, B: BlobBackend, I: IngestBackend, K: Keeps> Locked<L, S, B, I, K> {
+impl<L: Ledger, S: SnapBackend, B: BlobBackend, I: IngestBackend> Locked<L, S, B, I> {
     /// Answers a request, which an entry keeps as it is. There is one, in the log and in the
-    /// session's list, unless memory ran out, the device failed, or the store keeps none.
+    /// session's list, unless memory ran out or the device failed.
     pub fn apply(
         &mut self,
         alloc: Global,
         session: &mut Session<L>,
-        request: Request,
+        request: Request<'static>,
     ) -> Result<Reply, Fault>
         requires { session.old.number < self.old.opened }
-        ensures step { Takes self.old.store.state (requested request) (kept_reply result)
+        ensures step { Takes self.old.store.state (requested request.entry) (kept_reply result)
             self.new.store.state }
         ensures fault { IfErr result (λ f. Fails f
-            (least_fault (outcome self.old.store.state request))) }
+            (least_fault (outcome self.old.store.state request.entry))) }
         ensures log { self.new.log ≡ log_after self.old.log session.old.number
-            (requested request) (kept_if K.KEPT (kept_reply result)) }
-        ensures list { session.new.list ≡ list_after session.old.list (requested request)
-            (kept_if K.KEPT (kept_reply result)) }
+            (requested request.entry) (kept_reply result) }
+        ensures list { session.new.list ≡ list_after session.old.list (requested request.entry)
+            (kept_reply result) }
         ensures number { session.new.number ≡ session.old.number }
         ensures base { self.new.base ≡ self.old.base }
         ensures opened { self.new.opened ≡ self.old.opened }
@@ -46,11 +45,6 @@ impl<L: Ledger, S: SnapBackend, B: BlobBackend, I: IngestBackend, K: Keeps> Lock
             book,
             ..
         } = self;
-        if !K::KEPT {
-            let reply = state.apply(alloc, &request);
-            drop(request);
-            return reply;
-        }
         let Session {
             number,
             list,

@@ -146,7 +146,9 @@ impl<L: Ledger, S: SnapBackend, B: BlobBackend, I: IngestBackend, K: Keeps> Lock
         let reports = run_collect(&asked, state, at, dry);
         keep_report(log, list, book, share, *number, events, rooms, reports)
     }
+}
 
+impl<L: Ledger, S: SnapBackend, B: BlobBackend, I: IngestBackend> Locked<L, S, B, I> {
     /// Removes an image or a lease and collects, as one event, with the entry and the refusals of
     /// a collection. Graph and plan are made of records without the row.
     pub fn remove_collect<R: Threads + Wait + Sync, G: Gate, H: SweepGate>(
@@ -154,21 +156,21 @@ impl<L: Ledger, S: SnapBackend, B: BlobBackend, I: IngestBackend, K: Keeps> Lock
         rt: &R,
         alloc: Global,
         session: &mut Session<L>,
-        removal: Removal,
+        removal: Removal<'static>,
         at: Instant,
         workers: usize,
         gate: &G,
         sweep_gate: &H,
     ) -> Result<Report, Fault>
         requires { session.old.number < self.old.opened }
-        ensures step { Takes self.old.store.state (remove_collect removal at.0 workers)
+        ensures step { Takes self.old.store.state (remove_collect removal.entry at.0 workers)
             (kept_report result) self.new.store.state }
         ensures fault { IfErr result (λ f. CollectFails f
-            (remove_collect_fault self.old.store.state removal workers)) }
+            (remove_collect_fault self.old.store.state removal.entry workers)) }
         ensures log { self.new.log ≡ log_after self.old.log session.old.number
-            (remove_collect removal at.0 workers) (kept_if K.KEPT (kept_report result)) }
+            (remove_collect removal.entry at.0 workers) (kept_report result) }
         ensures list { session.new.list ≡ list_after session.old.list
-            (remove_collect removal at.0 workers) (kept_if K.KEPT (kept_report result)) }
+            (remove_collect removal.entry at.0 workers) (kept_report result) }
         ensures number { session.new.number ≡ session.old.number }
         ensures base { self.new.base ≡ self.old.base }
         ensures opened { self.new.opened ≡ self.old.opened }
@@ -188,10 +190,6 @@ impl<L: Ledger, S: SnapBackend, B: BlobBackend, I: IngestBackend, K: Keeps> Lock
             gate,
             sweep_gate,
         };
-        if !K::KEPT {
-            let reports = run_removal(&asked, state, &removal, at);
-            return report_alone(reports);
-        }
         let Session {
             number,
             list,

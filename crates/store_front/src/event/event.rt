@@ -7,9 +7,9 @@ use meta_types::{Fault, Instant, Removal, Reply, Request, Shared};
 /// workers), or a removal with a collection.
 #[derive(Drop)]
 pub enum Event {
-    Requested(Shared<Request>),
+    Requested(Shared<Request<'static>>),
     Collect(Instant, bool, usize),
-    RemoveCollect(Shared<Removal>, Instant, usize),
+    RemoveCollect(Shared<Removal<'static>>, Instant, usize),
 }
 
 /// What a store answers. `Done` stands apart, since it takes no memory.

@@ -33,10 +33,10 @@ impl Events {
     // The request, beside the event that it is.
     pub(crate) fn requested(
         alloc: Global,
-        request: Request,
-    ) -> Result<(Shared<Request>, Events), Fault>
+        request: Request<'static>,
+    ) -> Result<(Shared<Request<'static>>, Events), Fault>
         ensures fault { Refuses result None }
-        ensures ok { IfOk result (λ both. (both.0 ≡ request) × (both.1 ≡ requested request)) }
+        ensures ok { IfOk result (λ both. (both.0 ≡ request.entry) × (both.1 ≡ requested request.entry)) }
     {
         let asked = Shared::new(alloc, request)?;
         let log = Event::Requested(asked.share()?);
@@ -56,13 +56,13 @@ impl Events {
     // The removal, beside the event that it is with its collection.
     pub(crate) fn remove_collect(
         alloc: Global,
-        removal: Removal,
+        removal: Removal<'static>,
         at: Instant,
         workers: usize,
-    ) -> Result<(Shared<Removal>, Events), Fault>
+    ) -> Result<(Shared<Removal<'static>>, Events), Fault>
         ensures fault { Refuses result None }
-        ensures ok { IfOk result (λ both. (both.0 ≡ removal)
-            × (both.1 ≡ remove_collect removal at.0 workers)) }
+        ensures ok { IfOk result (λ both. (both.0 ≡ removal.entry)
+            × (both.1 ≡ remove_collect removal.entry at.0 workers)) }
     {
         let asked = Shared::new(alloc, removal)?;
         let log = Event::RemoveCollect(asked.share()?, at, workers);

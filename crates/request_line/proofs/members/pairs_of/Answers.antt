@@ -15,5 +15,5 @@ loop-name-preserved c =
     let named : string_bytes c.in_ok-key.key ≡ string_bytes e.0 = c.in_ok-key.ensures.cases in (
       done ++ e ∷ [],
       all ∙ sym (append_assoc done (e ∷ []) left),
-      pairs_turn l.entries.items _ done e c.in_ok-key.key c.in_ok-text.text l.invariant.2 named c.in_ok-text.ensures.ok c.in_ok-push.ensures.items,
+      pairs_turn l.entries.items _ done e c.new.result c.in_ok-text.text l.invariant.2 (c.new.ensures ∙ named) c.in_ok-text.ensures.ok c.in_ok-push.ensures.items,
     )

@@ -1,11 +1,10 @@
 use Rattle.std.proofs.Common.{◌≡◌, List, ◌++◌}
 use Rattle.serde_json.specs.View.{members_view}
 use Rattle.serde_json.proofs.Views.{Entry}
-use Rattle.meta_types.specs.Text.{texts_of}
 use Rattle.request_line.specs.Members.{pairs_from}
 use Rattle.request_line.proofs.members.pairs_of.Given as goal
 
 abbrev pub invariant-loop-name : goal.invariant-loop-name
 invariant-loop-name l =
     (done : List Entry) × (l.members.entries ≡ done ++ l.name-iterator)
-    × (texts_of l.entries.items ≡ pairs_from (members_view done))
+    × (l.entries.items ≡ pairs_from (members_view done))

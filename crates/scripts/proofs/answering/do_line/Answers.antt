@@ -1,18 +1,21 @@
+use Rattle.std.proofs.Common.{subst}
+use Rattle.std.specs.Prelude.{IfOk, IfErr}
+use Rattle.meta_types.specs.Rows.{State}
+use Rattle.meta_types.specs.Steps.{refused}
+use Rattle.meta_types.specs.Questions.{of_event}
 use Rattle.scripts.specs.LineAnswers.{line_answer_of}
-use Rattle.scripts.proofs.LineAnswers.{step-unread, served_call, refused_call, passed_on}
+use Rattle.scripts.specs.LineSteps.{IsLineAnswer}
 use Rattle.scripts.proofs.answering.do_line.Goals as goal
 
--- the line can't be read
-pub returns-in_err-asked-clause-err : goal.returns-in_err-asked-clause-err
-returns-in_err-asked-clause-err g c = passed_on c.from_residual.result _ _ c.from_residual.ensures.1 (step-unread c.args.locked.now.store.state c.args.line.now c.requires.length _ c.in_err-asked.ensures.fault)
-
--- what it asks for is done
+-- the second reading begins with the store as it was
 pub returns-clause-ok : goal.returns-clause-ok
 returns-clause-ok g c =
-    served_call c.args.locked.now.store.state c.args.line.now c.requires.length line_answer_of
-    c.do_asked.result _ c.do_asked.new.locked.store.state c.in_ok-asked.ensures.ok
-    c.do_asked.ensures.ok
+    subst (λ (s : State). IfOk c.do_once.result (λ answer. IsLineAnswer s c.args.line.now
+    (line_answer_of answer) c.do_once.new.locked.store.state)) c.in_default.ensures.none
+    c.do_once.ensures.ok
 
--- what it asks for is refused
 pub returns-clause-err : goal.returns-clause-err
-returns-clause-err g c = refused_call c.args.locked.now.store.state c.args.line.now c.requires.length c.do_asked.result _ c.do_asked.new.locked.store.state c.in_ok-asked.ensures.ok c.do_asked.ensures.err
+returns-clause-err g c =
+    subst (λ (s : State). IfErr c.do_once.result (λ fault. IsLineAnswer s c.args.line.now
+    (of_event (refused fault)) c.do_once.new.locked.store.state)) c.in_default.ensures.none
+    c.do_once.ensures.err

@@ -13,7 +13,7 @@ pub returns-in_err-report-in-Remove-clause-err : goal.returns-in_err-report-in-R
 returns-in_err-report-in-Remove-clause-err g c =
     let old = c.args.locked.now.store.state in
     let new = c.remove.new.locked.store.state in
-    passed_on c.from_residual-in_err-report-in-Remove.result _ (λ fault. IsRefused old c.args.asked fault new) c.from_residual-in_err-report-in-Remove.ensures.1
+    passed_on c.from_residual-in_err-report-in-Remove.result _ (λ fault. IsRefused old c.args.asked.now fault new) c.from_residual-in_err-report-in-Remove.ensures.1
     (subst (λ (asked : Asked). IsRefused old asked c.in_err-report-in-Remove.field-0.0 new) (sym c.in-Remove.is) c.in_err-report-in-Remove.ensures.err)
 
 -- the removal is done

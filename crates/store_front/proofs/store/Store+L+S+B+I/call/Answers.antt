@@ -1,4 +1,4 @@
-use Rattle.store_front.proofs.store.Store.call.Goals as goal
+use Rattle.store_front.proofs.store.Store+L+S+B+I.call.Goals as goal
 
 -- the store that the lock guards is sound, and the call is its step
 pub returns-clause-step : goal.returns-clause-step

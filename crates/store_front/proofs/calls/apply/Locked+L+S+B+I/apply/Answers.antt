@@ -9,8 +9,8 @@ use Rattle.request_core.specs.Follows.{Fails}
 use Rattle.store_front.specs.Front.{Front}
 use Rattle.store_front.specs.KeptAnswers.{kept_reply, log_after, Takes, reply_failures}
 use Rattle.store_front.specs.Parts.{AreOpened}
-use Rattle.store_front.proofs.Growth.{takes, fails, counts, step_of, fails_of, failures_of, legal_after, opened_after, not_kept}
-use Rattle.store_front.proofs.locked.Locked.apply.Goals as goal
+use Rattle.store_front.proofs.Growth.{step_of, fails_of, failures_of, legal_after, opened_after}
+use Rattle.store_front.proofs.calls.apply.Locked+L+S+B+I.apply.Goals as goal
 
 -- the request is its step
 pub returns-clause-step : goal.returns-clause-step
@@ -64,40 +64,6 @@ invariant_of-self-2 g c =
       opened = subst (AreOpened old.opened) (sym log)
           (opened_after old.opened number old.log.items event kept c.self.invariant.opened here);
       total = search rules;
-      few = c.self.invariant.few;
-      parts = c.self.invariant.parts;
-      none = c.self.invariant.none;
-    }
-
--- ---- where nothing is kept
-
-pub returns-then-not-KEPT-clause-step : goal.returns-then-not-KEPT-clause-step
-returns-then-not-KEPT-clause-step g c =
-    subst (λ (f : Front). Takes f.store.state (requested c.args.request)
-    (kept_reply c.apply-reply.result) c.apply-reply.new.self.state)
-    c.self.view_is
-    (takes c.self.inside.state c.args.request c.apply-reply.result c.apply-reply.new.self
-    c.apply-reply.ensures.step)
-
-pub returns-then-not-KEPT-clause-fault : goal.returns-then-not-KEPT-clause-fault
-returns-then-not-KEPT-clause-fault g c =
-    rw (sym (ap (λ (f : Front). f.store) c.self.view_is))
-    (fails c.self.inside.state c.args.request c.apply-reply.result c.apply-reply.new.self
-    c.apply-reply.ensures.step)
-
-pub returns-then-not-KEPT-clause-failures : goal.returns-then-not-KEPT-clause-failures
-returns-then-not-KEPT-clause-failures g c =
-    counts c.self.inside.state c.args.request c.apply-reply.result c.apply-reply.new.self
-    c.apply-reply.ensures.step
-    ∙ ap (λ (f : Front). f.store.failures + reply_failures c.apply-reply.result) c.self.view_is
-
-pub invariant_of-self : goal.invariant_of-self
-invariant_of-self g c =
-    record {
-      legal = λ k. not_kept _ c.KEPT.result g.K.Keeps.KEPT c.if-not-KEPT.true c.KEPT.ensures k;
-      sound = c.apply-reply.ensures.sound;
-      opened = c.self.invariant.opened;
-      total = c.self.invariant.total;
       few = c.self.invariant.few;
       parts = c.self.invariant.parts;
       none = c.self.invariant.none;
