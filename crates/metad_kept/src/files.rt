@@ -1,7 +1,7 @@
 //! The two files of a store: the journal of the one that counts, and the other.
 ghost use Rattle.std.specs.Prelude.{◌≡◌};
 
-use crate::names::Names;
+use crate::names::{Names, OwnNames};
 use crate::telling_file::TellingFile;
 use journal::Journal;
 use sqlite_disk::Disk;
@@ -27,28 +27,30 @@ impl<D: Disk + Drop> Spare<D> {
 }
 
 /// The journal of the file that counts.
-pub type Counting<'a, D> = Journal<TellingFile<'a, ZeroFile<D, This>>>;
+pub type Counting<D> = Journal<TellingFile<ZeroFile<D, This>>>;
 
 /// The journal of the file that counts, and the other file.
 #[derive(Drop)]
 pub struct Files<'a, D: Disk + Drop> {
     pub rt: &'a HostRuntime,
     pub names: Names<'a>,
-    pub journal: Counting<'a, D>,
+    pub journal: Counting<D>,
     pub spare: Spare<D>,
 }
 
 /// A file that counts, and that tells when it can't grow.
-pub fn telling<'a, D: Disk + Drop>(
-    rt: &'a HostRuntime,
-    path: &'a str,
+pub fn telling<D: Disk + Drop>(
+    rt: &HostRuntime,
+    names: OwnNames,
+    is_second: bool,
     log: ZeroFile<D, This>,
-) -> TellingFile<'a, ZeroFile<D, This>>
+) -> TellingFile<ZeroFile<D, This>>
     ensures { result.log ≡ log }
 {
     TellingFile {
-        rt,
-        path,
+        rt: *rt,
+        names,
+        is_second,
         log,
         is_told: false,
     }

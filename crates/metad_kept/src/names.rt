@@ -20,6 +20,30 @@ impl<'a> Names<'a> {
     }
 }
 
+/// Copies of the names, which a file keeps.
+#[derive(Drop)]
+pub struct OwnNames {
+    first: String,
+    second: String,
+}
+
+impl OwnNames {
+    /// Copies the names.
+    pub fn new(alloc: Global, names: Names<'_>) -> Result<OwnNames, AllocError> {
+        let first = String::from_str(alloc, names.first)?;
+        let second = String::from_str(alloc, names.second)?;
+        Ok(OwnNames { first, second })
+    }
+
+    /// One of the two.
+    pub fn of(&self, is_second: bool) -> &str {
+        if is_second {
+            return self.second.as_str();
+        }
+        self.first.as_str()
+    }
+}
+
 /// The first file of a folder.
 pub fn first_name(alloc: Global, dir: &str) -> Result<String, AllocError> {
     let name = format!(in alloc; "{dir}/metad.journal")?;

@@ -4,6 +4,7 @@ ghost use Rattle.kept_store.specs.Checkpoints.{IsBlank, Makes};
 
 use crate::files::{Counting, Files, Spare, telling};
 use crate::names::Names;
+use crate::telling_file::TellingFile;
 use journal::{Journal, JournalError, Log};
 use kept_run::RunError;
 use kept_store::{CheckpointError, KeptStore, NotTaken, take_checkpoint};
@@ -133,23 +134,23 @@ fn choose_error(error: JournalError) -> RunError {
 }
 
 // Lets the second file count, which has the checkpoint, in place of the first.
-fn choose_second<'a, D: Disk + Drop>(
-    rt: &'a HostRuntime,
-    path: &'a str,
-    first: Counting<'a, D>,
+fn choose_second<D: Disk + Drop>(
+    rt: &HostRuntime,
+    first: Counting<D>,
     second: Journal<ZeroFile<D, This>>,
-) -> Result<(Counting<'a, D>, Spare<D>), RunError>
+) -> Result<(Counting<D>, Spare<D>), RunError>
     requires { second.pending.items ≡ [] }
     ensures { IfOk result (λ both. both.0.pending.items ≡ []) }
 {
-    let mut disk = first.log.log.into_disk();
+    let TellingFile { names, log, .. } = first.log;
+    let mut disk = log.into_disk();
     match choose(&mut disk, true) {
         Ok(()) => {}
         Err(error) => return Err(choose_error(error)),
     }
     let last = second.last;
     let journal = Journal {
-        log: telling(rt, path, second.log),
+        log: telling(rt, names, true, second.log),
         last,
         end: second.end,
         pending: second.pending,
@@ -158,12 +159,11 @@ fn choose_second<'a, D: Disk + Drop>(
 }
 
 // Lets the first file count, which has the checkpoint, in place of the second.
-fn choose_first<'a, D: Disk + Drop>(
-    rt: &'a HostRuntime,
-    path: &'a str,
+fn choose_first<D: Disk + Drop>(
+    rt: &HostRuntime,
     first: Journal<ZeroFile<D, Other>>,
-    second: Counting<'a, D>,
-) -> Result<(Counting<'a, D>, Spare<D>), RunError>
+    second: Counting<D>,
+) -> Result<(Counting<D>, Spare<D>), RunError>
     requires { first.pending.items ≡ [] }
     ensures { IfOk result (λ both. both.0.pending.items ≡ []) }
 {
@@ -177,14 +177,19 @@ fn choose_first<'a, D: Disk + Drop>(
         Ok(()) => {}
         Err(error) => return Err(choose_error(error)),
     }
+    let TellingFile {
+        names,
+        log: own,
+        ..
+    } = second.log;
     let last = first.last;
     let journal = Journal {
-        log: telling(rt, path, log),
+        log: telling(rt, names, false, log),
         last,
         end: first.end,
         pending: first.pending,
     };
-    Ok((journal, Spare::Second(second.log.log.into_disk())))
+    Ok((journal, Spare::Second(own.into_disk())))
 }
 
 // Files with a checkpoint in the second one, or as they were.
@@ -193,7 +198,7 @@ fn renew_second<'a, L: Ledger, D: Disk + Drop, T: Threads + Wait + Sync>(
     store: &KeptStore<L>,
     rt: &'a HostRuntime,
     names: Names<'a>,
-    journal: Counting<'a, D>,
+    journal: Counting<D>,
     disk: D,
 ) -> Result<Renewed<'a, D>, RunError>
     requires { journal.pending.items ≡ [] }
@@ -201,7 +206,7 @@ fn renew_second<'a, L: Ledger, D: Disk + Drop, T: Threads + Wait + Sync>(
 {
     match write_into::<L, This, D, T>(threads, rt.alloc(), store, disk) {
         Ok(next) => {
-            let (journal, spare) = choose_second(rt, names.second, journal, next)?;
+            let (journal, spare) = choose_second(rt, journal, next)?;
             Ok(Renewed {
                 files: Files {
                     rt,
@@ -230,7 +235,7 @@ fn renew_first<'a, L: Ledger, D: Disk + Drop, T: Threads + Wait + Sync>(
     store: &KeptStore<L>,
     rt: &'a HostRuntime,
     names: Names<'a>,
-    journal: Counting<'a, D>,
+    journal: Counting<D>,
     disk: D,
 ) -> Result<Renewed<'a, D>, RunError>
     requires { journal.pending.items ≡ [] }
@@ -238,7 +243,7 @@ fn renew_first<'a, L: Ledger, D: Disk + Drop, T: Threads + Wait + Sync>(
 {
     match write_into::<L, Other, D, T>(threads, rt.alloc(), store, disk) {
         Ok(next) => {
-            let (journal, spare) = choose_first(rt, names.first, next, journal)?;
+            let (journal, spare) = choose_first(rt, next, journal)?;
             Ok(Renewed {
                 files: Files {
                     rt,

@@ -56,7 +56,7 @@ pub enum Failure<'a, D: Disk + Drop> {
     Head(&'a str, JournalError),
     /// The second file counts, and no line stands in it.
     Empty(&'a str),
-    Start(StartError, TellingFile<'a, ZeroFile<D, This>>),
+    Start(&'a str, StartError, TellingFile<ZeroFile<D, This>>),
     Run(&'a str, RunError),
 }
 
@@ -102,7 +102,7 @@ fn go_on<
     ensures { IfOk result (λ next. IfSome next (λ files. files.journal.pending.items ≡ [])) }
 {
     let mut files = files;
-    let path = files.journal.log.path;
+    let path = files.names.of(!files.spare.is_second());
     let input = &mut streams.input;
     match run_store(
         threads,

@@ -5,11 +5,11 @@ use crate::choosing::choice_of;
 use crate::ending::{not_ended, not_opened, not_read, not_started};
 use crate::files::{Files, Spare, telling};
 use crate::finding::FIRST;
-use crate::names::Names;
+use crate::names::{Names, OwnNames};
 use crate::running::{Errors, Failure, Streams, Teller, run};
 use crate::telling::{tell, tell_missing};
 use crate::words::Serving;
-use journal::{Journal, Log, Sound};
+use journal::{Journal, JournalError, Log, Sound};
 use kept_run::Input;
 use kept_store::{KeptStore, StartError, open};
 use meta_types::{Fault, Workers};
@@ -105,7 +105,7 @@ fn answer_lines<
 ) -> Result<(), Failure<'a, D>>
     requires { files.journal.pending.items ≡ [] }
 {
-    let path = files.journal.log.path;
+    let path = files.names.of(!files.spare.is_second());
     if files.journal.end == 0 && !files.spare.is_second() {
         return Err(Failure::Empty(path));
     }
@@ -152,11 +152,14 @@ fn serve_named<
         Ok(()) => {}
         Err(error) => return Err(Failure::Head(path, error)),
     }
-    let file = telling(rt, path, log);
+    let Ok(own) = OwnNames::new(rt.alloc(), names) else {
+        return Err(Failure::Head(path, JournalError::OutOfMemory));
+    };
+    let file = telling(rt, own, !spare.is_second(), log);
     let workers = serving.workers;
     let started = match begin::<L, T, _>(threads, rt.alloc(), fresh, workers, file) {
         Ok(started) => started,
-        Err(not) => return Err(Failure::Start(not.error, not.log)),
+        Err(not) => return Err(Failure::Start(path, not.error, not.log)),
     };
     let files = Files {
         rt,
@@ -224,7 +227,7 @@ fn serve_streams<'a, T: Threads + Wait + Sync, D: Disk + Drop>(
         Err(Failure::Head(path, error)) => not_read(rt, path, error),
         Err(Failure::Empty(path)) => tell_missing(rt, path),
         Err(Failure::Run(path, error)) => not_ended(rt, path, error),
-        Err(Failure::Start(error, mut file)) => not_started(rt, file.path, &mut file, error),
+        Err(Failure::Start(path, error, mut file)) => not_started(rt, path, &mut file, error),
     }
 }
 

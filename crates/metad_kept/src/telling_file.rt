@@ -1,13 +1,15 @@
 //! A journal's file that tells when it can't grow.
 
+use crate::names::OwnNames;
 use crate::telling::tell_full;
 use journal::{JournalError, Log};
 
 /// A file that tells on standard error that it can't grow: once, until it has grown again.
 #[derive(Drop)]
-pub struct TellingFile<'a, D: Log + Drop> {
-    pub rt: &'a HostRuntime,
-    pub path: &'a str,
+pub struct TellingFile<D: Log + Drop> {
+    pub rt: HostRuntime,
+    pub names: OwnNames,
+    pub is_second: bool,
     pub log: D,
     pub is_told: bool,
 }
@@ -21,7 +23,7 @@ fn tell_of(rt: &HostRuntime, path: &str, grown: Result<(), JournalError>, is_tol
     is_full
 }
 
-impl<D: Log + Drop> Log for TellingFile<'_, D> {
+impl<D: Log + Drop> Log for TellingFile<D> {
     ghost text = { λ f. D.Log.text f.log };
 
     ghost may_leave = { λ f. D.Log.may_leave f.log };
@@ -46,7 +48,8 @@ impl<D: Log + Drop> Log for TellingFile<'_, D> {
 
     fn grow(&mut self) -> Result<(), JournalError> {
         let grown = self.log.grow();
-        self.is_told = tell_of(self.rt, self.path, grown, self.is_told);
+        let path = self.names.of(self.is_second);
+        self.is_told = tell_of(&self.rt, path, grown, self.is_told);
         grown
     }
 }
