@@ -1,7 +1,8 @@
 //! Label keys, and what they say to the collector.
-ghost use Rattle.std.specs.Prelude.{◌≡◌, option_map};
-ghost use Rattle.meta_types.specs.Text.{begins_with};
-ghost use Rattle.meta_types.specs.CollectorLabels.{is_content_key, snapshotter_in, is_marked_root, is_flat, expiry_of, is_expired, is_unreadable};
+ghost use Rattle.std.specs.Prelude.{◌≡◌, ◌++◌, option_map};
+ghost use Rattle.meta_types.specs.Text.{texts_of};
+ghost use Rattle.meta_types.specs.Labels.{value_of};
+ghost use Rattle.meta_types.specs.CollectorLabels.{content_ref_key, is_content_key, snapshotter_in, is_marked_root, is_flat, expiry_of, is_expired, is_unreadable};
 ghost use Rattle.gc_labels.specs.ExpiryEnds.{end_of, is_unread};
 
 use crate::ends::Expiry;
@@ -14,12 +15,9 @@ const ROOT: &str = "containerd.io/gc.root";
 const FLAT: &str = "containerd.io/gc.flat";
 /// The time after which a lease is collected (containerd garbage-collection.md).
 const EXPIRE: &str = "containerd.io/gc.expire";
-/// References content by its digest (containerd garbage-collection.md).
+/// References content by its digest (containerd garbage-collection.md), alone or with anything
+/// behind a `.` or, ours, a `/`.
 const CONTENT: &str = "containerd.io/gc.ref.content";
-/// The same, with anything behind the `.`.
-const CONTENT_DOT: &str = "containerd.io/gc.ref.content.";
-/// The same, with anything behind the `/`. Ours.
-const CONTENT_SLASH: &str = "containerd.io/gc.ref.content/";
 /// References a snapshot of the snapshotter that follows (containerd garbage-collection.md).
 const SNAPSHOT: &str = "containerd.io/gc.ref.snapshot.";
 
@@ -27,10 +25,21 @@ const SNAPSHOT: &str = "containerd.io/gc.ref.snapshot.";
 pub fn content_ref(key: &str) -> bool
     ensures { result ≡ is_content_key key.now }
 {
-    let alone = key == CONTENT;
-    let dotted = begins_with(key, CONTENT_DOT);
-    let slashed = begins_with(key, CONTENT_SLASH);
-    alone || dotted || slashed
+    match key.strip_prefix(CONTENT) {
+        Some(rest) => is_apart(rest),
+        None => false,
+    }
+}
+
+// Whether nothing follows the key of content, or what follows is apart from it.
+#[tactic(auto, using(crate::proofs::ContentKeys::alone, crate::proofs::ContentKeys::more))]
+fn is_apart(rest: &str) -> bool
+    ensures { result ≡ is_content_key (content_ref_key ++ rest.now) }
+{
+    match rest.as_bytes() {
+        [] => true,
+        [byte, ..] => *byte == b'.' || *byte == b'/',
+    }
 }
 
 /// The snapshotter whose snapshots labels with this key reference. It may be no allowed name.
@@ -46,18 +55,44 @@ pub fn snapshot_ref(key: &str) -> Option<&str>
     }
 }
 
+// Labels up to this number are passed one by one: most keys differ in their length already.
+const FEW: usize = 16;
+
+// The value of a key.
+fn value_of<'a>(labels: &'a Labels, key: &str) -> Option<&'a str>
+    ensures { option_map (λ s. s.now) result ≡ value_of labels.now key.now }
+{
+    if labels.len() <= FEW {
+        value_among(labels.entries(), key)
+    } else {
+        labels.get(key)
+    }
+}
+
+// The value of a key, found by passing the labels one by one.
+fn value_among<'a>(entries: &'a [(String, String)], key: &str) -> Option<&'a str>
+    ensures { option_map (λ s. s.now) result ≡ value_of (texts_of entries.now) key.now }
+{
+    for entry in entries {
+        if key == entry.0.as_str() {
+            return Some(entry.1.as_str());
+        }
+    }
+    None
+}
+
 /// Whether the labels make content or a snapshot a root.
 pub fn is_root(labels: &Labels) -> bool
     ensures { result ≡ is_marked_root labels.now }
 {
-    labels.get(ROOT).is_some()
+    value_of(labels, ROOT).is_some()
 }
 
 /// Whether the labels make a lease flat.
 pub fn is_flat(labels: &Labels) -> bool
     ensures { result ≡ is_flat labels.now }
 {
-    labels.get(FLAT).is_some()
+    value_of(labels, FLAT).is_some()
 }
 
 /// When an object with these labels ends.
@@ -65,7 +100,7 @@ pub fn expiry(labels: &Labels) -> Expiry
     ensures end { end_of result ≡ expiry_of labels.now }
     ensures unread { is_unread result ≡ is_unreadable labels.now }
 {
-    match labels.get(EXPIRE) {
+    match value_of(labels, EXPIRE) {
         None => Expiry::Never,
         Some(text) => match read_instant(text) {
             Some(instant) => Expiry::At(instant),
@@ -94,10 +129,4 @@ pub fn is_unreadable(labels: &Labels) -> bool
         Expiry::Unreadable => true,
         Expiry::At(_) => false,
     }
-}
-
-fn begins_with(text: &str, prefix: &str) -> bool
-    ensures { result ≡ begins_with prefix.now text.now }
-{
-    text.as_bytes().starts_with(prefix.as_bytes())
 }
