@@ -1,14 +1,20 @@
 -- A child more or less of a parent is counted.
 use Rattle.std.proofs.Common.{◌≡◌, ◌+◌, ◌⊎◌, ℕ, Bool, true, false, refl, sym, ◌∙◌, ap, subst, inl, inr, arith}
+use Rattle.std.proofs.Common.{List, [], ◌∷◌}
 use Rattle.std.specs.Prelude.{cond, Option, Some, None, is_some, option_map, IfSome, IsSome, OnOk, OnErr, Result, Ok, Err}
 use Rattle.std.proofs.lemmas.Bool.{cases_eq, eq-eqb, ne_eqb}
 use Rattle.std.specs.Option.{option_map_or, unwrap_or}
-use Rattle.std.specs.Ordering.{nat_cmp, eq_by_cmp, is_eq}
+use Rattle.std.specs.Ordering.{nat_cmp, eq_by_cmp, is_eq, match_ordering}
 use Rattle.std.specs.declared.cmp.Ordering.{Ordering}
 use Rattle.std.specs.declared.cmp.Ordering.TheVariants.{Less, Equal, Greater}
 use Rattle.std.specs.Cmp.{nat_cmp_total}
 use Rattle.std.specs.FinMap as finmap
-use Rattle.std.specs.BTreeMap.{BTreeMap, is_at, get, IsOrdered, insert_entry, Updates}
+use Rattle.std.specs.BTreeMap.{BTreeMap, is_at, get, IsOrdered, insert_entry, Updates, WritesThrough}
+use Rattle.std.specs.List.Sorted.{IsStrictlySortedBy}
+use Rattle.std.specs.Map.{lookup, keys_of, set_value}
+use Rattle.std.proofs.lemmas.Map.{lookup-none}
+use Rattle.std.proofs.lemmas.Map.Entries.{none_below_head}
+use Rattle.std.proofs.lemmas.Map.Keys.{sorted_tail}
 use Rattle.back_model.specs.Snaps.{Snaps, is_held, is_parent_held}
 use Rattle.back_model.specs.Nodes.{parents_of, snaps_of, one_if, children_of, counted, AreCounted}
 use Rattle.back_model.specs.declared.mem_backend.Node.{Node}
@@ -21,6 +27,47 @@ pub was_put : {X E : Type 0} (result : Result X E) (old new : BTreeMap ℕ Node)
     → IsOrdered nat_cmp old → IsOrdered nat_cmp new → Puts old new number node
 was_put (Ok x) old new number was node found absent updates entries was_ordered ordered = record { at = updates.0; entries = entries; was_ordered = was_ordered; ordered = ordered }
 was_put (Err e) old new number was node found absent updates entries was_ordered ordered = absurd (let both : Some was ≡ None = sym found ∙ absent in cc)
+
+-- a node that is set where its number is found is put in
+set_is_put : (k : ℕ) (es : List (ℕ × Node)) (was node : Node)
+    → IsStrictlySortedBy nat_cmp (keys_of es) → lookup (is_at (nat_cmp k)) es ≡ Some was
+    → set_value (is_at (nat_cmp k)) es node ≡ insert_entry nat_cmp es k node
+set_is_put k [] was node order found = absurd cc
+set_is_put k (e ∷ es) was node order found =
+    go (nat_cmp k e.0) refl
+    (set_is_put k es was node (sorted_tail nat_cmp e.0 (keys_of es) order))
+  where
+    set : Ordering → List (ℕ × Node)
+    set r = cond (is_eq r) ((e.0, node) ∷ es) (e ∷ set_value (is_at (nat_cmp k)) es node)
+
+    put : Ordering → List (ℕ × Node)
+    put r = match_ordering r ((k, node) ∷ e ∷ es) ((e.0, node) ∷ es)
+        (e ∷ insert_entry nat_cmp es k node)
+
+    go : (r : Ordering) → nat_cmp k e.0 ≡ r
+        → (lookup (is_at (nat_cmp k)) es ≡ Some was
+        → set_value (is_at (nat_cmp k)) es node ≡ insert_entry nat_cmp es k node)
+        → set_value (is_at (nat_cmp k)) (e ∷ es) node ≡ insert_entry nat_cmp (e ∷ es) k node
+    go Less is rest = absurd (
+        let none = lookup-none (is_at (nat_cmp k)) (e ∷ es)
+        (none_below_head nat_cmp_total k e es order is) in
+        let both : Some was ≡ None = sym found ∙ none in cc)
+    go Equal is rest = ap set is ∙ sym (ap put is)
+    go Greater is rest =
+        let later = sym (ap (λ r. cond (is_eq r) (Some e.1) (lookup (is_at (nat_cmp k)) es)) is)
+        ∙ found in
+        ap set is ∙ ap (λ left. e ∷ left) (rest later) ∙ sym (ap put is)
+
+-- a node that is written where its number is found is put in
+pub was_set : (old new : BTreeMap ℕ Node) (number : ℕ) (was node : Node)
+    → get nat_cmp old number ≡ Some was → IsOrdered nat_cmp old
+    → WritesThrough nat_cmp (nat_cmp number) old node new → Puts old new number node
+was_set old new number was node found order writes = record {
+  at = (writes.3 (ap is_some found)).0;
+  entries = writes.0 ∙ set_is_put number old.entries was node order found;
+  was_ordered = order;
+  ordered = writes.4;
+}
 
 -- the value that is there, put in again, changes nothing
 put_back : (m : Snaps) (k : ℕ) (v : Option ℕ) → finmap.get m k ≡ Some v → finmap.insert m k v ≡ m

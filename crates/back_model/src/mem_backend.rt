@@ -118,12 +118,10 @@ fn drop_child(nodes: &mut BTreeMap<u64, Node>, parent: Option<u64>)
     let Some(above) = parent else {
         return;
     };
-    let Some(node) = nodes.get(&above).copied() else {
+    let Some(node) = nodes.get_mut(&above) else {
         unreachable!()
     };
-    let children = node.children - 1;
-    // The key is there, so this takes no memory.
-    let _ = nodes.insert(above, Node { children, ..node });
+    node.children -= 1;
 }
 
 impl SnapBackend for MemBackend {
@@ -160,14 +158,14 @@ impl SnapBackend for MemBackend {
     }
 
     fn remove(&mut self, number: u64) -> Result<(), RemoveFault> {
-        if !self.holds(number) {
+        let Some(node) = self.node(number) else {
             return Err(RemoveFault::Missing);
-        }
-        if self.is_parent(number) {
+        };
+        if node.children > 0 {
             return Err(RemoveFault::HasChildren);
         }
-        if let Some(node) = self.nodes.remove(&number) {
-            drop_child(&mut self.nodes, node.parent);
+        if let Some(gone) = self.nodes.remove(&number) {
+            drop_child(&mut self.nodes, gone.parent);
         }
         Ok(())
     }

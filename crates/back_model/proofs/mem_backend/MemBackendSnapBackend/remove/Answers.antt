@@ -1,4 +1,5 @@
-use Rattle.std.proofs.Common.{rules, ◌≡◌, ◌∙◌, false}
+use Rattle.std.proofs.Common.{rules, ◌≡◌, ◌∙◌, false, sym, arith}
+use Rattle.std.proofs.lemmas.Bool.{le-ltb}
 use Rattle.std.specs.Prelude.{Some}
 use Rattle.std.specs.Ordering.{nat_cmp}
 use Rattle.std.specs.BTreeMap.{get}
@@ -10,20 +11,20 @@ use Rattle.back_model.proofs.mem_backend.MemBackendSnapBackend.remove.Goals as g
 pub drop_child-requires : goal.drop_child-requires
 drop_child-requires c =
     let t : Takes c.self.inside.nodes c.remove.new.self c.args.number = record { at = c.remove.ensures.updates.0; entries = c.remove.ensures.entries; ordered = c.remove.ensures.ordered } in
-    let found : get nat_cmp c.self.inside.nodes c.args.number ≡ Some c.in-Some.node = search rules in
-    let none : has_child c.args.self.now c.args.number ≡ false = search rules in
+    let found : get nat_cmp c.self.inside.nodes c.args.number ≡ Some c.in-Some-remove.gone = search rules in
+    let none : has_child c.args.self.now c.args.number ≡ false = sym c.in-Some.ensures.child ∙ le-ltb 0 c.in-Some.node.children (omega arith) in
     record {
       order = c.remove.ensures.ordered;
-      counted = after_taken c.in-Some.node found (none_counted c.args.number c.self.inside.nodes c.args.self.now c.self.view_is c.self.invariant none) c.self.invariant.each t;
+      counted = after_taken c.in-Some-remove.gone found (none_counted c.args.number c.self.inside.nodes c.args.self.now c.self.view_is c.self.invariant none) c.self.invariant.each t;
     }
 
 -- the snapshot is taken out
-pub returns-in-Some-clause-ok : goal.returns-in-Some-clause-ok
-returns-in-Some-clause-ok c =
+pub returns-in-Some-remove-clause-ok : goal.returns-in-Some-remove-clause-ok
+returns-in-Some-remove-clause-ok c =
     let t : Takes c.self.inside.nodes c.remove.new.self c.args.number = record { at = c.remove.ensures.updates.0; entries = c.remove.ensures.entries; ordered = c.remove.ensures.ordered } in
     c.drop_child.ensures.same ∙ snap_taken c.args.self.now c.self.view_is t
 
-pub returns-in_default-clause-ok : goal.returns-in_default-clause-ok
-returns-in_default-clause-ok c =
+pub returns-in_default-remove-clause-ok : goal.returns-in_default-remove-clause-ok
+returns-in_default-remove-clause-ok c =
     let t : Takes c.self.inside.nodes c.remove.new.self c.args.number = record { at = c.remove.ensures.updates.0; entries = c.remove.ensures.entries; ordered = c.remove.ensures.ordered } in
     snap_taken c.args.self.now c.self.view_is t
