@@ -20,6 +20,7 @@ pub mod NamespaceSpans
 pub mod NamespacesArrived
 pub mod Retained
 pub mod RowCounts
+pub mod SliceCuts
 pub mod SnapshotterRows
 pub mod Starts
 pub mod SweptNamespaces

@@ -1,6 +1,6 @@
 //! Rows of all namespaces, as they arrived.
-ghost use Rattle.std.specs.Prelude.{◌≡◌, ◌∷◌, [], map, false, None, count_by, IfOk, OnOk, OnErr, IfSome, IfNone, IsTrue, Bool, length, filter, bytes_eq, option_copied};
-ghost use Rattle.std.specs.List.{list_any, list_all, IsDistinct};
+ghost use Rattle.std.specs.Prelude.{◌≡◌, ◌∷◌, ◌++◌, [], map, false, None, count_by, IfOk, OnOk, OnErr, IfSome, IfNone, IsTrue, Bool, length, filter, bytes_eq, option_copied};
+ghost use Rattle.std.specs.List.{list_any, list_all, flat_map, IsDistinct};
 ghost use Rattle.meta_types.specs.Keys.{are_in_order, row_at, has_row, add_row, remove_row};
 ghost use Rattle.meta_types.specs.Faults.{Refuses, least_of};
 ghost use Rattle.row_tables.specs.Arrived.{sorted, same_key, kept, without_memory, Becomes};
@@ -13,6 +13,7 @@ use crate::namespaces::places::PlacesByNamespace;
 use crate::namespaces::{change, find, keep, list};
 use crate::row::{Change, GroupedRow, RemovedRows, Test};
 use crate::row_table::RowTable;
+use crate::slices::Slices;
 use indexmap::IndexMap;
 use meta_types::{Fault, ShortName};
 use std::alloc::Global;
@@ -215,6 +216,25 @@ impl<K: Named, R: GroupedRow<K>> ArrivedByNamespace<K, R> {
         ensures ok { IfOk result (λ list. map (λ row. row.now) list.items ≡ self.now) }
     {
         list::rows_arrived(self.groups.values().as_slice(), alloc)
+    }
+
+    /// The rows, in the order of their places, lent as the slices in which they stand. No row is
+    /// copied, and none is listed.
+    pub fn slices(&self, alloc: Global) -> Result<Slices<'_, R>, Fault>
+        ensures fault { Refuses result None }
+        ensures ok { IfOk result (λ slices. slices ≡ self.now) }
+    {
+        let slices = list::slices_arrived(self.groups.values().as_slice(), alloc)?;
+        Slices::new(alloc, slices)
+    }
+
+    // Adds the slices behind those that are there.
+    pub(crate) fn push_slices<'a>(&'a self, slices: &mut Vec<&'a [R]>) -> Result<(), Fault>
+        ensures fault { Refuses result None }
+        ensures ok { OnOk result (flat_map (λ rows. rows.now) slices.new.items
+            ≡ flat_map (λ rows. rows.now) slices.old.items ++ self.now) }
+    {
+        list::push_slices(self.groups.values().as_slice(), slices)
     }
 
     /// A copy, with the rows at the same places, which shares their texts.

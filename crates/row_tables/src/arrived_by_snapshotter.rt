@@ -11,6 +11,7 @@ use crate::arrived_by_namespace::ArrivedByNamespace;
 use crate::marks::count_marks;
 use crate::named::Named;
 use crate::row::{Change, RemovedRows, SnapshotterRow, Test};
+use crate::slices::Slices;
 use crate::snapshotters::places::PlacesBySnapshotter;
 use crate::snapshotters::{change, find, keep, list};
 use indexmap::IndexMap;
@@ -245,6 +246,16 @@ impl<K: Named, R: SnapshotterRow<K>> ArrivedBySnapshotter<K, R> {
         ensures ok { IfOk result (λ list. map (λ row. row.now) list.items ≡ self.now) }
     {
         list::rows_arrived(self.groups.values().as_slice(), alloc)
+    }
+
+    /// The rows, in the order of their places, lent as the slices in which they stand. No row is
+    /// copied, and none is listed.
+    pub fn slices(&self, alloc: Global) -> Result<Slices<'_, R>, Fault>
+        ensures fault { Refuses result None }
+        ensures ok { IfOk result (λ slices. slices ≡ self.now) }
+    {
+        let slices = list::slices_arrived(self.groups.values().as_slice(), alloc)?;
+        Slices::new(alloc, slices)
     }
 
     /// A copy, with the rows at the same places, which shares their texts.

@@ -13,6 +13,7 @@ mod resources;
 mod row;
 mod row_table;
 mod rows;
+mod slices;
 mod snapshotters;
 mod visiting;
 
@@ -25,4 +26,5 @@ pub use named::Named;
 pub use namespaces::places::PlacesByNamespace;
 pub use row::{Change, GroupedRow, NamedRow, RemovedRows, SnapshotterRow, Test};
 pub use row_table::RowTable;
+pub use slices::Slices;
 pub use snapshotters::places::PlacesBySnapshotter;

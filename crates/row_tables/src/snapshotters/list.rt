@@ -1,6 +1,6 @@
 //! Rows of all namespaces, lent and copied.
 ghost use Rattle.std.specs.Prelude.{◌≡◌, ◌<◌, ◌&&◌, map, None, IsTrue, OnOk, Some, slice_get, IfOk, filter, bytes_eq};
-ghost use Rattle.std.specs.List.{IsDistinct};
+ghost use Rattle.std.specs.List.{flat_map, IsDistinct};
 ghost use Rattle.std.specs.Cmp.Lexicographic.{slice_cmp};
 ghost use Rattle.std.specs.List.Sorted.{IsPermutation};
 ghost use Rattle.meta_types.specs.Keys.{are_in_order};
@@ -116,6 +116,22 @@ pub(crate) fn rows_arrived<'a, K: Named, R: SnapshotterRow<K>>(
         list.append(&mut rows)?;
     }
     Ok(list)
+}
+
+/// The slices of all rows, in the order of their places.
+pub(crate) fn slices_arrived<'a, K: Named, R: SnapshotterRow<K>>(
+    tables: &'a [ArrivedByNamespace<K, R>],
+    alloc: Global,
+) -> Result<Vec<&'a [R]>, Fault>
+    ensures fault { Refuses result None }
+    ensures ok { IfOk result (λ slices. flat_map (λ rows. rows.now) slices.items
+        ≡ joined tables.now) }
+{
+    let mut slices = Vec::new(alloc);
+    for table in tables {
+        table.push_slices(&mut slices)?;
+    }
+    Ok(slices)
 }
 
 /// A copy of the namespaces and of their rows, which shares their texts.
