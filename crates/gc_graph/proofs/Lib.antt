@@ -19,3 +19,4 @@ pub mod AnyOrder
 pub mod LentRows
 pub mod NearPlaces
 pub mod LabelKinds
+pub mod SliceLoops

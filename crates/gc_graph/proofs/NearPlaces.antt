@@ -1,10 +1,9 @@
 -- A row that stands at a place that is tried is the first of its key.
-use Rattle.std.proofs.Common.{◌≡◌, ℕ, zero, suc, Bool, true, false, cond, List, [], ◌∷◌, map, refl, sym, ap, ◌∙◌, subst, inl, inr, Bor, Option, Some, None, true≢false}
+use Rattle.std.proofs.Common.{◌≡◌, ℕ, zero, suc, Bool, true, false, cond, List, [], ◌∷◌, refl, sym, ap, ◌∙◌, subst, inl, inr, Bor, Option, Some, None, true≢false}
 use Rattle.std.specs.Prelude.{◌&&◌, bytes_eq, slice_get}
 use Rattle.std.specs.List.{position, IsDistinct, AllByRecursion}
-use Rattle.std.specs.Option.{option_map, option_map_or}
+use Rattle.std.specs.Option.{option_map, option_map_or, option_copied}
 use Rattle.std.proofs.lemmas.Bool.{cases_Bool}
-use Rattle.std.proofs.lemmas.Option.{slice_get-map}
 use Rattle.meta_types.proofs.ListSearches.{no_none, some_is}
 use Rattle.meta_types.specs.Keys.{Key, is_key}
 use Rattle.meta_types.specs.Rows.{content_key, snap_key}
@@ -44,20 +43,27 @@ module _ {Row : Type 0} (key_of : Row → Key) (key : Key) where
         | inr f ↦ rw f (ap (option_map suc) (sym rest))
       ])
 
-  -- the place of a lent row with the key
-  near_there : (lent : List (Bor Row)) (rows : List Row) (i : ℕ) → rows ≡ map (λ row. row.now) lent
-      → IsDistinct (same_key key_of) rows
-      → option_map_or (λ row. has row.now) (slice_get lent i) false ≡ true
-      → Some i ≡ position has rows
+  -- the place of a row with the key
+  near_there : (lent rows : List Row) (i : ℕ) → rows ≡ lent → IsDistinct (same_key key_of) rows
+      → option_map_or has (slice_get lent i) false ≡ true → Some i ≡ position has rows
   near_there lent rows i is d h = go (slice_get lent i) refl h
     where
-      go : (o : Option (Bor Row)) → slice_get lent i ≡ o
-          → option_map_or (λ row. has row.now) o false ≡ true → Some i ≡ position has rows
+      go : (o : Option Row) → slice_get lent i ≡ o → option_map_or has o false ≡ true
+          → Some i ≡ position has rows
       go None e t = absurd cc
-      go (Some row) e t =
-          let now : Bor Row → Row = λ r. r.now in
-          found_near rows i row.now t d (ap (λ (l : List Row). slice_get l i) is
-          ∙ slice_get-map now lent i ∙ ap (option_map now) e)
+      go (Some row) e t = found_near rows i row t d (ap (λ (l : List Row). slice_get l i) is ∙ e)
+
+-- what a test says of a row that is lent
+pub tested_there : {X Y : Type 0} (f : X → Y) (d : Y) (lent : Option (Bor X)) (there : Option X)
+    (row : Bor X) → lent ≡ Some row → option_copied lent ≡ there
+    → f row.now ≡ option_map_or f there d
+tested_there f d lent there row here copied =
+    ap (λ o. option_map_or f (option_copied o) d) (sym here) ∙ ap (λ o. option_map_or f o d) copied
+
+pub untested : {X Y : Type 0} (f : X → Y) (d : Y) (lent : Option (Bor X)) (there : Option X)
+    → lent ≡ None → option_copied lent ≡ there → d ≡ option_map_or f there d
+untested f d lent there here copied =
+    ap (λ o. option_map_or f (option_copied o) d) (sym here) ∙ ap (λ o. option_map_or f o d) copied
 
 -- ---- in what order the texts of a key are compared
 
@@ -78,26 +84,26 @@ three_turned false false true = refl
 three_turned false false false = refl
 
 -- the content that stands at a place
-pub content_there : (ns digest : Text) (lent : List (Bor ContentRow)) (rows : List ContentRow)
-    (i : ℕ) → rows ≡ map (λ row. row.now) lent → IsDistinct (same_key content_key) rows
-    → option_map_or (λ row. bytes_eq digest row.now.digest && bytes_eq ns row.now.ns)
+pub content_there : (ns digest : Text) (lent rows : List ContentRow) (i : ℕ)
+    → rows ≡ lent → IsDistinct (same_key content_key) rows
+    → option_map_or (λ row. bytes_eq digest row.digest && bytes_eq ns row.ns)
     (slice_get lent i) false ≡ true
     → Some i ≡ position (λ row. is_key (ns ∷ digest ∷ []) (content_key row)) rows
 content_there ns digest lent rows i is d h =
     near_there content_key (ns ∷ digest ∷ []) lent rows i is d
-    ((λ j. option_map_or (λ (row : Bor ContentRow).
-    sym (two_turned (bytes_eq digest row.now.digest) (bytes_eq ns row.now.ns)) j)
+    ((λ j. option_map_or (λ (row : ContentRow).
+    sym (two_turned (bytes_eq digest row.digest) (bytes_eq ns row.ns)) j)
     (slice_get lent i) false) ∙ h)
 
 -- the snapshot that stands at a place
-pub snapshot_there : (ns snapshotter name : Text) (lent : List (Bor SnapRow)) (rows : List SnapRow)
-    (i : ℕ) → rows ≡ map (λ row. row.now) lent → IsDistinct (same_key snap_key) rows
-    → option_map_or (λ row. bytes_eq name row.now.key.name
-    && bytes_eq snapshotter row.now.key.snapshotter && bytes_eq ns row.now.key.ns)
+pub snapshot_there : (ns snapshotter name : Text) (lent rows : List SnapRow) (i : ℕ)
+    → rows ≡ lent → IsDistinct (same_key snap_key) rows
+    → option_map_or (λ row. bytes_eq name row.key.name
+    && bytes_eq snapshotter row.key.snapshotter && bytes_eq ns row.key.ns)
     (slice_get lent i) false ≡ true
     → Some i ≡ position (λ row. is_key (ns ∷ snapshotter ∷ name ∷ []) (snap_key row)) rows
 snapshot_there ns snapshotter name lent rows i is d h =
     near_there snap_key (ns ∷ snapshotter ∷ name ∷ []) lent rows i is d
-    ((λ j. option_map_or (λ (row : Bor SnapRow). sym (three_turned
-    (bytes_eq name row.now.key.name) (bytes_eq snapshotter row.now.key.snapshotter)
-    (bytes_eq ns row.now.key.ns)) j) (slice_get lent i) false) ∙ h)
+    ((λ j. option_map_or (λ (row : SnapRow). sym (three_turned
+    (bytes_eq name row.key.name) (bytes_eq snapshotter row.key.snapshotter)
+    (bytes_eq ns row.key.ns)) j) (slice_get lent i) false) ∙ h)

@@ -11,6 +11,7 @@ use Rattle.meta_types.specs.declared.resource.Mode.{Mode}
 use Rattle.meta_types.specs.declared.resource.Resource.{Resource}
 use Rattle.gc_graph.specs.Targets.{node, resource_mode, resource_targets}
 use Rattle.gc_graph.proofs.BookNumbers.{take_next, numbers_in-append}
+use Rattle.gc_graph.proofs.SliceLoops.{flat_next}
 
 module _ {Row : Type 0} (holds : Row → Bool) where
   pub places-append : (n : ℕ) (xs ys : List Row) → places holds n (xs ++ ys) ≡ places holds n xs ++ places holds (n + length xs) ys
@@ -33,6 +34,17 @@ module _ {Row : Type 0} (holds : Row → Bool) where
       ∙ append_assoc start (places holds n before) (if holds row then (n + length before) ∷ [] else [])
       ∙ ap (λ rest. start ++ rest) (sym (places-append n before (row ∷ [])))
       ∙ ap (λ rs. start ++ places holds n rs) (sym (take_next rows i row lt item))
+
+  -- one slice of rows more
+  pub places_slice : {Slice : Type 0} (rows_of : Slice → List Row) (n k i : ℕ) (start now new : List ℕ) (slices : List Slice) (slice : Slice) → i < length slices → slice ≡ get_or slices i slice
+      → k ≡ n + length (flat_map rows_of (take i slices)) → now ≡ start ++ places holds n (flat_map rows_of (take i slices)) → new ≡ now ++ places holds k (rows_of slice)
+      → new ≡ start ++ places holds n (flat_map rows_of (take (i + 1) slices))
+  places_slice rows_of n k i start now new slices slice lt is here so step =
+      let front = flat_map rows_of (take i slices) in
+      step ∙ (λ j. so j ++ places holds (here j) (rows_of slice))
+      ∙ append_assoc start (places holds n front) (places holds (n + length front) (rows_of slice))
+      ∙ ap (λ l. start ++ l) (sym (places-append n front (rows_of slice)))
+      ∙ ap (λ l. start ++ places holds n l) (sym (flat_next rows_of slices i slice lt is))
 
 -- the places of things are those of their rows
 pub root_places_of : {Row : Type 0} (profile : ℕ) (at : ℤ) (thing : Row → Thing) (n : ℕ) (rows : List Row) → places (λ row. is_root profile at (thing row)) n rows ≡ root_places profile at n (map thing rows)

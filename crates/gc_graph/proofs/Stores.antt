@@ -31,10 +31,6 @@ assoc5 a b c d e = append_assoc ((a ++ b) ++ c) d e ∙ ap (λ l. l ++ (d ++ e))
 -- ---- the roots
 
 module _ (profile : ℕ) (at : ℤ) where
-  -- places of borrowed rows
-  placed : {Row X : Type 0} (thing : X → Thing) (now : Row → X) (n : ℕ) (rs : List Row) → places (λ row. is_root profile at (thing (now row))) n rs ≡ root_places profile at n (map thing (map now rs))
-  placed thing now n rs = root_places_of profile at (λ row. thing (now row)) n rs ∙ ap (root_places profile at n) (sym (map_of_map thing now rs))
-
   module _ (book : List Node) where
     -- what borrowed roots reference
     rooted : {Row X : Type 0} (thing : X → Thing) (now : Row → X) (rs : List Row) → flat_map (λ row. root_targets profile at book (thing (now row))) rs ≡ flat_map (targets_in book) (filter (is_root profile at) (map thing (map now rs)))
@@ -57,18 +53,18 @@ module _ (stored : StoreRows) (at : ℤ) (book : List Node) where
   abbrev profile : ℕ
   profile = stored.profile
 
-  abbrev ingests : List (Bor IngestRow)
+  abbrev ingests : List IngestRow
   ingests = stored.ingests.now
 
-  abbrev contents : List (Bor ContentRow)
+  abbrev contents : List ContentRow
   contents = stored.content.now
 
-  abbrev snaps : List (Bor SnapRow)
+  abbrev snaps : List SnapRow
   snaps = stored.snapshots.now
 
-  -- one kind of borrowed rows
-  edged : {Row X : Type 0} (thing : X → Thing) (now : Row → X) (rs : List Row) → map (λ row. targets_in book (thing (now row))) rs ≡ map (targets_in book) (map thing (map now rs))
-  edged thing now rs = sym (map_of_map (targets_in book) thing (map now rs) ∙ map_of_map (λ x. targets_in book (thing x)) now rs)
+  -- one kind of rows
+  edged : {Row : Type 0} (thing : Row → Thing) (rs : List Row) → map (λ row. targets_in book (thing row)) rs ≡ map (targets_in book) (map thing rs)
+  edged thing rs = sym (map_of_map (targets_in book) thing rs)
 
   -- images, containers and leases
   pub thing_roots : flat_map (λ row. root_targets profile at book (image row.now)) stored.images.now
@@ -86,9 +82,9 @@ module _ (stored : StoreRows) (at : ℤ) (book : List Node) where
       ∙ sym (rooted-append profile at book (xs ++ ys) zs)
 
   -- the rows that are roots of their own
-  pub row_roots : places (λ row. ingest_holds_itself at row.now) 0 ingests
-      ++ (places (λ row. is_marked_root row.now.labels) (length ingests) contents
-      ++ places (λ row. is_marked_root row.now.labels) (length ingests + 2 * length contents) snaps)
+  pub row_roots : places (λ row. ingest_holds_itself at row) 0 ingests
+      ++ (places (λ row. is_marked_root row.labels) (length ingests) contents
+      ++ places (λ row. is_marked_root row.labels) (length ingests + 2 * length contents) snaps)
       ≡ root_places profile at 0 (node_things records)
   row_roots =
       let i = map ingest records.tables.ingests in
@@ -96,38 +92,38 @@ module _ (stored : StoreRows) (at : ℤ) (book : List Node) where
       let cl = map (content Flat) records.tables.content in
       let sf = map (snapshot Full) records.tables.snapshots in
       let sl = map (snapshot Flat) records.tables.snapshots in
-      let long_i : length i ≡ length ingests = length-map records.tables.ingests ingest ∙ length-map ingests (λ (row : Bor IngestRow). row.now) in
-      let long_cf : length cf ≡ length contents = length-map records.tables.content (content Full) ∙ length-map contents (λ (row : Bor ContentRow). row.now) in
-      let long_cl : length cl ≡ length contents = length-map records.tables.content (content Flat) ∙ length-map contents (λ (row : Bor ContentRow). row.now) in
+      let long_i : length i ≡ length ingests = length-map ingests ingest in
+      let long_cf : length cf ≡ length contents = length-map contents (content Full) in
+      let long_cl : length cl ≡ length contents = length-map contents (content Flat) in
       let at_c : length ingests ≡ 0 + length i = omega (arith, long_i) in
       let at_s : length ingests + 2 * length contents ≡ (0 + length i) + length (cf ++ cl) = omega (arith, long_i, long_cf, long_cl, length-append cf cl) in
-      let c_part : places (λ (row : Bor ContentRow). is_marked_root row.now.labels) (length ingests) contents ≡ root_places profile at (0 + length i) (cf ++ cl)
-      = placed profile at (content Full) (λ (row : Bor ContentRow). row.now) (length ingests) contents
+      let c_part : places (λ (row : ContentRow). is_marked_root row.labels) (length ingests) contents ≡ root_places profile at (0 + length i) (cf ++ cl)
+      = root_places_of profile at (content Full) (length ingests) contents
       ∙ sym (both_places profile at (content Full) (content Flat) (λ row. refl) (length ingests) records.tables.content)
       ∙ ap (λ n. root_places profile at n (cf ++ cl)) at_c in
-      let s_part : places (λ (row : Bor SnapRow). is_marked_root row.now.labels) (length ingests + 2 * length contents) snaps ≡ root_places profile at ((0 + length i) + length (cf ++ cl)) (sf ++ sl)
-      = placed profile at (snapshot Full) (λ (row : Bor SnapRow). row.now) (length ingests + 2 * length contents) snaps
+      let s_part : places (λ (row : SnapRow). is_marked_root row.labels) (length ingests + 2 * length contents) snaps ≡ root_places profile at ((0 + length i) + length (cf ++ cl)) (sf ++ sl)
+      = root_places_of profile at (snapshot Full) (length ingests + 2 * length contents) snaps
       ∙ sym (both_places profile at (snapshot Full) (snapshot Flat) (λ row. refl) (length ingests + 2 * length contents) records.tables.snapshots)
       ∙ ap (λ n. root_places profile at n (sf ++ sl)) at_s in
-      (λ j. placed profile at ingest (λ (row : Bor IngestRow). row.now) 0 ingests j ++ (c_part j ++ s_part j))
+      (λ j. root_places_of profile at ingest 0 ingests j ++ (c_part j ++ s_part j))
       ∙ ap (λ l. root_places profile at 0 i ++ l) (sym (root_places-append profile at (0 + length i) (cf ++ cl) (sf ++ sl)))
       ∙ sym (root_places-append profile at 0 i ((cf ++ cl) ++ (sf ++ sl)))
 
-  pub own_roots : places (λ row. ingest_holds_itself at row.now) 0 ingests
-      ++ places (λ row. is_marked_root row.now.labels) (length ingests) contents
-      ++ places (λ row. is_marked_root row.now.labels) (length ingests + 2 * length contents) snaps
+  pub own_roots : places (λ row. ingest_holds_itself at row) 0 ingests
+      ++ places (λ row. is_marked_root row.labels) (length ingests) contents
+      ++ places (λ row. is_marked_root row.labels) (length ingests + 2 * length contents) snaps
       ≡ root_places profile at 0 (node_things records)
   own_roots =
-      append_assoc (places (λ (row : Bor IngestRow). ingest_holds_itself at row.now) 0 ingests)
-      (places (λ (row : Bor ContentRow). is_marked_root row.now.labels) (length ingests) contents)
-      (places (λ (row : Bor SnapRow). is_marked_root row.now.labels) (length ingests + 2 * length contents) snaps)
+      append_assoc (places (λ (row : IngestRow). ingest_holds_itself at row) 0 ingests)
+      (places (λ (row : ContentRow). is_marked_root row.labels) (length ingests) contents)
+      (places (λ (row : SnapRow). is_marked_root row.labels) (length ingests + 2 * length contents) snaps)
       ∙ row_roots
 
   module _ (graph : Graph) where
     abbrev Edged : Type 0
-    Edged = rows graph ≡ map (λ row. targets_in book (ingest row.now)) ingests
-        ++ map (λ row. targets_in book (content Full row.now)) contents ++ map (λ row. targets_in book (content Flat row.now)) contents
-        ++ map (λ row. targets_in book (snapshot Full row.now)) snaps ++ map (λ row. targets_in book (snapshot Flat row.now)) snaps
+    Edged = rows graph ≡ map (λ row. targets_in book (ingest row)) ingests
+        ++ map (λ row. targets_in book (content Full row)) contents ++ map (λ row. targets_in book (content Flat row)) contents
+        ++ map (λ row. targets_in book (snapshot Full row)) snaps ++ map (λ row. targets_in book (snapshot Flat row)) snaps
 
     edges_of_things : Edged → rows graph ≡ map (targets_in book) (node_things records)
     edges_of_things made =
@@ -140,8 +136,8 @@ module _ (stored : StoreRows) (at : ℤ) (book : List Node) where
         let whole : map t (i ++ ((cf ++ cl) ++ (sf ++ sl))) ≡ map t i ++ ((map t cf ++ map t cl) ++ (map t sf ++ map t sl))
         = map-append t i ((cf ++ cl) ++ (sf ++ sl)) ∙ ap (λ l. map t i ++ l) (map-append t (cf ++ cl) (sf ++ sl) ∙ (λ j. map-append t cf cl j ++ map-append t sf sl j)) in
         made
-        ∙ (λ j. edged ingest (λ (row : Bor IngestRow). row.now) ingests j ++ edged (content Full) (λ (row : Bor ContentRow). row.now) contents j ++ edged (content Flat) (λ (row : Bor ContentRow). row.now) contents j
-        ++ edged (snapshot Full) (λ (row : Bor SnapRow). row.now) snaps j ++ edged (snapshot Flat) (λ (row : Bor SnapRow). row.now) snaps j)
+        ∙ (λ j. edged ingest ingests j ++ edged (content Full) contents j ++ edged (content Flat) contents j
+        ++ edged (snapshot Full) snaps j ++ edged (snapshot Flat) snaps j)
         ∙ assoc5 (map t i) (map t cf) (map t cl) (map t sf) (map t sl) ∙ sym whole
 
     abbrev Rooted : Type 0

@@ -12,9 +12,9 @@ records_of rows = record {
     namespaces = [];
     images = map (λ row. row.now) rows.images.now;
     containers = map (λ row. row.now) rows.containers.now;
-    content = map (λ row. row.now) rows.content.now;
-    ingests = map (λ row. row.now) rows.ingests.now;
-    snapshots = map (λ row. row.now) rows.snapshots.now;
+    content = rows.content.now;
+    ingests = rows.ingests.now;
+    snapshots = rows.snapshots.now;
   };
   leases = map (λ row. row.now) rows.leases.now;
   next = 1;
@@ -25,11 +25,11 @@ records_of rows = record {
 abbrev pub IsSmall : StoreRows → Type 0
 IsSmall rows = 2 * (length rows.content.now + length rows.snapshots.now) + length rows.ingests.now ≤ 16777216
 
--- the places that are lent are those of the rows of the lists
+-- the places that are lent are those of the rows of the slices
 pub record AreLent (rows : StoreRows) : Type 0 where
-  pub ingests : rows.places.ingests.now ≡ map (λ row. row.now) rows.ingests.now
-  pub content : rows.places.content.now ≡ map (λ row. row.now) rows.content.now
-  pub snapshots : rows.places.snapshots.now ≡ map (λ row. row.now) rows.snapshots.now
+  pub ingests : rows.places.ingests.now ≡ rows.ingests.now
+  pub content : rows.places.content.now ≡ rows.content.now
+  pub snapshots : rows.places.snapshots.now ≡ rows.snapshots.now
 
 -- the rows can be numbered by their places
 pub record HaveNumbers (rows : StoreRows) : Type 0 where

@@ -153,7 +153,7 @@ impl<'a> NodeBook<'a> {
     }
 
     // Where to look first for what these snapshots reference.
-    pub(crate) fn near_first(&self, rows: &[&SnapRow]) -> Near {
+    pub(crate) fn near_first(&self, rows: &[SnapRow]) -> Near {
         let mut near = Near::first();
         if let Some(row) = rows.first() {
             let key = &row.key;

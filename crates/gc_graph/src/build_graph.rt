@@ -45,15 +45,15 @@ fn edges_of(
     requires { IsSmall rows.now }
     ensures fault { Refuses result None }
     ensures ok { IfOk result (λ edges. edges
-        ≡ map (λ row. targets_in book.now (ingest row.now)) rows.now.ingests.now
-        ++ map (λ row. targets_in book.now (content Full row.now)) rows.now.content.now
-        ++ map (λ row. targets_in book.now (content Flat row.now)) rows.now.content.now
-        ++ map (λ row. targets_in book.now (snapshot Full row.now)) rows.now.snapshots.now
-        ++ map (λ row. targets_in book.now (snapshot Flat row.now)) rows.now.snapshots.now) }
+        ≡ map (λ row. targets_in book.now (ingest row)) rows.now.ingests.now
+        ++ map (λ row. targets_in book.now (content Full row)) rows.now.content.now
+        ++ map (λ row. targets_in book.now (content Flat row)) rows.now.content.now
+        ++ map (λ row. targets_in book.now (snapshot Full row)) rows.now.snapshots.now
+        ++ map (λ row. targets_in book.now (snapshot Flat row)) rows.now.snapshots.now) }
 {
     let count = 2 * (rows.content.len() + rows.snapshots.len()) + rows.ingests.len();
     let mut edges = TargetLists::with_capacity(alloc, count)?;
-    push_ingests(alloc, book, rows.ingests, &mut edges)?;
+    push_ingests(alloc, book, rows.ingests.as_slices(), &mut edges)?;
     push_content(rt, alloc, book, rows.content, workers, &mut edges)?;
     push_snapshots(rt, alloc, book, rows.snapshots, workers, &mut edges)?;
     Ok(edges)
@@ -86,18 +86,18 @@ fn own_of(alloc: Global, rows: &StoreRows<'_>, at: Instant) -> Result<Vec<u32>, 
     requires { IsSmall rows.now }
     ensures fault { Refuses result None }
     ensures ok { IfOk result (λ roots. roots.items
-        ≡ places (λ row. ingest_holds_itself at.0 row.now) 0 rows.now.ingests.now
-        ++ places (λ row. is_marked_root row.now.labels) (length rows.now.ingests.now)
+        ≡ places (λ row. ingest_holds_itself at.0 row) 0 rows.now.ingests.now
+        ++ places (λ row. is_marked_root row.labels) (length rows.now.ingests.now)
         rows.now.content.now
-        ++ places (λ row. is_marked_root row.now.labels)
+        ++ places (λ row. is_marked_root row.labels)
         (length rows.now.ingests.now + 2 * length rows.now.content.now) rows.now.snapshots.now) }
 {
     let mut roots = Vec::new(alloc);
     let content = rows.ingests.len() as u32;
     let snapshots = content + 2 * (rows.content.len() as u32);
-    push_own_ingests(0, rows.ingests, at, &mut roots)?;
-    push_marked_content(content, rows.content, &mut roots)?;
-    push_marked_snapshots(snapshots, rows.snapshots, &mut roots)?;
+    push_own_ingests(0, rows.ingests.as_slices(), at, &mut roots)?;
+    push_marked_content(content, rows.content.as_slices(), &mut roots)?;
+    push_marked_snapshots(snapshots, rows.snapshots.as_slices(), &mut roots)?;
     Ok(roots)
 }
 
@@ -166,7 +166,8 @@ fn ignored_of(alloc: Global, rows: &StoreRows<'_>) -> Result<Ignored, Fault>
 /// Numbers each ingest, and each row of content and of snapshots in both modes; and makes the graph
 /// of their references. Images, containers and leases give roots. Refused where there are more than
 /// 16,777,216 nodes. Labels of content and of snapshots are read by at most `workers` threads; with
-/// one worker, or of fewer than 2,048 rows, by the calling thread alone. No clause says by which.
+/// one worker, or of fewer than 2,048 rows in a slice, by the calling thread alone. No clause says
+/// by which.
 pub fn build<'a>(
     rt: &(impl Threads + Sync),
     alloc: Global,

@@ -1,5 +1,6 @@
 //! The rows of the graph: what each thing references.
 ghost use Rattle.std.specs.Prelude.{◌≡◌, ◌++◌, map, OnOk, None};
+ghost use Rattle.std.specs.List.{flat_map};
 ghost use Rattle.meta_types.specs.Faults.{Refuses};
 ghost use Rattle.meta_types.specs.Paths.{ingest, content, snapshot};
 ghost use Rattle.meta_types.specs.declared.resource.Mode.TheVariants.{Full, Flat};
@@ -12,6 +13,7 @@ use crate::refs::{Lookup, push_labels, push_number};
 use crate::rows::near::Near;
 use mark_core::TargetLists;
 use meta_types::{ContentRow, Fault, IngestRow, Mode, SnapRow};
+use row_tables::Slices;
 use std::alloc::Global;
 use std::thread::Threads;
 
@@ -67,12 +69,12 @@ fn push_parent(
 fn push_full(
     alloc: Global,
     book: &NodeBook<'_>,
-    rows: &[&ContentRow],
+    rows: &[ContentRow],
     full: &mut TargetLists,
 ) -> Result<(), Fault>
     ensures fault { Refuses result None }
     ensures ok { OnOk result (full.new ≡ full.old
-        ++ map (λ row. targets_in book.now (content Full row.now)) rows.now) }
+        ++ map (λ row. targets_in book.now (content Full row)) rows.now) }
 {
     let mut near = Near::first();
     let mut in_full = Vec::new(alloc);
@@ -95,15 +97,15 @@ struct Contents<'b, 'a> {
     book: &'b NodeBook<'a>,
 }
 
-impl<'b, 'a, 'r> RowReader<&'r ContentRow> for Contents<'b, 'a> {
-    ghost full_of = { λ reader row. targets_in reader.book.now (content Full row.now) };
+impl<'b, 'a> RowReader<ContentRow> for Contents<'b, 'a> {
+    ghost full_of = { λ reader row. targets_in reader.book.now (content Full row) };
 
-    ghost flat_of = { λ reader row. targets_in reader.book.now (content Flat row.now) };
+    ghost flat_of = { λ reader row. targets_in reader.book.now (content Flat row) };
 
     fn read(
         &self,
         alloc: Global,
-        rows: &[&'r ContentRow],
+        rows: &[ContentRow],
         full: &mut TargetLists,
         flat: &mut TargetLists,
     ) -> Result<(), Fault> {
@@ -142,15 +144,15 @@ fn push_snapshot(
 fn push_both(
     alloc: Global,
     book: &NodeBook<'_>,
-    rows: &[&SnapRow],
+    rows: &[SnapRow],
     full: &mut TargetLists,
     flat: &mut TargetLists,
 ) -> Result<(), Fault>
     ensures fault { Refuses result None }
     ensures full { OnOk result (full.new ≡ full.old
-        ++ map (λ row. targets_in book.now (snapshot Full row.now)) rows.now) }
+        ++ map (λ row. targets_in book.now (snapshot Full row)) rows.now) }
     ensures flat { OnOk result (flat.new ≡ flat.old
-        ++ map (λ row. targets_in book.now (snapshot Flat row.now)) rows.now) }
+        ++ map (λ row. targets_in book.now (snapshot Flat row)) rows.now) }
 {
     let mut near = book.near_first(rows);
     let mut in_full = Vec::new(alloc);
@@ -171,15 +173,15 @@ struct Snapshots<'b, 'a> {
     book: &'b NodeBook<'a>,
 }
 
-impl<'b, 'a, 'r> RowReader<&'r SnapRow> for Snapshots<'b, 'a> {
-    ghost full_of = { λ reader row. targets_in reader.book.now (snapshot Full row.now) };
+impl<'b, 'a> RowReader<SnapRow> for Snapshots<'b, 'a> {
+    ghost full_of = { λ reader row. targets_in reader.book.now (snapshot Full row) };
 
-    ghost flat_of = { λ reader row. targets_in reader.book.now (snapshot Flat row.now) };
+    ghost flat_of = { λ reader row. targets_in reader.book.now (snapshot Flat row) };
 
     fn read(
         &self,
         alloc: Global,
-        rows: &[&'r SnapRow],
+        rows: &[SnapRow],
         full: &mut TargetLists,
         flat: &mut TargetLists,
     ) -> Result<(), Fault> {
@@ -187,23 +189,41 @@ impl<'b, 'a, 'r> RowReader<&'r SnapRow> for Snapshots<'b, 'a> {
     }
 }
 
-// Adds the rows of ingests.
-pub(crate) fn push_ingests(
+// Adds the rows of ingests of one slice.
+fn push_some_ingests(
     alloc: Global,
     book: &NodeBook<'_>,
-    rows: &[&IngestRow],
+    rows: &[IngestRow],
+    near: &mut Near,
     edges: &mut TargetLists,
 ) -> Result<(), Fault>
     ensures fault { Refuses result None }
     ensures ok { OnOk result (edges.new ≡ edges.old
-        ++ map (λ row. targets_in book.now (ingest row.now)) rows.now) }
+        ++ map (λ row. targets_in book.now (ingest row)) rows.now) }
 {
-    let mut near = Near::first();
     let mut numbers = Vec::new(alloc);
     for row in rows {
         numbers.clear();
-        push_expected(book, row, &mut near, &mut numbers)?;
+        push_expected(book, row, near, &mut numbers)?;
         edges.push(&numbers)?;
+    }
+    Ok(())
+}
+
+// Adds the rows of ingests.
+pub(crate) fn push_ingests(
+    alloc: Global,
+    book: &NodeBook<'_>,
+    slices: &[&[IngestRow]],
+    edges: &mut TargetLists,
+) -> Result<(), Fault>
+    ensures fault { Refuses result None }
+    ensures ok { OnOk result (edges.new ≡ edges.old
+        ++ map (λ row. targets_in book.now (ingest row)) (flat_map (λ rows. rows.now) slices.now)) }
+{
+    let mut near = Near::first();
+    for rows in slices {
+        push_some_ingests(alloc, book, rows, &mut near, edges)?;
     }
     Ok(())
 }
@@ -213,14 +233,14 @@ pub(crate) fn push_content(
     rt: &(impl Threads + Sync),
     alloc: Global,
     book: &NodeBook<'_>,
-    rows: &[&ContentRow],
+    rows: &Slices<'_, ContentRow>,
     workers: usize,
     edges: &mut TargetLists,
 ) -> Result<(), Fault>
     ensures fault { Refuses result None }
     ensures ok { OnOk result (edges.new ≡ edges.old
-        ++ map (λ row. targets_in book.now (content Full row.now)) rows.now
-        ++ map (λ row. targets_in book.now (content Flat row.now)) rows.now) }
+        ++ map (λ row. targets_in book.now (content Full row)) rows.now
+        ++ map (λ row. targets_in book.now (content Flat row)) rows.now) }
 {
     read_rows(rt, alloc, &Contents { book }, rows, workers, edges)
 }
@@ -230,14 +250,14 @@ pub(crate) fn push_snapshots(
     rt: &(impl Threads + Sync),
     alloc: Global,
     book: &NodeBook<'_>,
-    rows: &[&SnapRow],
+    rows: &Slices<'_, SnapRow>,
     workers: usize,
     edges: &mut TargetLists,
 ) -> Result<(), Fault>
     ensures fault { Refuses result None }
     ensures ok { OnOk result (edges.new ≡ edges.old
-        ++ map (λ row. targets_in book.now (snapshot Full row.now)) rows.now
-        ++ map (λ row. targets_in book.now (snapshot Flat row.now)) rows.now) }
+        ++ map (λ row. targets_in book.now (snapshot Full row)) rows.now
+        ++ map (λ row. targets_in book.now (snapshot Flat row)) rows.now) }
 {
     read_rows(rt, alloc, &Snapshots { book }, rows, workers, edges)
 }

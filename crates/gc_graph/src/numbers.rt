@@ -13,6 +13,7 @@ use crate::nodes::{content_node, ingest_node, snapshot_node};
 use crate::rows::StoreRows;
 use crate::rows::places::{content_place, is_snapshot_at, snapshot_place};
 use meta_types::{ContentRow, Digest, Fault, IngestRow, Mode, Name, ShortName, SnapRow};
+use row_tables::Slices;
 
 fn first_content(rows: &StoreRows<'_>, mode: Mode) -> usize
     requires { IsSmall rows.now }
@@ -158,31 +159,41 @@ pub(crate) fn near_snapshot_number(
     Some((first_snapshot(rows, Mode::Full) + place) as u32)
 }
 
-fn ingest_at(rows: &[&IngestRow], place: usize) -> Result<Node, Fault>
-    requires { place < length rows.now }
+fn ingest_at(rows: &Slices<'_, IngestRow>, place: usize) -> Result<Option<Node>, Fault>
     ensures fault { Refuses result None }
-    ensures ok { IfOk result (λ node. Some node
-        ≡ slice_get (map ingest_node (map (λ row. row.now) rows.now)) place) }
+    ensures ok { IfOk result (λ node. node
+        ≡ slice_get (map ingest_node rows.now) place) }
 {
-    Ok(ingest_node(rows[place])?)
+    match rows.at(place) {
+        Some(row) => Ok(Some(ingest_node(row)?)),
+        None => Ok(None),
+    }
 }
 
-fn content_at(rows: &[&ContentRow], place: usize, mode: Mode) -> Result<Node, Fault>
-    requires { place < length rows.now }
+fn content_at(
+    rows: &Slices<'_, ContentRow>,
+    place: usize,
+    mode: Mode,
+) -> Result<Option<Node>, Fault>
     ensures fault { Refuses result None }
-    ensures ok { IfOk result (λ node. Some node
-        ≡ slice_get (map (content_node mode) (map (λ row. row.now) rows.now)) place) }
+    ensures ok { IfOk result (λ node. node
+        ≡ slice_get (map (content_node mode) rows.now) place) }
 {
-    Ok(content_node(rows[place], mode)?)
+    match rows.at(place) {
+        Some(row) => Ok(Some(content_node(row, mode)?)),
+        None => Ok(None),
+    }
 }
 
-fn snapshot_at(rows: &[&SnapRow], place: usize, mode: Mode) -> Result<Node, Fault>
-    requires { place < length rows.now }
+fn snapshot_at(rows: &Slices<'_, SnapRow>, place: usize, mode: Mode) -> Result<Option<Node>, Fault>
     ensures fault { Refuses result None }
-    ensures ok { IfOk result (λ node. Some node
-        ≡ slice_get (map (snapshot_node mode) (map (λ row. row.now) rows.now)) place) }
+    ensures ok { IfOk result (λ node. node
+        ≡ slice_get (map (snapshot_node mode) rows.now) place) }
 {
-    Ok(snapshot_node(rows[place], mode)?)
+    match rows.at(place) {
+        Some(row) => Ok(Some(snapshot_node(row, mode)?)),
+        None => Ok(None),
+    }
 }
 
 /// The node of a number, made from its row.
@@ -193,26 +204,26 @@ pub(crate) fn node_at(rows: &StoreRows<'_>, number: usize) -> Result<Option<Node
 {
     let content = rows.ingests.len();
     if number < content {
-        return Ok(Some(ingest_at(rows.ingests, number)?));
+        return Ok(ingest_at(rows.ingests, number)?);
     }
     let flat_content = content + rows.content.len();
     if number < flat_content {
-        return Ok(Some(content_at(rows.content, number - content, Mode::Full)?));
+        return Ok(content_at(rows.content, number - content, Mode::Full)?);
     }
     let snapshots = flat_content + rows.content.len();
     if number < snapshots {
         let place = number - flat_content;
-        return Ok(Some(content_at(rows.content, place, Mode::Flat)?));
+        return Ok(content_at(rows.content, place, Mode::Flat)?);
     }
     let flat_snapshots = snapshots + rows.snapshots.len();
     if number < flat_snapshots {
         let place = number - snapshots;
-        return Ok(Some(snapshot_at(rows.snapshots, place, Mode::Full)?));
+        return Ok(snapshot_at(rows.snapshots, place, Mode::Full)?);
     }
     let end = flat_snapshots + rows.snapshots.len();
     if number < end {
         let place = number - flat_snapshots;
-        return Ok(Some(snapshot_at(rows.snapshots, place, Mode::Flat)?));
+        return Ok(snapshot_at(rows.snapshots, place, Mode::Flat)?);
     }
     Ok(None)
 }

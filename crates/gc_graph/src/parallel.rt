@@ -7,6 +7,7 @@ use mark_core::TargetLists;
 use meta_types::Fault;
 use rayon::iter::plumbing::LEAST_PIECE;
 use rayon::prelude::*;
+use row_tables::Slices;
 use std::alloc::Global;
 use std::thread::Threads;
 
@@ -104,14 +105,70 @@ fn part_size(count: usize, workers: usize) -> usize
     (count / workers.max(1)).max(LEAST_PIECE)
 }
 
-/// Adds the targets of each row in full, and then those of each in flat. The rows are read in parts
-/// by at most `workers` threads, and the parts joined in order. One worker is the calling thread,
-/// and so are several where there are fewer than 2,048 rows.
+/// What reads rows, and how many threads may read one slice of them.
+#[derive(Drop)]
+struct Reading<'r, R> {
+    alloc: Global,
+    reader: &'r R,
+    workers: usize,
+}
+
+// Adds the targets of each row of one slice, in full and in flat. The rows are read in parts by at
+// most `workers` threads, and the parts joined in order. One worker is the calling thread, and so
+// are several where there are fewer than 2,048 rows.
+fn read_slice<T: Sync, R: RowReader<T>>(
+    rt: &(impl Threads + Sync),
+    reading: &Reading<'_, R>,
+    rows: &[T],
+    full: &mut TargetLists,
+    flat: &mut TargetLists,
+) -> Result<(), Fault>
+    ensures fault { Refuses result None }
+    ensures full { OnOk result (full.new
+        ≡ full.old ++ map (R.full_of reading.now.reader.now) rows.now) }
+    ensures flat { OnOk result (flat.new
+        ≡ flat.old ++ map (R.flat_of reading.now.reader.now) rows.now) }
+{
+    let alloc = reading.alloc;
+    let reader = reading.reader;
+    let size = part_size(rows.len(), reading.workers);
+    if rows.len() / 2 < size {
+        reader.read(alloc, rows, full, flat)?;
+        return Ok(());
+    }
+    let parts = read_parts(rt, alloc, reader, rows, size)?;
+    join_full(&parts, full)?;
+    join_flat(&parts, flat)?;
+    Ok(())
+}
+
+// Adds the targets of each row of all slices, in full and in flat.
+fn read_slices<T: Sync, R: RowReader<T>>(
+    rt: &(impl Threads + Sync),
+    reading: &Reading<'_, R>,
+    slices: &[&[T]],
+    full: &mut TargetLists,
+    flat: &mut TargetLists,
+) -> Result<(), Fault>
+    ensures fault { Refuses result None }
+    ensures full { OnOk result (full.new ≡ full.old
+        ++ map (R.full_of reading.now.reader.now) (flat_map (λ rows. rows.now) slices.now)) }
+    ensures flat { OnOk result (flat.new ≡ flat.old
+        ++ map (R.flat_of reading.now.reader.now) (flat_map (λ rows. rows.now) slices.now)) }
+{
+    for rows in slices {
+        read_slice(rt, reading, rows, full, flat)?;
+    }
+    Ok(())
+}
+
+/// Adds the targets of each row in full, and then those of each in flat, slice by slice. At most
+/// `workers` threads read a slice; fewer than 2,048 rows of one the calling thread reads alone.
 pub(crate) fn read_rows<T: Sync, R: RowReader<T>>(
     rt: &(impl Threads + Sync),
     alloc: Global,
     reader: &R,
-    rows: &[T],
+    rows: &Slices<'_, T>,
     workers: usize,
     edges: &mut TargetLists,
 ) -> Result<(), Fault>
@@ -119,14 +176,13 @@ pub(crate) fn read_rows<T: Sync, R: RowReader<T>>(
     ensures ok { OnOk result (edges.new ≡ edges.old ++ map (R.full_of reader.now) rows.now
         ++ map (R.flat_of reader.now) rows.now) }
 {
-    let size = part_size(rows.len(), workers);
-    if rows.len() / 2 < size {
-        let mut flat = TargetLists::with_capacity(alloc, rows.len())?;
-        reader.read(alloc, rows, edges, &mut flat)?;
-        edges.append(&flat)?;
-        return Ok(());
-    }
-    let parts = read_parts(rt, alloc, reader, rows, size)?;
-    join_full(&parts, edges)?;
-    join_flat(&parts, edges)
+    let mut flat = TargetLists::with_capacity(alloc, rows.len())?;
+    let reading = Reading {
+        alloc,
+        reader,
+        workers,
+    };
+    read_slices(rt, &reading, rows.as_slices(), edges, &mut flat)?;
+    edges.append(&flat)?;
+    Ok(())
 }

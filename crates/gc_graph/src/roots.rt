@@ -210,60 +210,127 @@ fn push_place(number: u32, is_root: bool, roots: &mut Vec<u32>) -> Result<(), Fa
     Ok(())
 }
 
-// Adds the numbers of ingests that hold themselves; the first has the number `base`.
-pub(crate) fn push_own_ingests(
+// Adds the numbers of ingests of one slice that hold themselves; the first has the number `base`.
+// It gives the number behind the last.
+fn push_some_own_ingests(
     base: u32,
-    rows: &[&IngestRow],
+    rows: &[IngestRow],
     at: Instant,
     roots: &mut Vec<u32>,
-) -> Result<(), Fault>
+) -> Result<u32, Fault>
     requires { base + length rows.now ≤ 16777216 }
     ensures fault { Refuses result None }
+    ensures next { IfOk result (λ next. next ≡ base + length rows.now) }
     ensures ok { OnOk result (roots.new.items ≡ roots.old.items
-        ++ places (λ row. ingest_holds_itself at.0 row.now) base rows.now) }
+        ++ places (λ row. ingest_holds_itself at.0 row) base rows.now) }
 {
     let mut number = base;
     for row in rows {
         push_place(number, ingest_holds_itself(row, at), roots)?;
         number += 1;
     }
+    Ok(number)
+}
+
+// Adds the numbers of ingests that hold themselves; the first has the number `base`.
+pub(crate) fn push_own_ingests(
+    base: u32,
+    slices: &[&[IngestRow]],
+    at: Instant,
+    roots: &mut Vec<u32>,
+) -> Result<(), Fault>
+    requires { base + length (flat_map (λ rows. rows.now) slices.now) ≤ 16777216 }
+    ensures fault { Refuses result None }
+    ensures ok { OnOk result (roots.new.items ≡ roots.old.items
+        ++ places (λ row. ingest_holds_itself at.0 row) base
+        (flat_map (λ rows. rows.now) slices.now)) }
+{
+    let mut number = base;
+    for rows in slices {
+        let next = push_some_own_ingests(number, rows, at, roots)?;
+        number = next;
+    }
     Ok(())
 }
 
-// Adds the numbers of content with a root label; the first row has the number `base`.
-pub(crate) fn push_marked_content(
+// Adds the numbers of content of one slice with a root label; the first row has the number `base`.
+// It gives the number behind the last.
+fn push_some_marked_content(
     base: u32,
-    rows: &[&ContentRow],
+    rows: &[ContentRow],
     roots: &mut Vec<u32>,
-) -> Result<(), Fault>
+) -> Result<u32, Fault>
     requires { base + length rows.now ≤ 16777216 }
     ensures fault { Refuses result None }
+    ensures next { IfOk result (λ next. next ≡ base + length rows.now) }
     ensures ok { OnOk result (roots.new.items ≡ roots.old.items
-        ++ places (λ row. is_marked_root row.now.labels) base rows.now) }
+        ++ places (λ row. is_marked_root row.labels) base rows.now) }
 {
     let mut number = base;
     for row in rows {
         push_place(number, is_root(&row.labels), roots)?;
         number += 1;
     }
+    Ok(number)
+}
+
+// Adds the numbers of content with a root label; the first row has the number `base`.
+pub(crate) fn push_marked_content(
+    base: u32,
+    slices: &[&[ContentRow]],
+    roots: &mut Vec<u32>,
+) -> Result<(), Fault>
+    requires { base + length (flat_map (λ rows. rows.now) slices.now) ≤ 16777216 }
+    ensures fault { Refuses result None }
+    ensures ok { OnOk result (roots.new.items ≡ roots.old.items
+        ++ places (λ row. is_marked_root row.labels) base
+        (flat_map (λ rows. rows.now) slices.now)) }
+{
+    let mut number = base;
+    for rows in slices {
+        let next = push_some_marked_content(number, rows, roots)?;
+        number = next;
+    }
     Ok(())
 }
 
-// Adds the numbers of snapshots with a root label; the first has the number `base`.
-pub(crate) fn push_marked_snapshots(
+// Adds the numbers of snapshots of one slice with a root label; the first has the number `base`. It
+// gives the number behind the last.
+fn push_some_marked_snapshots(
     base: u32,
-    rows: &[&SnapRow],
+    rows: &[SnapRow],
     roots: &mut Vec<u32>,
-) -> Result<(), Fault>
+) -> Result<u32, Fault>
     requires { base + length rows.now ≤ 16777216 }
     ensures fault { Refuses result None }
+    ensures next { IfOk result (λ next. next ≡ base + length rows.now) }
     ensures ok { OnOk result (roots.new.items ≡ roots.old.items
-        ++ places (λ row. is_marked_root row.now.labels) base rows.now) }
+        ++ places (λ row. is_marked_root row.labels) base rows.now) }
 {
     let mut number = base;
     for row in rows {
         push_place(number, is_root(&row.labels), roots)?;
         number += 1;
+    }
+    Ok(number)
+}
+
+// Adds the numbers of snapshots with a root label; the first has the number `base`.
+pub(crate) fn push_marked_snapshots(
+    base: u32,
+    slices: &[&[SnapRow]],
+    roots: &mut Vec<u32>,
+) -> Result<(), Fault>
+    requires { base + length (flat_map (λ rows. rows.now) slices.now) ≤ 16777216 }
+    ensures fault { Refuses result None }
+    ensures ok { OnOk result (roots.new.items ≡ roots.old.items
+        ++ places (λ row. is_marked_root row.labels) base
+        (flat_map (λ rows. rows.now) slices.now)) }
+{
+    let mut number = base;
+    for rows in slices {
+        let next = push_some_marked_snapshots(number, rows, roots)?;
+        number = next;
     }
     Ok(())
 }

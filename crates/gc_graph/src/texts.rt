@@ -1,5 +1,6 @@
 //! Tells proofs that the texts of rows are allowed. The loops read and keep nothing.
 ghost use Rattle.std.specs.Prelude.{All};
+ghost use Rattle.std.specs.List.{flat_map};
 ghost use Rattle.meta_types.specs.Text.{IsDigest, IsShortName, IsName};
 ghost use Rattle.gc_graph.specs.Nodes.{AreAllowed};
 ghost use Rattle.gc_graph.specs.Targets.{nodes_of};
@@ -8,8 +9,8 @@ ghost use Rattle.gc_graph.specs.Stored.{records_of};
 use crate::rows::StoreRows;
 use meta_types::{ContentRow, IngestRow, SnapRow};
 
-fn tell_ingests(rows: &[&IngestRow])
-    ensures { All (λ row. IsName row.now.name) rows.now }
+fn tell_some_ingests(rows: &[IngestRow])
+    ensures { All (λ row. IsName row.name) rows.now }
 {
     for row in rows {
         // The text's clause says that it is allowed; nothing else is wanted of it.
@@ -17,8 +18,16 @@ fn tell_ingests(rows: &[&IngestRow])
     }
 }
 
-fn tell_content(rows: &[&ContentRow])
-    ensures { All (λ row. IsDigest row.now.digest) rows.now }
+fn tell_ingests(slices: &[&[IngestRow]])
+    ensures { All (λ row. IsName row.name) (flat_map (λ rows. rows.now) slices.now) }
+{
+    for rows in slices {
+        tell_some_ingests(rows);
+    }
+}
+
+fn tell_some_content(rows: &[ContentRow])
+    ensures { All (λ row. IsDigest row.digest) rows.now }
 {
     for row in rows {
         // The text's clause says that it is allowed; nothing else is wanted of it.
@@ -26,8 +35,16 @@ fn tell_content(rows: &[&ContentRow])
     }
 }
 
-fn tell_snapshotters(rows: &[&SnapRow])
-    ensures { All (λ row. IsShortName row.now.key.snapshotter) rows.now }
+fn tell_content(slices: &[&[ContentRow]])
+    ensures { All (λ row. IsDigest row.digest) (flat_map (λ rows. rows.now) slices.now) }
+{
+    for rows in slices {
+        tell_some_content(rows);
+    }
+}
+
+fn tell_some_snapshotters(rows: &[SnapRow])
+    ensures { All (λ row. IsShortName row.key.snapshotter) rows.now }
 {
     for row in rows {
         // The text's clause says that it is allowed; nothing else is wanted of it.
@@ -35,8 +52,17 @@ fn tell_snapshotters(rows: &[&SnapRow])
     }
 }
 
-fn tell_snapshots(rows: &[&SnapRow])
-    ensures { All (λ row. IsName row.now.key.name) rows.now }
+fn tell_snapshotters(slices: &[&[SnapRow]])
+    ensures { All (λ row. IsShortName row.key.snapshotter)
+        (flat_map (λ rows. rows.now) slices.now) }
+{
+    for rows in slices {
+        tell_some_snapshotters(rows);
+    }
+}
+
+fn tell_some_snapshots(rows: &[SnapRow])
+    ensures { All (λ row. IsName row.key.name) rows.now }
 {
     for row in rows {
         // The text's clause says that it is allowed; nothing else is wanted of it.
@@ -44,12 +70,20 @@ fn tell_snapshots(rows: &[&SnapRow])
     }
 }
 
+fn tell_snapshots(slices: &[&[SnapRow]])
+    ensures { All (λ row. IsName row.key.name) (flat_map (λ rows. rows.now) slices.now) }
+{
+    for rows in slices {
+        tell_some_snapshots(rows);
+    }
+}
+
 // Tells a proof that the texts of all nodes are allowed.
 pub(crate) fn tell_rows(rows: &StoreRows<'_>)
     ensures { AreAllowed (nodes_of (records_of rows.now)) }
 {
-    tell_ingests(rows.ingests);
-    tell_content(rows.content);
-    tell_snapshotters(rows.snapshots);
-    tell_snapshots(rows.snapshots);
+    tell_ingests(rows.ingests.as_slices());
+    tell_content(rows.content.as_slices());
+    tell_snapshotters(rows.snapshots.as_slices());
+    tell_snapshots(rows.snapshots.as_slices());
 }

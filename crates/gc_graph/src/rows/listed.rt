@@ -14,20 +14,20 @@ use meta_types::{
     ContainerRow, ContentRow, Digest, Fault, ImageRow, IngestRow, Name, ShortName, SnapRow,
 };
 use object_tables::ArrivedRows;
-use row_tables::{ArrivedByNamespace, PlacesByNamespace, PlacesBySnapshotter};
+use row_tables::{ArrivedByNamespace, PlacesByNamespace, PlacesBySnapshotter, Slices};
 use std::alloc::Global;
 use std::marker::Model;
 
-/// A list of the rows of each kind, and the places of those that have numbers: contracts see the
-/// records. No row is copied.
+/// A list of the images, of the containers and of the leases; the slices of the rows that have
+/// numbers, and their places: contracts see the records. No row is copied.
 #[derive(Drop)]
 pub struct ListedRows<'a> {
     images: Vec<&'a ImageRow>,
     containers: Vec<&'a ContainerRow>,
     leases: Vec<&'a Lease>,
-    ingests: Vec<&'a IngestRow>,
-    content: Vec<&'a ContentRow>,
-    snapshots: Vec<&'a SnapRow>,
+    ingests: Slices<'a, IngestRow>,
+    content: Slices<'a, ContentRow>,
+    snapshots: Slices<'a, SnapRow>,
     ingest_places: PlacesByNamespace<'a, Name, IngestRow>,
     content_places: PlacesByNamespace<'a, Digest, ContentRow>,
     snapshot_places: PlacesBySnapshotter<'a, Name, SnapRow>,
@@ -46,19 +46,17 @@ impl<'a> Model for ListedRows<'a> {
         namespaces = [];
         images = map (λ row. row.now) l.images.items;
         containers = map (λ row. row.now) l.containers.items;
-        content = map (λ row. row.now) l.content.items;
-        ingests = map (λ row. row.now) l.ingests.items;
-        snapshots = map (λ row. row.now) l.snapshots.items;
+        content = l.content;
+        ingests = l.ingests;
+        snapshots = l.snapshots;
       };
       leases = map (λ row. row.now) l.leases.items;
       next = 1;
       profile = l.profile;
     } };
 
-    ghost invariant = { λ l. HavePlaces
-        l.ingest_places (map (λ row. row.now) l.ingests.items)
-        l.content_places (map (λ row. row.now) l.content.items)
-        l.snapshot_places (map (λ row. row.now) l.snapshots.items) };
+    ghost invariant = { λ l. HavePlaces l.ingest_places l.ingests l.content_places l.content
+        l.snapshot_places l.snapshots };
 }
 
 impl<'a> ListedRows<'a> {
@@ -75,9 +73,9 @@ impl<'a> ListedRows<'a> {
         let images = arrived.images.list_arrived(alloc)?;
         let containers = arrived.containers.list_arrived(alloc)?;
         let held = leases.list_arrived(alloc)?;
-        let ingests = arrived.ingests.list_arrived(alloc)?;
-        let content = arrived.content.list_arrived(alloc)?;
-        let snapshots = arrived.snapshots.list_arrived(alloc)?;
+        let ingests = arrived.ingests.slices(alloc)?;
+        let content = arrived.content.slices(alloc)?;
+        let snapshots = arrived.snapshots.slices(alloc)?;
         let ingest_places = arrived.ingests.places(alloc)?;
         let content_places = arrived.content.places(alloc)?;
         let snapshot_places = arrived.snapshots.places(alloc)?;

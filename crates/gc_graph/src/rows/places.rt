@@ -8,13 +8,19 @@ ghost use Rattle.gc_graph.specs.Stored.{AreLent};
 
 use crate::rows::StoreRows;
 use meta_types::{ContentRow, Digest, Name, ShortName, SnapRow};
+use row_tables::Slices;
 
 // Whether the content stands at a place.
-fn is_content_at(rows: &[&ContentRow], place: usize, ns: &ShortName, digest: &Digest) -> bool
-    ensures { result ≡ option_map_or (λ row. bytes_eq digest.now row.now.digest
-        && bytes_eq ns.now row.now.ns) (slice_get rows.now place) false }
+fn is_content_at(
+    rows: &Slices<'_, ContentRow>,
+    place: usize,
+    ns: &ShortName,
+    digest: &Digest,
+) -> bool
+    ensures { result ≡ option_map_or (λ row. bytes_eq digest.now row.digest
+        && bytes_eq ns.now row.ns) (slice_get rows.now place) false }
 {
-    match rows.get(place) {
+    match rows.at(place) {
         Some(row) => *digest == row.digest && *ns == row.ns,
         None => false,
     }
@@ -41,17 +47,17 @@ pub(crate) fn content_place(
 
 /// Whether the snapshot stands at a place. Its texts are compared, so that none has to be read.
 pub(crate) fn is_snapshot_at(
-    rows: &[&SnapRow],
+    rows: &Slices<'_, SnapRow>,
     place: usize,
     ns: &ShortName,
     snapshotter: &str,
     name: &str,
 ) -> bool
-    ensures { result ≡ option_map_or (λ row. bytes_eq name.now row.now.key.name
-        && bytes_eq snapshotter.now row.now.key.snapshotter && bytes_eq ns.now row.now.key.ns)
+    ensures { result ≡ option_map_or (λ row. bytes_eq name.now row.key.name
+        && bytes_eq snapshotter.now row.key.snapshotter && bytes_eq ns.now row.key.ns)
         (slice_get rows.now place) false }
 {
-    match rows.get(place) {
+    match rows.at(place) {
         Some(row) => is_snapshot(row, ns, snapshotter, name),
         None => false,
     }

@@ -8,6 +8,6 @@ use Rattle.gc_graph.proofs.edges.push_both.Given as goal
 abbrev pub invariant-loop-row : goal.invariant-loop-row
 invariant-loop-row l =
     (l.full ≡ l.fn.full
-    ++ map (λ row. targets_in l.book (snapshot Full row.now)) (take l.row-index l.rows))
+    ++ map (λ row. targets_in l.book (snapshot Full row)) (take l.row-index l.rows))
     × (l.flat ≡ l.fn.flat
-    ++ map (λ row. targets_in l.book (snapshot Flat row.now)) (take l.row-index l.rows))
+    ++ map (λ row. targets_in l.book (snapshot Flat row)) (take l.row-index l.rows))

@@ -7,4 +7,4 @@ use Rattle.gc_graph.proofs.edges.push_full.Given as goal
 -- the rows so far are there
 abbrev pub invariant-loop-row : goal.invariant-loop-row
 invariant-loop-row l = l.full ≡ l.fn.full
-    ++ map (λ row. targets_in l.book (content Full row.now)) (take l.row-index l.rows)
+    ++ map (λ row. targets_in l.book (content Full row)) (take l.row-index l.rows)

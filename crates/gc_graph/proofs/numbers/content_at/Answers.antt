@@ -1,6 +1,12 @@
 use Rattle.gc_graph.specs.Targets.{content_node}
-use Rattle.gc_graph.proofs.NodesAt.{node_there}
+use Rattle.gc_graph.proofs.NodesAt.{node_there, none_there}
 use Rattle.gc_graph.proofs.numbers.content_at.Goals as goal
 
-pub returns-clause-ok : goal.returns-clause-ok
-returns-clause-ok c = node_there (content_node c.args.mode) c.args.rows.now c.args.place c.index-rows-place.result c.in_ok-content_node.field-0 c.requires c.index-rows-place.is c.in_ok-content_node.ensures.ok
+pub returns-in_ok-content_node-in-Some-clause-ok : goal.returns-in_ok-content_node-in-Some-clause-ok
+returns-in_ok-content_node-in-Some-clause-ok c =
+    node_there (content_node c.args.mode) c.args.rows.now c.args.place c.at.result c.in-Some.row
+    c.in_ok-content_node-in-Some.field-0 c.in-Some.is c.at.ensures c.in_ok-content_node-in-Some.ensures.ok
+
+pub returns-in-None-clause-ok : goal.returns-in-None-clause-ok
+returns-in-None-clause-ok c =
+    none_there (content_node c.args.mode) c.args.rows.now c.args.place c.at.result c.in-None.is c.at.ensures

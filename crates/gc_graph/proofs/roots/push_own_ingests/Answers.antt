@@ -1,14 +1,28 @@
-use Rattle.std.proofs.Common.{arith, Bor}
+use Rattle.std.proofs.Common.{arith, Bor, List}
 use Rattle.meta_types.specs.Paths.{ingest_holds_itself}
 use Rattle.meta_types.specs.declared.rows.IngestRow.{IngestRow}
-use Rattle.gc_graph.proofs.RootPlaces.{places_step}
+use Rattle.gc_graph.proofs.RootPlaces.{places_slice}
+use Rattle.gc_graph.proofs.SliceLoops.{fits_next, long_next}
 use Rattle.gc_graph.proofs.roots.push_own_ingests.Goals as goal
 
-pub loop-row-preserved : goal.loop-row-preserved
-loop-row-preserved c =
-    let inv = c.loop-row.invariant in
+-- the numbers of one slice more are small
+pub push_some_own_ingests-requires : goal.push_some_own_ingests-requires
+push_some_own_ingests-requires c =
+    let fits = fits_next (λ (rows : Bor (List IngestRow)). rows.now) c.args.slices.now
+    c.loop-rows.rows-index c.rows-item.result c.loop-rows-test.true c.rows-item.is in
+    omega (arith, fits, c.loop-rows.invariant.number, c.requires)
+
+pub loop-rows-preserved : goal.loop-rows-preserved
+loop-rows-preserved c =
+    let inv = c.loop-rows.invariant in
+    let more = long_next (λ (rows : Bor (List IngestRow)). rows.now) c.args.slices.now
+    c.loop-rows.rows-index c.rows-item.result c.loop-rows-test.true c.rows-item.is in
     record {
-      number = omega (arith, inv.number);
-      roots = places_step (λ (row : Bor IngestRow). ingest_holds_itself c.args.at.0 row.now) c.args.base c.loop-row.number c.loop-row.row-index c.args.roots.now.items c.loop-row.roots.items
-          c.push_place.new.roots.items c.args.rows.now c.row-item.result c.ingest_holds_itself.result c.ingest_holds_itself.ensures inv.number c.loop-row-test.true c.row-item.is inv.roots c.in_ok-push_place.ensures.ok;
+      number = omega (arith, inv.number, more, c.in_ok-next.ensures.next);
+      roots = places_slice (λ (row : IngestRow). ingest_holds_itself c.args.at.0 row)
+          (λ (rows : Bor (List IngestRow)). rows.now) c.args.base c.loop-rows.number c.loop-rows.rows-index
+          c.args.roots.now.items
+          c.loop-rows.roots.items c.push_some_own_ingests.new.roots.items c.args.slices.now
+          c.rows-item.result c.loop-rows-test.true c.rows-item.is inv.number inv.roots
+          c.in_ok-next.ensures.ok;
     }

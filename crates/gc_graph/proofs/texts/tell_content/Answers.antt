@@ -1,14 +1,17 @@
-use Rattle.std.proofs.Common.{Bor, subst}
+use Rattle.std.proofs.Common.{Bor, List}
 use Rattle.std.specs.Prelude.{All}
-use Rattle.std.proofs.lemmas.List.{take_all}
 use Rattle.meta_types.specs.Text.{IsDigest}
 use Rattle.meta_types.specs.declared.rows.ContentRow.{ContentRow}
-use Rattle.gc_graph.proofs.NodesAt.{told_next}
+use Rattle.gc_graph.proofs.SliceLoops.{told_slice, all_slices}
 use Rattle.gc_graph.proofs.texts.tell_content.Goals as goal
 
-pub loop-row-preserved : goal.loop-row-preserved
-loop-row-preserved c =
-    told_next (λ (row : Bor ContentRow). IsDigest row.now.digest) c.args.rows.now c.loop-row.row-index c.row-item.result c.loop-row-test.true c.row-item.is c.text_len-length.ensures.valid c.loop-row.invariant
+pub loop-rows-preserved : goal.loop-rows-preserved
+loop-rows-preserved c =
+    told_slice (λ (rows : Bor (List ContentRow)). rows.now) c.args.slices.now c.loop-rows.rows-index
+    c.rows-item.result c.loop-rows-test.true c.rows-item.is
+    (λ (row : ContentRow). IsDigest row.digest) c.loop-rows.invariant c.tell_some_content.ensures
 
 pub returns : goal.returns
-returns c = subst (All (λ (row : Bor ContentRow). IsDigest row.now.digest)) (take_all c.loop-row.row-index c.args.rows.now c.loop-row-test.false) c.loop-row.invariant
+returns c =
+    all_slices (λ (rows : Bor (List ContentRow)). rows.now)
+    (All (λ (row : ContentRow). IsDigest row.digest)) c.args.slices.now c.loop-rows.rows-index c.loop-rows-test.false c.loop-rows.invariant

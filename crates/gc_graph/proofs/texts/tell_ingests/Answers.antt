@@ -1,14 +1,17 @@
-use Rattle.std.proofs.Common.{Bor, subst}
+use Rattle.std.proofs.Common.{Bor, List}
 use Rattle.std.specs.Prelude.{All}
-use Rattle.std.proofs.lemmas.List.{take_all}
 use Rattle.meta_types.specs.Text.{IsName}
 use Rattle.meta_types.specs.declared.rows.IngestRow.{IngestRow}
-use Rattle.gc_graph.proofs.NodesAt.{told_next}
+use Rattle.gc_graph.proofs.SliceLoops.{told_slice, all_slices}
 use Rattle.gc_graph.proofs.texts.tell_ingests.Goals as goal
 
-pub loop-row-preserved : goal.loop-row-preserved
-loop-row-preserved c =
-    told_next (λ (row : Bor IngestRow). IsName row.now.name) c.args.rows.now c.loop-row.row-index c.row-item.result c.loop-row-test.true c.row-item.is c.text-name.ensures.valid c.loop-row.invariant
+pub loop-rows-preserved : goal.loop-rows-preserved
+loop-rows-preserved c =
+    told_slice (λ (rows : Bor (List IngestRow)). rows.now) c.args.slices.now c.loop-rows.rows-index
+    c.rows-item.result c.loop-rows-test.true c.rows-item.is
+    (λ (row : IngestRow). IsName row.name) c.loop-rows.invariant c.tell_some_ingests.ensures
 
 pub returns : goal.returns
-returns c = subst (All (λ (row : Bor IngestRow). IsName row.now.name)) (take_all c.loop-row.row-index c.args.rows.now c.loop-row-test.false) c.loop-row.invariant
+returns c =
+    all_slices (λ (rows : Bor (List IngestRow)). rows.now)
+    (All (λ (row : IngestRow). IsName row.name)) c.args.slices.now c.loop-rows.rows-index c.loop-rows-test.false c.loop-rows.invariant

@@ -1,14 +1,17 @@
-use Rattle.std.proofs.Common.{Bor, subst}
+use Rattle.std.proofs.Common.{Bor, List}
 use Rattle.std.specs.Prelude.{All}
-use Rattle.std.proofs.lemmas.List.{take_all}
 use Rattle.meta_types.specs.Text.{IsName}
 use Rattle.meta_types.specs.declared.rows.SnapRow.{SnapRow}
-use Rattle.gc_graph.proofs.NodesAt.{told_next}
+use Rattle.gc_graph.proofs.SliceLoops.{told_slice, all_slices}
 use Rattle.gc_graph.proofs.texts.tell_snapshots.Goals as goal
 
-pub loop-row-preserved : goal.loop-row-preserved
-loop-row-preserved c =
-    told_next (λ (row : Bor SnapRow). IsName row.now.key.name) c.args.rows.now c.loop-row.row-index c.row-item.result c.loop-row-test.true c.row-item.is c.text-name.ensures.valid c.loop-row.invariant
+pub loop-rows-preserved : goal.loop-rows-preserved
+loop-rows-preserved c =
+    told_slice (λ (rows : Bor (List SnapRow)). rows.now) c.args.slices.now c.loop-rows.rows-index
+    c.rows-item.result c.loop-rows-test.true c.rows-item.is
+    (λ (row : SnapRow). IsName row.key.name) c.loop-rows.invariant c.tell_some_snapshots.ensures
 
 pub returns : goal.returns
-returns c = subst (All (λ (row : Bor SnapRow). IsName row.now.key.name)) (take_all c.loop-row.row-index c.args.rows.now c.loop-row-test.false) c.loop-row.invariant
+returns c =
+    all_slices (λ (rows : Bor (List SnapRow)). rows.now)
+    (All (λ (row : SnapRow). IsName row.key.name)) c.args.slices.now c.loop-rows.rows-index c.loop-rows-test.false c.loop-rows.invariant

@@ -1,8 +1,10 @@
 use Rattle.std.proofs.Common.{take}
 use Rattle.std.specs.Prelude.{All}
+use Rattle.std.specs.List.{flat_map}
 use Rattle.meta_types.specs.Text.{IsName}
 use Rattle.gc_graph.proofs.texts.tell_snapshots.Given as goal
 
--- the texts of the rows so far are allowed
-abbrev pub invariant-loop-row : goal.invariant-loop-row
-invariant-loop-row l = All (λ row. IsName row.now.key.name) (take l.row-index l.rows)
+-- the texts of the slices so far are allowed
+abbrev pub invariant-loop-rows : goal.invariant-loop-rows
+invariant-loop-rows l =
+    All (λ row. IsName row.key.name) (flat_map (λ rows. rows.now) (take l.rows-index l.slices))

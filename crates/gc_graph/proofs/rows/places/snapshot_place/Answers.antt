@@ -1,4 +1,4 @@
-use Rattle.std.proofs.Common.{false, sym, ◌∙◌, Bor}
+use Rattle.std.proofs.Common.{false, sym, ◌∙◌}
 use Rattle.std.specs.Prelude.{◌&&◌, bytes_eq, slice_get}
 use Rattle.std.specs.Option.{option_map_or}
 use Rattle.meta_types.specs.declared.rows.SnapRow.{SnapRow}
@@ -11,8 +11,8 @@ returns-then-is_snapshot_at c =
     let rows = c.args.rows.now in
     snapshot_there c.args.ns.now c.args.snapshotter.now c.args.name.now rows.snapshots.now
     rows.places.snapshots.now c.args.near c.requires.snapshots c.len-count.ensures.distinct
-    ((λ i. option_map_or (λ (row : Bor SnapRow).
-    bytes_eq (sym c.text-2.ensures.text i) row.now.key.name
-    && bytes_eq (sym c.text.ensures.text i) row.now.key.snapshotter
-    && bytes_eq c.args.ns.now row.now.key.ns) (slice_get rows.snapshots.now c.args.near) false)
+    ((λ i. option_map_or (λ (row : SnapRow).
+    bytes_eq (sym c.text-2.ensures.text i) row.key.name
+    && bytes_eq (sym c.text.ensures.text i) row.key.snapshotter
+    && bytes_eq c.args.ns.now row.key.ns) (slice_get rows.snapshots.now c.args.near) false)
     ∙ sym c.is_snapshot_at.ensures ∙ c.if-is_snapshot_at.true)

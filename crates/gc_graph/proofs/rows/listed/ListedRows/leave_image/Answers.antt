@@ -2,10 +2,7 @@ use Rattle.std.proofs.Common.{◌≡◌, ◌∷◌, [], ◌∙◌, ap, map, filt
 use Rattle.std.proofs.lemmas.Fn.{filter_same}
 use Rattle.meta_types.specs.Rows.{Records, LeaseRow, image_key}
 use Rattle.meta_types.specs.declared.rows.ContainerRow.{ContainerRow}
-use Rattle.meta_types.specs.declared.rows.ContentRow.{ContentRow}
 use Rattle.meta_types.specs.declared.rows.ImageRow.{ImageRow}
-use Rattle.meta_types.specs.declared.rows.IngestRow.{IngestRow}
-use Rattle.meta_types.specs.declared.rows.SnapRow.{SnapRow}
 use Rattle.gc_graph.specs.Others.{is_other}
 use Rattle.gc_graph.proofs.LentRows.{lent_filter}
 use Rattle.gc_graph.proofs.rows.listed.ListedRows.leave_image.Goals as goal
@@ -28,9 +25,9 @@ returns c =
         namespaces = [];
         images = left i;
         containers = map (λ (row : Bor ContainerRow). row.now) inside.containers.items;
-        content = map (λ (row : Bor ContentRow). row.now) inside.content.items;
-        ingests = map (λ (row : Bor IngestRow). row.now) inside.ingests.items;
-        snapshots = map (λ (row : Bor SnapRow). row.now) inside.snapshots.items;
+        content = inside.content;
+        ingests = inside.ingests;
+        snapshots = inside.snapshots;
       };
       leases = map (λ (row : Bor LeaseRow). row.now) inside.leases.items;
       next = 1;

@@ -1,6 +1,6 @@
 use Rattle.std.proofs.Common.{◌++◌, ◌∙◌, [], length, ap, refl}
 use Rattle.std.proofs.lemmas.Simd.{splat_is_map}
-use Rattle.gc_graph.proofs.edges.ContentsRowReaderRefContentRow.read.Goals as goal
+use Rattle.gc_graph.proofs.edges.ContentsRowReaderContentRow.read.Goals as goal
 
 -- each row has an empty list in flat
 pub returns-clause-flat : goal.returns-clause-flat
