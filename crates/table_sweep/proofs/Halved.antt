@@ -60,7 +60,7 @@ module _ (name : Text × ℕ) where
     next : (k : ℕ) (d : Listed) → k + 1 < length xs → name_cmp (at k d) (at (k + 1) d) ≡ Less
     next k d lt = is_less (name_cmp (at k d) (at (k + 1) d)) (listed k d lt)
 
-    far : (m i j : ℕ) (d : Listed) → j ≡ i + m + 1 → j < length xs → name_cmp (at i d) (at j d) ≡ Less
+    pub far : (m i j : ℕ) (d : Listed) → j ≡ i + m + 1 → j < length xs → name_cmp (at i d) (at j d) ≡ Less
     far zero i j d e lt = subst (λ (n : ℕ). name_cmp (at i d) (at n d) ≡ Less) {x = i + 1} {y = j} (omega (arith, e)) (next i d (omega (arith, e, lt)))
     far (suc m) i j d e lt =
         name_total.trans (at i d) (at (j - 1) d) (at j d) (far m i (j - 1) d (omega (arith, e)) (omega (arith, e, lt)))

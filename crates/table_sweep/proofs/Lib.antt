@@ -4,12 +4,15 @@ pub mod Swept
 pub mod Gone
 pub mod Counted
 pub mod Owning
+pub mod InSlices
 pub mod OwnedBlobs
 pub mod Unnamed
 pub mod Searched
 pub mod FirstPlace
 pub mod Halved
+pub mod Runs
 pub mod Steps
+pub mod Sought
 pub mod Deep
 pub mod SortedObjects
 pub mod SortedRows
@@ -24,3 +27,4 @@ pub mod Fitting
 pub mod NumbersLeft
 pub mod ByPaths
 pub mod DistinctNames
+pub mod Carried

@@ -1,5 +1,5 @@
 -- Marks of the blobs that rows own.
-use Rattle.std.proofs.Common.{◌≡◌, ℕ, zero, suc, ◌+◌, ◌<◌, Bool, true, false, cond, not, List, [], ◌∷◌, ◌++◌, map, filter, length, get_or, take, refl, sym, ap, ◌∙◌, subst, inl, inr, Bor, Option, Some, None, if◌then◌else◌, true≢false}
+use Rattle.std.proofs.Common.{◌≡◌, ℕ, zero, suc, ◌+◌, ◌<◌, Bool, true, false, cond, not, List, [], ◌∷◌, ◌++◌, map, filter, length, get_or, take, refl, sym, ap, ◌∙◌, subst, inl, inr, Option, Some, None, if◌then◌else◌, true≢false}
 use Rattle.std.specs.Prelude.{◌&&◌, ◌||◌, bytes_eq, slice_get, slice_set}
 use Rattle.std.specs.List.{position, IsDistinct, AllByRecursion}
 use Rattle.std.specs.Option.{option_map, option_map_or}
@@ -22,7 +22,7 @@ use Rattle.row_tables.proofs.Arrivals.{stayed, kept_is}
 use Rattle.row_tables.proofs.KeysOnce.{kept_apart}
 use Rattle.table_sweep.specs.Masks.{gone}
 use Rattle.table_sweep.specs.Owned.{owns_blob}
-use Rattle.table_sweep.proofs.Owning.{kept_step}
+use Rattle.table_sweep.proofs.InSlices.{kept_now}
 use Rattle.table_sweep.proofs.Gone.{names_step}
 use Rattle.table_sweep.proofs.MasksFilter.{gone_is}
 
@@ -139,20 +139,20 @@ owned_more : (rows : List ContentRow) (row : ContentRow) (stays : Bool) (digest 
 owned_more rows row true digest = list_any-append (λ other. bytes_eq other.digest digest) rows (row ∷ []) ∙ or_turned (owns_blob rows digest) (bytes_eq row.digest digest || false) ∙ ap (λ b. b || owns_blob rows digest) (or_none (bytes_eq row.digest digest))
 owned_more rows row false digest = list_any-append (λ other. bytes_eq other.digest digest) rows [] ∙ or_none (owns_blob rows digest)
 
-abbrev row_of : Bor ContentRow → ContentRow
-row_of row = row.now
-
-pub owned_step : (blobs : List Text) (mask : List Bool) (rows : List (Bor ContentRow)) (i : ℕ) (d : Bool) (row : Bor ContentRow) (now new : List Bool)
+pub owned_step : (blobs : List Text) (mask : List Bool) (rows : List ContentRow) (i : ℕ) (d : Bool)
+    (row : ContentRow) (start : List ContentRow) (now new : List Bool)
     → length mask ≡ length rows → i < length rows → row ≡ get_or rows i row
-    → now ≡ map (owns_blob (map (λ (r : Bor ContentRow). r.now) (kept (take i mask) (take i rows)))) blobs
-    → ((before : Text → Bool) → now ≡ map before blobs → new ≡ map (λ other. (get_or mask i d && bytes_eq row.now.digest other) || before other) blobs)
-    → new ≡ map (owns_blob (map (λ (r : Bor ContentRow). r.now) (kept (take (i + 1) mask) (take (i + 1) rows)))) blobs
-owned_step blobs mask rows i d row now new long lt item is step =
-    let before = map row_of (kept (take i mask) (take i rows)) in
-    let more = before ++ (if get_or mask i d then row_of row ∷ [] else []) in
+    → now ≡ map (owns_blob (start ++ kept (take i mask) (take i rows))) blobs
+    → ((before : Text → Bool) → now ≡ map before blobs → new ≡ map
+    (λ other. (get_or mask i d && bytes_eq row.digest other) || before other) blobs)
+    → new ≡ map (owns_blob (start ++ kept (take (i + 1) mask) (take (i + 1) rows))) blobs
+owned_step blobs mask rows i d row start now new long lt item is step =
+    let before : List ContentRow = start ++ kept (take i mask) (take i rows) in
+    let more : List ContentRow = before ++ (if get_or mask i d then row ∷ [] else []) in
     step (owns_blob before) is
-    ∙ (λ j. map (λ other. sym (owned_more before (row_of row) (get_or mask i d) other) j) blobs)
-    ∙ ap (λ l. map (owns_blob l) blobs) (kept_step row_of mask rows i d row before more long lt item refl refl)
+    ∙ (λ j. map (λ other. sym (owned_more before row (get_or mask i d) other) j) blobs)
+    ∙ ap (λ (l : List ContentRow). map (owns_blob l) blobs)
+    (kept_now mask rows i d row start before more long lt item refl refl)
 
 -- ---- what no row owns
 

@@ -32,18 +32,3 @@ kept_step name mask rows i d row now new long lt item is step =
     = (λ j. kept (take_next mask i b lt_mask same j) (take_next rows i row lt item j))
     ∙ kept_next (take i mask) (take i rows) b row (length-take-le i mask (omega (arith, lt_mask)) ∙ sym (length-take-le i rows (omega (arith, lt)))) in
     step ∙ (λ j. is j ++ sym (map_if name b row) j) ∙ sym (map-append name before (if b then row ∷ [] else [])) ∙ ap (map name) (sym next)
-
--- borrowed rows have the objects of the rows
-pub kept_of : {Row X Name : Type 0} (now : Row → X) (name : X → Name) (mask : List Bool) (rows : List Row) → map (λ row. name (now row)) (kept mask rows) ≡ map name (kept mask (map now rows))
-kept_of now name [] [] = refl
-kept_of now name [] (row ∷ rows) = refl
-kept_of now name (b ∷ mask) [] = refl
-kept_of now name (true ∷ mask) (row ∷ rows) = ap (λ rest. name (now row) ∷ rest) (kept_of now name mask rows)
-kept_of now name (false ∷ mask) (row ∷ rows) = kept_of now name mask rows
-
-pub kept_now : {Row X : Type 0} (now : Row → X) (mask : List Bool) (rows : List Row) → map now (kept mask rows) ≡ kept mask (map now rows)
-kept_now now [] [] = refl
-kept_now now [] (row ∷ rows) = refl
-kept_now now (b ∷ mask) [] = refl
-kept_now now (true ∷ mask) (row ∷ rows) = ap (λ rest. now row ∷ rest) (kept_now now mask rows)
-kept_now now (false ∷ mask) (row ∷ rows) = kept_now now mask rows

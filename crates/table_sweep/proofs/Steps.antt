@@ -3,7 +3,6 @@ use Rattle.std.proofs.Common.{◌≡◌, ℕ, zero, suc, ◌+◌, ◌-◌, ◌<�
 use Rattle.std.specs.Prelude.{option_and_then, find, position}
 use Rattle.std.specs.Option.{option_map_or}
 use Rattle.std.specs.List.{range_with_len}
-use Rattle.std.proofs.lemmas.List.{length-map}
 use Rattle.std.proofs.lemmas.List.FromFn.{map-range_with_len_more}
 use Rattle.std.proofs.lemmas.Option.{slice_get-map}
 use Rattle.table_sweep.specs.Depths.{Listed, above_of, depth_in}
@@ -90,14 +89,14 @@ module _ (snapshots : List Listed) where
   above_known : (place : ℕ) (snap : Listed) → slice_get snapshots place ≡ Some snap → above_from places place ≡ above_place snapshots snap
   above_known place snap e = ap (option_and_then (λ above. above)) (slice_get-map (above_place snapshots) snapshots place ∙ ap (option_map (above_place snapshots)) e)
 
-  above_tied : (snap : Listed) → AreTied snapshots (above_place snapshots snap) (above_of snapshots snap)
+  pub above_tied : (snap : Listed) → AreTied snapshots (above_place snapshots snap) (above_of snapshots snap)
   above_tied snap = go snap.2
     where
       go : (o : Option ℕ) → AreTied snapshots (option_and_then (λ number. position (has_name (name_of snap number)) snapshots) o) (option_and_then (λ number. find (has_name (name_of snap number)) snapshots) o)
       go None = tt
       go (Some number) = tied (has_name (name_of snap number)) snapshots
 
-  deep_is : (most place : ℕ) (snap : Listed) → slice_get snapshots place ≡ Some snap → deep most places place ≡ depth_in most snapshots snap
+  pub deep_is : (most place : ℕ) (snap : Listed) → slice_get snapshots place ≡ Some snap → deep most places place ≡ depth_in most snapshots snap
   deep_is zero place snap e = refl
   deep_is (suc most) place snap e =
       ap (λ o. option_map_or (λ above. suc (deep most places above)) o zero) (above_known place snap e)
@@ -110,17 +109,3 @@ module _ (snapshots : List Listed) where
       go (Some next) (Some above) t h = ap suc (h next above t)
       go None (Some above) t h = absurd t
       go (Some next) None t h = absurd t
-
-each_place : {X Y : Type 0} (g : ℕ → Y) (h : X → Y) (a : ℕ) (xs : List X) → ((i : ℕ) (x : X) → slice_get xs i ≡ Some x → g (a + i) ≡ h x) → map g (range_with_len a (length xs)) ≡ map h xs
-each_place g h a [] same = refl
-each_place g h a (x ∷ xs) same =
-    let first : a + 0 ≡ a = omega arith in
-    let rest = each_place g h (a + 1) xs (λ i y e. let next : a + 1 + i ≡ a + suc i = omega arith in ap g next ∙ same (suc i) y e) in
-    λ i. (sym (ap g first) ∙ same 0 x refl) i ∷ rest i
-
--- depths by places are those of the snapshots
-pub depths_are : (snapshots : List Listed) → depths_to (map (above_place snapshots) snapshots) (length (map (above_place snapshots) snapshots)) ≡ map (depth_in (length snapshots) snapshots) snapshots
-depths_are snapshots =
-    let aboves = map (above_place snapshots) snapshots in
-    ap (λ n. map (deep n aboves) (range_with_len 0 n)) (length-map snapshots (above_place snapshots))
-    ∙ each_place (deep (length snapshots) aboves) (depth_in (length snapshots) snapshots) 0 snapshots (λ i snap e. let place : 0 + i ≡ i = omega arith in ap (deep (length snapshots) aboves) place ∙ deep_is snapshots (length snapshots) i snap e)

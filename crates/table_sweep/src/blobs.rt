@@ -1,5 +1,5 @@
 //! The blobs that no row owns, in the order of their digests.
-ghost use Rattle.std.specs.Prelude.{◌≡◌, ◌<◌, ◌++◌, ◌∷◌, [], map, filter, length, not, false, bytes_eq, ◌&&◌, ◌||◌, if◌then◌else◌, OnOk, None, IfOk, IfSome, Bool, position, slice_get};
+ghost use Rattle.std.specs.Prelude.{◌≡◌, ◌<◌, ◌++◌, ◌∷◌, [], map, filter, length, not, false, bytes_eq, ◌&&◌, ◌||◌, if◌then◌else◌, List, OnOk, None, IfOk, IfSome, Bool, position, slice_get};
 ghost use Rattle.std.specs.Option.{option_map_or};
 ghost use Rattle.std.specs.List.Sorted.{IsPermutation};
 ghost use Rattle.meta_types.specs.Keys.{is_key};
@@ -12,9 +12,9 @@ ghost use Rattle.table_sweep.specs.Masks.{gone};
 ghost use Rattle.table_sweep.specs.Owned.{owns_blob};
 
 use crate::masks::count_gone;
-use crate::near::{Near, nearly_in_order, push_near};
+use crate::near::{Near, nearly_in_order, push_all_near};
 use meta_types::{ContentRow, Digest, Fault};
-use row_tables::RowTable;
+use row_tables::{RowTable, Slices};
 use std::alloc::Global;
 use std::cmp::Ordering;
 
@@ -49,7 +49,8 @@ fn mark_blob(
     owned: &mut Vec<bool>,
 ) -> usize
     requires { length owned.old.items ≡ length blobs.now }
-    ensures { (before : Text → Bool) → owned.old.items ≡ map before blobs.now
+    ensures length { length owned.new.items ≡ length owned.old.items }
+    ensures marks { (before : Text → Bool) → owned.old.items ≡ map before blobs.now
         → owned.new.items ≡ map (λ other. bytes_eq digest.now other || before other) blobs.now }
 {
     // No digest stands twice.
@@ -69,7 +70,9 @@ fn own_blob(
     owned: &mut Vec<bool>,
 )
     requires { length owned.old.items ≡ length blobs.now }
-    ensures { (before : Text → Bool) → owned.old.items ≡ map before blobs.now → owned.new.items
+    ensures length { length owned.new.items ≡ length owned.old.items }
+    ensures marks { (before : Text → Bool) → owned.old.items ≡ map before blobs.now
+        → owned.new.items
         ≡ map (λ other. (stays && bytes_eq row.now.digest other) || before other) blobs.now }
 {
     let near = *next;
@@ -80,23 +83,45 @@ fn own_blob(
     *next = mark_blob(blobs, near, &row.digest, owned).saturating_add(1);
 }
 
+// Marks the blobs that the rows in a slice own, of those that stay.
+fn own_blobs(
+    blobs: &RowTable<Digest, Digest>,
+    next: &mut usize,
+    rows: &[ContentRow],
+    mask: &[bool],
+    owned: &mut Vec<bool>,
+)
+    requires mask { length mask.now ≡ length rows.now }
+    requires owned { length owned.old.items ≡ length blobs.now }
+    ensures { (before : List ContentRow) → owned.old.items ≡ map (owns_blob before) blobs.now
+        → owned.new.items ≡ map (owns_blob (before ++ kept mask.now rows.now)) blobs.now }
+{
+    for (i, row) in rows.iter().enumerate() {
+        own_blob(blobs, next, row, mask[i], owned);
+    }
+}
+
 // For each place of a blob, whether a row that stays owns it. Most blobs stand as the rows do: so
 // the blob behind the last one is tried first.
 fn owned_blobs(
     alloc: Global,
-    rows: &[&ContentRow],
+    rows: &Slices<'_, ContentRow>,
     mask: &[bool],
     blobs: &RowTable<Digest, Digest>,
 ) -> Result<Vec<bool>, Fault>
     requires { length mask.now ≡ length rows.now }
     ensures fault { Refuses result None }
     ensures ok { IfOk result (λ owned. owned.items
-        ≡ map (owns_blob (map (λ row. row.now) (kept mask.now rows.now))) blobs.now) }
+        ≡ map (owns_blob (kept mask.now rows.now)) blobs.now) }
 {
     let mut owned = Vec::from_elem(alloc, false, blobs.len())?;
     let mut next = 0;
-    for (i, row) in rows.iter().enumerate() {
-        own_blob(blobs, &mut next, row, mask[i], &mut owned);
+    let mut rest = mask;
+    let slices = rows.as_slices();
+    for slice in slices {
+        let (here, behind) = rest.split_at(slice.len());
+        own_blobs(blobs, &mut next, slice, here, &mut owned);
+        rest = behind;
     }
     Ok(owned)
 }
@@ -155,9 +180,7 @@ fn near_unowned<'a>(
         ≡ gone owned.now blobs.now) }
 {
     let mut near = Vec::with_capacity(alloc, count_gone(owned))?;
-    for (i, digest) in blobs.iter().enumerate() {
-        push_near(digest, owned[i], &mut near)?;
-    }
+    push_all_near(blobs, owned, &mut near)?;
     Ok(near)
 }
 
@@ -196,14 +219,14 @@ fn digests_in_order(digests: Vec<Digest>) -> Result<Vec<Digest>, Fault>
 // is sorted.
 pub(crate) fn blobs_gone(
     alloc: Global,
-    rows: &[&ContentRow],
+    rows: &Slices<'_, ContentRow>,
     mask: &[bool],
     blobs: &RowTable<Digest, Digest>,
 ) -> Result<(Vec<Digest>, Vec<bool>), Fault>
     requires { length mask.now ≡ length rows.now }
     ensures fault { Refuses result None }
-    ensures ok { IfOk result (λ made. made.0.items ≡ filter (λ digest. not
-        (owns_blob (map (λ row. row.now) (kept mask.now rows.now)) digest))
+    ensures ok { IfOk result (λ made. made.0.items ≡ filter
+        (λ digest. not (owns_blob (kept mask.now rows.now) digest))
         (sorted one_text blobs.now)) }
     ensures marks { IfOk result (λ made. AreBlobMarks made.0.items blobs.now made.1.items) }
 {

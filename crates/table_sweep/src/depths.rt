@@ -3,8 +3,8 @@ ghost use Rattle.std.specs.Prelude.{◌≡◌, ◌<◌, ◌≤◌, map, length, 
 ghost use Rattle.std.specs.List.Sorted.{IsPermutation};
 ghost use Rattle.meta_types.specs.Faults.{Refuses};
 ghost use Rattle.meta_types.specs.Keys.{in_order};
-ghost use Rattle.table_sweep.specs.Depths.{depth_in, is_first, key_cmp, key_name};
-ghost use Rattle.table_sweep.specs.SnapshotPlaces.{above_from, deep, depths_to};
+ghost use Rattle.table_sweep.specs.Depths.{is_first, key_cmp, key_name};
+ghost use Rattle.table_sweep.specs.SnapshotPlaces.{above_from, deep, depths_to, AreDepths};
 
 use crate::places::aboves_of;
 use meta_types::{Fault, ShortName};
@@ -70,14 +70,19 @@ fn depths_in(alloc: Global, aboves: &[Option<usize>]) -> Result<Vec<usize>, Faul
     Ok(depths)
 }
 
-// How many ancestors each snapshot has; parents are followed at most as often as there are
-// snapshots.
-pub(crate) fn depths_of(alloc: Global, snapshots: &[BackSnap]) -> Result<Vec<usize>, Fault>
+// How many ancestors each snapshot has that goes; parents are followed at most as often as there
+// are snapshots.
+pub(crate) fn depths_of(
+    alloc: Global,
+    snapshots: &[BackSnap],
+    goes: &[bool],
+) -> Result<Vec<usize>, Fault>
+    requires { length goes.now ≡ length snapshots.now }
     ensures fault { Refuses result None }
-    ensures ok { IfOk result (λ depths. depths.items
-        ≡ map (depth_in (length snapshots.now) snapshots.now) snapshots.now) }
+    ensures count { IfOk result (λ depths. length depths.items ≡ length snapshots.now) }
+    ensures ok { IfOk result (λ depths. AreDepths snapshots.now goes.now depths.items) }
 {
-    let aboves = aboves_of(alloc, snapshots)?;
+    let aboves = aboves_of(alloc, snapshots, goes)?;
     let depths = depths_in(alloc, &aboves)?;
     Ok(depths)
 }

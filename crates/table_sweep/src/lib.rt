@@ -15,9 +15,11 @@ mod pass;
 mod places;
 mod planning;
 mod sorting;
+mod together;
 
 pub use depths::BackSnap;
 pub use masks::{Masks, masks_of};
 pub use objects::BackRows;
 pub use pass::sweep;
 pub use planning::{Plan, plan_of};
+pub use together::Team;

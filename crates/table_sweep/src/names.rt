@@ -15,6 +15,7 @@ use crate::sorting::{digests_in_order, names_in_order, snapshots_in_order};
 use gc_graph::StoreRows;
 use gc_report::Removed;
 use meta_types::{ContentRow, Digest, Fault, ImageRow, IngestRow, Name, ShortName, SnapRow};
+use row_tables::Slices;
 use std::alloc::Global;
 
 fn push_image(row: &ImageRow, stays: bool, names: &mut Vec<(ShortName, Name)>) -> Result<(), Fault>
@@ -60,19 +61,40 @@ fn push_ingest(
     Ok(())
 }
 
+// Adds the names of those in a slice that go.
+fn push_ingests(
+    rows: &[IngestRow],
+    mask: &[bool],
+    names: &mut Vec<(ShortName, Name)>,
+) -> Result<(), Fault>
+    requires { length mask.now ≡ length rows.now }
+    ensures fault { Refuses result None }
+    ensures ok { OnOk result (names.new.items ≡ names.old.items
+        ++ map (λ row. (row.ns, row.name)) (gone mask.now rows.now)) }
+{
+    for (i, row) in rows.iter().enumerate() {
+        push_ingest(row, mask[i], names)?;
+    }
+    Ok(())
+}
+
 fn ingest_names(
     alloc: Global,
-    rows: &[&IngestRow],
+    rows: &Slices<'_, IngestRow>,
     mask: &[bool],
 ) -> Result<Vec<(ShortName, Name)>, Fault>
     requires { length mask.now ≡ length rows.now }
     ensures fault { Refuses result None }
     ensures ok { IfOk result (λ names. names.items
-        ≡ map (λ row. (row.now.ns, row.now.name)) (gone mask.now rows.now)) }
+        ≡ map (λ row. (row.ns, row.name)) (gone mask.now rows.now)) }
 {
     let mut names = Vec::with_capacity(alloc, count_gone(mask))?;
-    for (i, row) in rows.iter().enumerate() {
-        push_ingest(row, mask[i], &mut names)?;
+    let mut rest = mask;
+    let slices = rows.as_slices();
+    for slice in slices {
+        let (here, behind) = rest.split_at(slice.len());
+        push_ingests(slice, here, &mut names)?;
+        rest = behind;
     }
     Ok(names)
 }
@@ -92,21 +114,42 @@ fn push_content(
     Ok(())
 }
 
+// Adds the names of content in a slice that goes.
+fn push_all_content(
+    rows: &[ContentRow],
+    mask: &[bool],
+    names: &mut Vec<(ShortName, Digest)>,
+) -> Result<(), Fault>
+    requires { length mask.now ≡ length rows.now }
+    ensures fault { Refuses result None }
+    ensures ok { OnOk result (names.new.items ≡ names.old.items
+        ++ map (λ row. (row.ns, row.digest)) (gone mask.now rows.now)) }
+{
+    for (i, row) in rows.iter().enumerate() {
+        push_content(row, mask[i], names)?;
+    }
+    Ok(())
+}
+
 // The names of content, as it arrived.
 fn content_as_arrived(
     names: Vec<(ShortName, Digest)>,
-    rows: &[&ContentRow],
+    rows: &Slices<'_, ContentRow>,
     mask: &[bool],
 ) -> Result<Vec<(ShortName, Digest)>, Fault>
     requires length { length mask.now ≡ length rows.now }
     requires empty { names.items ≡ [] }
     ensures fault { Refuses result None }
     ensures ok { IfOk result (λ names. names.items
-        ≡ map (λ row. (row.now.ns, row.now.digest)) (gone mask.now rows.now)) }
+        ≡ map (λ row. (row.ns, row.digest)) (gone mask.now rows.now)) }
 {
     let mut names = names;
-    for (i, row) in rows.iter().enumerate() {
-        push_content(row, mask[i], &mut names)?;
+    let mut rest = mask;
+    let slices = rows.as_slices();
+    for slice in slices {
+        let (here, behind) = rest.split_at(slice.len());
+        push_all_content(slice, here, &mut names)?;
+        rest = behind;
     }
     Ok(names)
 }
@@ -132,13 +175,13 @@ fn content_as_listed(
 // The names of content that goes: nearly in order, where there is memory for that.
 fn content_names(
     alloc: Global,
-    rows: &[&ContentRow],
+    rows: &Slices<'_, ContentRow>,
     mask: &[bool],
 ) -> Result<Vec<(ShortName, Digest)>, Fault>
     requires { length mask.now ≡ length rows.now }
     ensures fault { Refuses result None }
     ensures ok { IfOk result (λ names. IsPermutation
-        (map (λ row. (row.now.ns, row.now.digest)) (gone mask.now rows.now)) names.items) }
+        (map (λ row. (row.ns, row.digest)) (gone mask.now rows.now)) names.items) }
 {
     let names = Vec::with_capacity(alloc, count_gone(mask))?;
     let Ok(near) = nearly_sorted(alloc, rows, mask) else {
@@ -152,13 +195,13 @@ fn content_names(
 // The names of content that goes, in key order.
 fn content_gone(
     alloc: Global,
-    rows: &[&ContentRow],
+    rows: &Slices<'_, ContentRow>,
     mask: &[bool],
 ) -> Result<Vec<(ShortName, Digest)>, Fault>
     requires { length mask.now ≡ length rows.now }
     ensures fault { Refuses result None }
     ensures ok { IfOk result (λ names. names.items ≡ sorted name_key
-        (map (λ row. (row.now.ns, row.now.digest)) (gone mask.now rows.now))) }
+        (map (λ row. (row.ns, row.digest)) (gone mask.now rows.now))) }
 {
     let names = content_names(alloc, rows, mask)?;
     let names = digests_in_order(names)?;
@@ -181,22 +224,44 @@ fn push_snapshot(
     Ok(())
 }
 
+// Adds the names of snapshots in a slice that go.
+fn push_snapshots(
+    rows: &[SnapRow],
+    mask: &[bool],
+    names: &mut Vec<(ShortName, ShortName, Name)>,
+) -> Result<(), Fault>
+    requires { length mask.now ≡ length rows.now }
+    ensures fault { Refuses result None }
+    ensures ok { OnOk result (names.new.items ≡ names.old.items
+        ++ map (λ row. (row.key.ns, row.key.snapshotter, row.key.name))
+        (gone mask.now rows.now)) }
+{
+    for (i, row) in rows.iter().enumerate() {
+        push_snapshot(row, mask[i], names)?;
+    }
+    Ok(())
+}
+
 // The names of snapshots, as they arrived.
 fn snapshots_as_arrived(
     names: Vec<(ShortName, ShortName, Name)>,
-    rows: &[&SnapRow],
+    rows: &Slices<'_, SnapRow>,
     mask: &[bool],
 ) -> Result<Vec<(ShortName, ShortName, Name)>, Fault>
     requires length { length mask.now ≡ length rows.now }
     requires empty { names.items ≡ [] }
     ensures fault { Refuses result None }
     ensures ok { IfOk result (λ names. names.items
-        ≡ map (λ row. (row.now.key.ns, row.now.key.snapshotter, row.now.key.name))
+        ≡ map (λ row. (row.key.ns, row.key.snapshotter, row.key.name))
         (gone mask.now rows.now)) }
 {
     let mut names = names;
-    for (i, row) in rows.iter().enumerate() {
-        push_snapshot(row, mask[i], &mut names)?;
+    let mut rest = mask;
+    let slices = rows.as_slices();
+    for slice in slices {
+        let (here, behind) = rest.split_at(slice.len());
+        push_snapshots(slice, here, &mut names)?;
+        rest = behind;
     }
     Ok(names)
 }
@@ -227,13 +292,13 @@ fn snapshots_as_listed(
 // The names of snapshots that go: nearly in order, where there is memory for that.
 fn snapshot_names(
     alloc: Global,
-    rows: &[&SnapRow],
+    rows: &Slices<'_, SnapRow>,
     mask: &[bool],
 ) -> Result<Vec<(ShortName, ShortName, Name)>, Fault>
     requires { length mask.now ≡ length rows.now }
     ensures fault { Refuses result None }
     ensures ok { IfOk result (λ names. IsPermutation
-        (map (λ row. (row.now.key.ns, row.now.key.snapshotter, row.now.key.name))
+        (map (λ row. (row.key.ns, row.key.snapshotter, row.key.name))
         (gone mask.now rows.now)) names.items) }
 {
     let names = Vec::with_capacity(alloc, count_gone(mask))?;
@@ -248,13 +313,13 @@ fn snapshot_names(
 // The names of snapshots that go, in key order.
 fn snapshots_gone(
     alloc: Global,
-    rows: &[&SnapRow],
+    rows: &Slices<'_, SnapRow>,
     mask: &[bool],
 ) -> Result<Vec<(ShortName, ShortName, Name)>, Fault>
     requires { length mask.now ≡ length rows.now }
     ensures fault { Refuses result None }
     ensures ok { IfOk result (λ names. names.items ≡ sorted snapshot_name_key
-        (map (λ row. (row.now.key.ns, row.now.key.snapshotter, row.now.key.name))
+        (map (λ row. (row.key.ns, row.key.snapshotter, row.key.name))
         (gone mask.now rows.now))) }
 {
     let names = snapshot_names(alloc, rows, mask)?;

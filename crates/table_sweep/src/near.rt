@@ -7,6 +7,7 @@ ghost use Rattle.table_sweep.specs.Masks.{gone};
 
 use crate::masks::count_gone;
 use meta_types::{ContentRow, Digest, Fault, SnapRow};
+use row_tables::Slices;
 use std::alloc::Global;
 use std::cmp::Ordering;
 
@@ -136,20 +137,41 @@ pub(crate) fn push_near<'a, R: Numbered>(
     Ok(())
 }
 
+/// Adds those in a slice that are removed.
+pub(crate) fn push_all_near<'a, R: Numbered>(
+    rows: &'a [R],
+    mask: &[bool],
+    near: &mut Vec<Near<'a, R>>,
+) -> Result<(), Fault>
+    requires { length mask.now ≡ length rows.now }
+    ensures fault { Refuses result None }
+    ensures ok { OnOk result (map (λ one. one.row.now) near.new.items
+        ≡ map (λ one. one.row.now) near.old.items ++ gone mask.now rows.now) }
+{
+    for (i, row) in rows.iter().enumerate() {
+        push_near(row, mask[i], near)?;
+    }
+    Ok(())
+}
+
 // The removed rows, as they arrived.
 fn near_of<'a, R: Numbered>(
     alloc: Global,
-    rows: &[&'a R],
+    rows: &Slices<'a, R>,
     mask: &[bool],
 ) -> Result<Vec<Near<'a, R>>, Fault>
     requires { length mask.now ≡ length rows.now }
     ensures fault { Refuses result None }
     ensures ok { IfOk result (λ near. map (λ one. one.row.now) near.items
-        ≡ map (λ row. row.now) (gone mask.now rows.now)) }
+        ≡ gone mask.now rows.now) }
 {
     let mut near = Vec::with_capacity(alloc, count_gone(mask))?;
-    for (i, row) in rows.iter().enumerate() {
-        push_near(*row, mask[i], &mut near)?;
+    let mut rest = mask;
+    let slices = rows.as_slices();
+    for slice in slices {
+        let (here, behind) = rest.split_at(slice.len());
+        push_all_near(*slice, here, &mut near)?;
+        rest = behind;
     }
     Ok(near)
 }
@@ -177,12 +199,12 @@ pub(crate) fn nearly_in_order<'a, R: Numbered>(near: Vec<Near<'a, R>>) -> Vec<Ne
 /// The removed rows, nearly in order.
 pub(crate) fn nearly_sorted<'a, R: Numbered>(
     alloc: Global,
-    rows: &[&'a R],
+    rows: &Slices<'a, R>,
     mask: &[bool],
 ) -> Result<Vec<Near<'a, R>>, Fault>
     requires { length mask.now ≡ length rows.now }
     ensures fault { Refuses result None }
-    ensures ok { IfOk result (λ near. IsPermutation (map (λ row. row.now) (gone mask.now rows.now))
+    ensures ok { IfOk result (λ near. IsPermutation (gone mask.now rows.now)
         (map (λ one. one.row.now) near.items)) }
 {
     let near = near_of(alloc, rows, mask)?;

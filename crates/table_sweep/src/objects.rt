@@ -7,7 +7,8 @@ ghost use Rattle.gc_graph.specs.Stored.{records_of};
 ghost use Rattle.object_tables.specs.Calls.{kept};
 ghost use Rattle.table_sweep.specs.BlobMarks.{AreBlobMarks};
 ghost use Rattle.table_sweep.specs.Stays.{FitRows};
-ghost use Rattle.table_sweep.specs.Depths.{depth_in, key_at, key_of};
+ghost use Rattle.table_sweep.specs.Depths.{key_at, key_of};
+ghost use Rattle.table_sweep.specs.SnapshotPlaces.{AreDepths};
 ghost use Rattle.table_sweep.specs.Owned.{object_of, object_cmp, begun_goes, snap_goes};
 ghost use Rattle.std.specs.List.Sorted.{IsSorted};
 ghost use Rattle.std.specs.Ordering.{nat_cmp};
@@ -17,6 +18,7 @@ use crate::blobs::blobs_gone;
 use crate::depths::{BackSnap, Key, depths_of, in_order, names_of};
 use crate::masks::{Masks, count_left};
 use crate::owners::{begun_goes, begun_owners, snaps_go, snapshot_owners};
+use crate::places::has_any;
 use gc_graph::StoreRows;
 use gc_report::Objects;
 use meta_types::{Digest, Fault, SnapRow};
@@ -93,7 +95,8 @@ fn keys_in(
     depths: &[usize],
 ) -> Result<Vec<Key>, Fault>
     requires goes { length goes.now ≡ length snapshots.now }
-    requires depths { depths.now ≡ map (depth_in (length snapshots.now) snapshots.now) snapshots.now }
+    requires count { length depths.now ≡ length snapshots.now }
+    requires depths { AreDepths snapshots.now goes.now depths.now }
     ensures fault { Refuses result None }
     ensures ok { IfOk result (λ v. v.items
         ≡ map (key_of snapshots.now) (kept goes.now snapshots.now)) }
@@ -105,6 +108,21 @@ fn keys_in(
     Ok(keys)
 }
 
+// No depth is made where none goes.
+fn keys_among(alloc: Global, goes: &[bool], snapshots: &[BackSnap]) -> Result<Vec<Key>, Fault>
+    requires { length goes.now ≡ length snapshots.now }
+    ensures fault { Refuses result None }
+    ensures ok { IfOk result (λ v. v.items
+        ≡ map (key_of snapshots.now) (kept goes.now snapshots.now)) }
+{
+    if !has_any(goes) {
+        return Ok(Vec::new(alloc));
+    }
+    let depths = depths_of(alloc, snapshots, goes)?;
+    let keys = keys_in(alloc, goes, snapshots, &depths)?;
+    Ok(keys)
+}
+
 fn keys_gone(alloc: Global, owners: &[&SnapRow], snapshots: &[BackSnap]) -> Result<Vec<Key>, Fault>
     requires { IsSorted (λ a b. object_cmp (object_of a.now) (object_of b.now)) owners.now }
     ensures fault { Refuses result None }
@@ -112,8 +130,7 @@ fn keys_gone(alloc: Global, owners: &[&SnapRow], snapshots: &[BackSnap]) -> Resu
         (λ s. if snap_goes (map (λ owner. owner.now) owners.now) s then key_of snapshots.now s ∷ [] else []) snapshots.now) }
 {
     let goes = snaps_go(alloc, owners, snapshots)?;
-    let depths = depths_of(alloc, snapshots)?;
-    let keys = keys_in(alloc, &goes, snapshots, &depths)?;
+    let keys = keys_among(alloc, &goes, snapshots)?;
     Ok(keys)
 }
 

@@ -10,6 +10,7 @@ ghost use Rattle.table_sweep.specs.Owned.{object_of, object_cmp, name_of, begun_
 use crate::depths::BackSnap;
 use crate::masks::count_left;
 use meta_types::{Fault, IngestRow, SnapRow};
+use row_tables::Slices;
 use std::alloc::Global;
 use std::cmp::Ordering;
 
@@ -24,15 +25,32 @@ fn push_number(row: &IngestRow, stays: bool, numbers: &mut Vec<u64>) -> Result<(
     Ok(())
 }
 
-// The numbers of the ingests that stay, as these arrived.
-fn numbers_of(alloc: Global, rows: &[&IngestRow], mask: &[bool]) -> Result<Vec<u64>, Fault>
+// Adds the numbers of those in a slice that stay.
+fn push_numbers(rows: &[IngestRow], mask: &[bool], numbers: &mut Vec<u64>) -> Result<(), Fault>
     requires { length mask.now ≡ length rows.now }
     ensures fault { Refuses result None }
-    ensures ok { IfOk result (λ v. v.items ≡ map (λ row. row.now.number) (kept mask.now rows.now)) }
+    ensures ok { OnOk result (numbers.new.items ≡ numbers.old.items
+        ++ map (λ row. row.number) (kept mask.now rows.now)) }
+{
+    for (i, row) in rows.iter().enumerate() {
+        push_number(row, mask[i], numbers)?;
+    }
+    Ok(())
+}
+
+// The numbers of the ingests that stay, as these arrived.
+fn numbers_of(alloc: Global, rows: &Slices<'_, IngestRow>, mask: &[bool]) -> Result<Vec<u64>, Fault>
+    requires { length mask.now ≡ length rows.now }
+    ensures fault { Refuses result None }
+    ensures ok { IfOk result (λ v. v.items ≡ map (λ row. row.number) (kept mask.now rows.now)) }
 {
     let mut numbers = Vec::with_capacity(alloc, count_left(mask))?;
-    for (i, row) in rows.iter().enumerate() {
-        push_number(row, mask[i], &mut numbers)?;
+    let mut rest = mask;
+    let slices = rows.as_slices();
+    for slice in slices {
+        let (here, behind) = rest.split_at(slice.len());
+        push_numbers(slice, here, &mut numbers)?;
+        rest = behind;
     }
     Ok(numbers)
 }
@@ -40,13 +58,13 @@ fn numbers_of(alloc: Global, rows: &[&IngestRow], mask: &[bool]) -> Result<Vec<u
 // The numbers of the ingests that stay.
 pub(crate) fn begun_owners(
     alloc: Global,
-    rows: &[&IngestRow],
+    rows: &Slices<'_, IngestRow>,
     mask: &[bool],
 ) -> Result<Vec<u64>, Fault>
     requires { length mask.now ≡ length rows.now }
     ensures fault { Refuses result None }
     ensures all { IfOk result (λ v. IsPermutation
-        (map (λ row. row.now.number) (kept mask.now rows.now)) v.items) }
+        (map (λ row. row.number) (kept mask.now rows.now)) v.items) }
     ensures order { IfOk result (λ v. IsSorted nat_cmp v.items) }
 {
     let mut numbers = numbers_of(alloc, rows, mask)?;
@@ -73,20 +91,40 @@ fn push_owner<'a>(row: &'a SnapRow, stays: bool, owners: &mut Vec<&'a SnapRow>) 
     Ok(())
 }
 
+// Adds the rows in a slice that stay.
+fn push_owners<'a>(
+    rows: &'a [SnapRow],
+    mask: &[bool],
+    owners: &mut Vec<&'a SnapRow>,
+) -> Result<(), Fault>
+    requires { length mask.now ≡ length rows.now }
+    ensures fault { Refuses result None }
+    ensures ok { OnOk result (map (λ owner. owner.now) owners.new.items
+        ≡ map (λ owner. owner.now) owners.old.items ++ kept mask.now rows.now) }
+{
+    for (i, row) in rows.iter().enumerate() {
+        push_owner(row, mask[i], owners)?;
+    }
+    Ok(())
+}
+
 // The rows that stay, as they arrived.
 fn owners_of<'a>(
     alloc: Global,
-    rows: &[&'a SnapRow],
+    rows: &Slices<'a, SnapRow>,
     mask: &[bool],
 ) -> Result<Vec<&'a SnapRow>, Fault>
     requires { length mask.now ≡ length rows.now }
     ensures fault { Refuses result None }
-    ensures ok { IfOk result (λ v. map (λ owner. owner.now) v.items
-        ≡ map (λ row. row.now) (kept mask.now rows.now)) }
+    ensures ok { IfOk result (λ v. map (λ owner. owner.now) v.items ≡ kept mask.now rows.now) }
 {
     let mut owners = Vec::with_capacity(alloc, count_left(mask))?;
-    for (i, row) in rows.iter().enumerate() {
-        push_owner(row, mask[i], &mut owners)?;
+    let mut rest = mask;
+    let slices = rows.as_slices();
+    for slice in slices {
+        let (here, behind) = rest.split_at(slice.len());
+        push_owners(*slice, here, &mut owners)?;
+        rest = behind;
     }
     Ok(owners)
 }
@@ -105,12 +143,12 @@ fn compare(a: &SnapRow, b: &SnapRow) -> Ordering
 // The rows that stay, by number and snapshotter.
 pub(crate) fn snapshot_owners<'a>(
     alloc: Global,
-    rows: &[&'a SnapRow],
+    rows: &Slices<'a, SnapRow>,
     mask: &[bool],
 ) -> Result<Vec<&'a SnapRow>, Fault>
     requires { length mask.now ≡ length rows.now }
     ensures fault { Refuses result None }
-    ensures all { IfOk result (λ v. IsPermutation (map (λ row. row.now) (kept mask.now rows.now))
+    ensures all { IfOk result (λ v. IsPermutation (kept mask.now rows.now)
         (map (λ owner. owner.now) v.items)) }
     ensures order { IfOk result (λ v. IsSorted
         (λ a b. object_cmp (object_of a.now) (object_of b.now)) v.items) }

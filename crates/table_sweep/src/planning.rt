@@ -13,14 +13,14 @@ ghost use Rattle.table_sweep.specs.Plans.{dry_report_of};
 
 use crate::counts::{count_marked, kept_of};
 use crate::masks::{Masks, masks_of};
-use crate::names::removed_of;
-use crate::objects::{BackRows, objects_of};
+use crate::objects::BackRows;
 use crate::sorting::names_in_order;
+use crate::together::{Gone, Team, gone_of};
 use gc_graph::{Ignored, NodeBook, StoreRows};
 use gc_report::{Objects, Report};
 use mark_core::Marks;
 use meta_types::{Fault, Instant};
-use std::alloc::Global;
+use std::thread::Threads;
 
 /// Which rows stay, by their places as they arrived; which blobs stay, by their places as they were
 /// lent; and the report of a dry run.
@@ -45,9 +45,10 @@ fn count_nodes(rows: &StoreRows<'_>) -> u32
 
 /// The plan of a collection at this moment, by the marks on the nodes of these rows, which may stand
 /// in any order. It takes all the memory that the collection and its report need. The book and what
-/// is ignored are those that `build` gives for these rows.
-pub fn plan_of(
-    alloc: Global,
+/// is ignored are those that `build` gives for these rows. Of 20,000 rows or more of one kind, a
+/// second thread finds the names where the team has several workers.
+pub fn plan_of<R: Threads + Sync>(
+    team: &Team<'_, R>,
     rows: &StoreRows<'_>,
     namespaces: u64,
     back: &BackRows<'_>,
@@ -70,9 +71,8 @@ pub fn plan_of(
     ensures blobs { IfOk result (λ plan. AreBlobMarks plan.report.backend.blobs back.now.blobs.now
         plan.blobs.items) }
 {
-    let masks = masks_of(alloc, rows, book, marks, at)?;
-    let removed = removed_of(alloc, rows, &masks)?;
-    let (backend, blobs) = objects_of(alloc, rows, &masks, back)?;
+    let masks = masks_of(team.alloc, rows, book, marks, at)?;
+    let gone = gone_of(team, rows, &masks, back)?;
     let kept = kept_of(rows, &masks, namespaces);
     let scanned = count_marked(marks, count_nodes(rows)) as u64;
     let Ignored {
@@ -81,10 +81,15 @@ pub fn plan_of(
     } = ignored;
     let ignored = names_in_order(ignored)?;
     let ignored_images = names_in_order(ignored_images)?;
+    let Gone {
+        removed,
+        backend,
+        blobs,
+    } = gone;
     let report = Report {
         backend,
         dry: true,
-        failed: Objects::new(alloc),
+        failed: Objects::new(team.alloc),
         ignored,
         ignored_images,
         kept,

@@ -1,4 +1,4 @@
-use Rattle.std.proofs.Common.{◌∙◌, ap, sym, map, length, List, Bor, subst}
+use Rattle.std.proofs.Common.{◌∙◌, ap, sym, length, List, subst}
 use Rattle.std.specs.List.Sorted.{IsPermutation}
 use Rattle.std.proofs.lemmas.List.{length-map}
 use Rattle.object_tables.specs.Calls.{kept}
@@ -18,8 +18,7 @@ unowned-requires c = ap length (c.deref.ensures.value ∙ c.in_ok-owned.ensures.
 
 pub returns-clause-ok : goal.returns-clause-ok
 returns-clause-ok c =
-    let rows : List ContentRow = map (λ (row : Bor ContentRow). row.now)
-    (kept c.args.mask.now c.args.rows.now) in
+    let rows : List ContentRow = kept c.args.mask.now c.args.rows.now in
     let same : IsPermutation (gone c.in_ok-owned.owned.items c.args.blobs.now)
     c.in_ok-gone.gone.items =
     subst (λ (l : List Text). IsPermutation l c.in_ok-gone.gone.items)
@@ -31,7 +30,6 @@ returns-clause-ok c =
 -- and what is marked stays beside them
 pub returns-clause-marks : goal.returns-clause-marks
 returns-clause-marks c =
-    let rows : List ContentRow = map (λ (row : Bor ContentRow). row.now)
-    (kept c.args.mask.now c.args.rows.now) in
+    let rows : List ContentRow = kept c.args.mask.now c.args.rows.now in
     marks_tell (owns_blob rows) c.args.blobs.now c.in_ok-digests.digests.items
     c.in_ok-owned.owned.items c.in_ok-owned.ensures.ok (returns-clause-ok c)

@@ -1,8 +1,14 @@
-use Rattle.std.proofs.Common.{◌≡◌, map, take}
+use Rattle.std.proofs.Common.{◌≡◌, map, length, take, drop}
+use Rattle.std.specs.List.{flat_map}
 use Rattle.object_tables.specs.Calls.{kept}
 use Rattle.table_sweep.specs.Owned.{owns_blob}
 use Rattle.table_sweep.proofs.blobs.owned_blobs.Given as goal
 
--- the blobs of the rows so far are marked
-abbrev pub invariant-loop-i : goal.invariant-loop-i
-invariant-loop-i l = l.owned.items ≡ map (owns_blob (map (λ row. row.now) (kept (take l.i l.mask) (take l.i l.rows)))) l.blobs
+-- the blobs of the slices so far are marked, by their part of the mask
+abbrev pub invariant-loop-slice : goal.invariant-loop-slice
+invariant-loop-slice l = record {
+  rest : l.rest ≡ drop (length (flat_map (λ s. s.now) (take l.slice-index l.slices))) l.mask;
+  made : l.owned.items ≡ map (owns_blob
+      (kept (take (length (flat_map (λ s. s.now) (take l.slice-index l.slices))) l.mask)
+      (flat_map (λ s. s.now) (take l.slice-index l.slices)))) l.blobs;
+}

@@ -1,8 +1,13 @@
-use Rattle.std.proofs.Common.{◌≡◌, map, take}
+use Rattle.std.proofs.Common.{◌≡◌, map, length, take, drop}
+use Rattle.std.specs.List.{flat_map}
 use Rattle.table_sweep.specs.Masks.{gone}
 use Rattle.table_sweep.proofs.names.content_as_arrived.Given as goal
 
--- the names of the rows so far are there
-abbrev pub invariant-loop-i : goal.invariant-loop-i
-invariant-loop-i l = l.names.items ≡ map (λ row. (row.now.ns, row.now.digest))
-    (gone (take l.i l.mask) (take l.i l.rows))
+-- the rows of the slices so far, by their part of the mask
+abbrev pub invariant-loop-slice : goal.invariant-loop-slice
+invariant-loop-slice l = record {
+  rest : l.rest ≡ drop (length (flat_map (λ s. s.now) (take l.slice-index l.slices))) l.mask;
+  made : l.names.items ≡ map (λ row. (row.ns, row.digest))
+      (gone (take (length (flat_map (λ s. s.now) (take l.slice-index l.slices))) l.mask)
+      (flat_map (λ s. s.now) (take l.slice-index l.slices)));
+}

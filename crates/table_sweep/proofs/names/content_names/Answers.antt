@@ -1,4 +1,4 @@
-use Rattle.std.proofs.Common.{◌∙◌, Bor, ap, map}
+use Rattle.std.proofs.Common.{◌∙◌, ap, map}
 use Rattle.meta_types.specs.declared.rows.ContentRow.{ContentRow}
 use Rattle.table_sweep.specs.declared.near.Near.{Near}
 use Rattle.table_sweep.specs.Masks.{gone}
@@ -8,7 +8,7 @@ use Rattle.table_sweep.proofs.names.content_names.Goals as goal
 -- the names of rows in another order
 pub returns-clause-ok : goal.returns-clause-ok
 returns-clause-ok c =
-    names_permuted (λ (row : ContentRow). (row.ns, row.digest)) (λ (row : Bor ContentRow). row.now)
+    names_permuted (λ (row : ContentRow). (row.ns, row.digest))
     (λ (one : Near ContentRow). one.row.now)
     (gone c.args.mask.now c.args.rows.now) c.in-Ok.near.items c.in_ok-names-3.names.items
     c.in-Ok.ensures.ok

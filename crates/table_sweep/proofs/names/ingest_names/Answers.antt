@@ -1,9 +1,33 @@
-use Rattle.std.proofs.Common.{Bor}
+use Rattle.std.proofs.Common.{Bor, List}
 use Rattle.meta_types.specs.declared.rows.IngestRow.{IngestRow}
-use Rattle.table_sweep.proofs.Gone.{names_step}
+use Rattle.table_sweep.proofs.InSlices.{has_part, next_part, gone_names}
 use Rattle.table_sweep.proofs.names.ingest_names.Goals as goal
 
-pub loop-i-preserved : goal.loop-i-preserved
-loop-i-preserved c =
-    names_step (λ (row : Bor IngestRow). (row.now.ns, row.now.name)) c.args.mask.now c.args.rows.now c.loop-i.i _ c.index-rows-i.result
-    c.loop-i.names.items c.push_ingest.new.names.items c.requires c.loop-i-test.true c.index-rows-i.is c.loop-i.invariant c.in_ok-push_ingest.ensures.ok
+-- the mask has a part for the slice
+pub split_at-requires : goal.split_at-requires
+split_at-requires c =
+    has_part (λ (s : Bor (List IngestRow)). s.now) c.as_slices-slices.result.now
+    c.args.rows.now c.args.mask.now c.loop-slice.rest.now c.loop-slice.slice-index
+    c.slice-item.result c.as_slices-slices.ensures c.requires c.loop-slice-test.true
+    c.slice-item.is c.loop-slice.invariant.rest
+
+pub loop-slice-preserved : goal.loop-slice-preserved
+loop-slice-preserved c =
+    let rest = next_part
+    (λ (s : Bor (List IngestRow)). s.now) c.as_slices-slices.result.now
+    c.args.rows.now c.args.mask.now c.loop-slice.rest.now c.loop-slice.slice-index
+    c.slice-item.result c.as_slices-slices.ensures c.requires c.loop-slice-test.true
+    c.slice-item.is c.loop-slice.invariant.rest
+    c.split_at.result.0.now c.split_at.result.1.now c.split_at.ensures.front
+    c.split_at.ensures.back in
+    let made = gone_names
+    (λ (s : Bor (List IngestRow)). s.now) c.as_slices-slices.result.now
+    c.args.rows.now c.args.mask.now c.loop-slice.rest.now c.loop-slice.slice-index
+    c.slice-item.result c.as_slices-slices.ensures c.requires c.loop-slice-test.true
+    c.slice-item.is c.loop-slice.invariant.rest
+    c.split_at.result.0.now c.split_at.result.1.now c.split_at.ensures.front
+    c.split_at.ensures.back
+    (λ (row : IngestRow). (row.ns, row.name))
+    c.loop-slice.names.items
+    c.push_ingests.new.names.items c.loop-slice.invariant.made c.in_ok-push_ingests.ensures.ok in
+    record { rest = rest; made = made }

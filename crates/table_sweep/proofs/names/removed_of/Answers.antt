@@ -16,30 +16,25 @@ returns-clause-ok c =
     let rows = c.args.rows.now in
     let masks = c.args.masks.now in
     let content = c.in_ok-content.ensures.ok ∙ ap (sorted name_key)
-    (names_of (λ (row : Bor ContentRow). row.now) (λ row. (row.ns, row.digest))
-    c.deref.result.now rows.content.now
-    ∙ ap (λ m. map (λ (row : ContentRow). (row.ns, row.digest))
-    (gone m (map (λ (row : Bor ContentRow). row.now) rows.content.now))) c.deref.ensures.value) in
+    (ap (λ m. map (λ (row : ContentRow). (row.ns, row.digest)) (gone m rows.content.now))
+    c.deref.ensures.value) in
     let images = c.in_ok-images-2.ensures.ok ∙ ap (sorted name_key)
     (c.in_ok-images.ensures.ok ∙ names_of (λ (row : Bor ImageRow). row.now)
     (λ row. (row.ns, row.name)) c.deref-2.result.now rows.images.now
     ∙ ap (λ m. map (λ (row : ImageRow). (row.ns, row.name))
     (gone m (map (λ (row : Bor ImageRow). row.now) rows.images.now))) c.deref-2.ensures.value) in
     let ingests = c.in_ok-ingests-2.ensures.ok ∙ ap (sorted name_key)
-    (c.in_ok-ingests.ensures.ok ∙ names_of (λ (row : Bor IngestRow). row.now)
-    (λ row. (row.ns, row.name)) c.deref-3.result.now rows.ingests.now
-    ∙ ap (λ m. map (λ (row : IngestRow). (row.ns, row.name))
-    (gone m (map (λ (row : Bor IngestRow). row.now) rows.ingests.now))) c.deref-3.ensures.value) in
+    (c.in_ok-ingests.ensures.ok
+    ∙ ap (λ m. map (λ (row : IngestRow). (row.ns, row.name)) (gone m rows.ingests.now))
+    c.deref-3.ensures.value) in
     let leases = c.in_ok-leases-2.ensures.ok ∙ ap (sorted name_key)
     (c.in_ok-leases.ensures.ok ∙ names_of (λ (row : Bor LeaseRow). row.now)
     (λ row. (row.ns, row.id)) c.deref-4.result.now rows.leases.now
     ∙ ap (λ m. map (λ (row : LeaseRow). (row.ns, row.id))
     (gone m (map (λ (row : Bor LeaseRow). row.now) rows.leases.now))) c.deref-4.ensures.value) in
     let snapshots = c.in_ok-snapshots.ensures.ok ∙ ap (sorted snapshot_name_key)
-    (names_of (λ (row : Bor SnapRow). row.now) (λ row.
-    (row.key.ns, row.key.snapshotter, row.key.name)) c.deref-5.result.now rows.snapshots.now
-    ∙ ap (λ m. map (λ (row : SnapRow). (row.key.ns, row.key.snapshotter, row.key.name))
-    (gone m (map (λ (row : Bor SnapRow). row.now) rows.snapshots.now))) c.deref-5.ensures.value) in
+    (ap (λ m. map (λ (row : SnapRow). (row.key.ns, row.key.snapshotter, row.key.name))
+    (gone m rows.snapshots.now)) c.deref-5.ensures.value) in
     λ i. record {
       content = content i;
       images = images i;

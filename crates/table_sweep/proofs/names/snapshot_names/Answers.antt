@@ -1,4 +1,4 @@
-use Rattle.std.proofs.Common.{◌∙◌, Bor, ap, map}
+use Rattle.std.proofs.Common.{◌∙◌, ap, map}
 use Rattle.meta_types.specs.declared.rows.SnapRow.{SnapRow}
 use Rattle.table_sweep.specs.declared.near.Near.{Near}
 use Rattle.table_sweep.specs.Masks.{gone}
@@ -9,7 +9,7 @@ use Rattle.table_sweep.proofs.names.snapshot_names.Goals as goal
 pub returns-clause-ok : goal.returns-clause-ok
 returns-clause-ok c =
     names_permuted (λ (row : SnapRow). (row.key.ns, row.key.snapshotter, row.key.name))
-    (λ (row : Bor SnapRow). row.now) (λ (one : Near SnapRow). one.row.now)
+    (λ (one : Near SnapRow). one.row.now)
     (gone c.args.mask.now c.args.rows.now) c.in-Ok.near.items c.in_ok-names-3.names.items
     c.in-Ok.ensures.ok
     (c.in_ok-names-3.ensures.ok ∙ ap (map (λ (one : Near SnapRow).

@@ -1,9 +1,33 @@
-use Rattle.std.proofs.Common.{Bor}
+use Rattle.std.proofs.Common.{Bor, List}
 use Rattle.meta_types.specs.declared.rows.IngestRow.{IngestRow}
-use Rattle.table_sweep.proofs.Owning.{kept_step}
+use Rattle.table_sweep.proofs.InSlices.{has_part, next_part, kept_names}
 use Rattle.table_sweep.proofs.owners.numbers_of.Goals as goal
 
-pub loop-i-preserved : goal.loop-i-preserved
-loop-i-preserved c =
-    kept_step (λ (row : Bor IngestRow). row.now.number) c.args.mask.now c.args.rows.now c.loop-i.i _ c.index-rows-i.result
-    c.loop-i.numbers.items c.push_number.new.numbers.items c.requires c.loop-i-test.true c.index-rows-i.is c.loop-i.invariant c.in_ok-push_number.ensures.ok
+-- the mask has a part for the slice
+pub split_at-requires : goal.split_at-requires
+split_at-requires c =
+    has_part (λ (s : Bor (List IngestRow)). s.now) c.as_slices-slices.result.now
+    c.args.rows.now c.args.mask.now c.loop-slice.rest.now c.loop-slice.slice-index
+    c.slice-item.result c.as_slices-slices.ensures c.requires c.loop-slice-test.true
+    c.slice-item.is c.loop-slice.invariant.rest
+
+pub loop-slice-preserved : goal.loop-slice-preserved
+loop-slice-preserved c =
+    let rest = next_part
+    (λ (s : Bor (List IngestRow)). s.now) c.as_slices-slices.result.now
+    c.args.rows.now c.args.mask.now c.loop-slice.rest.now c.loop-slice.slice-index
+    c.slice-item.result c.as_slices-slices.ensures c.requires c.loop-slice-test.true
+    c.slice-item.is c.loop-slice.invariant.rest
+    c.split_at.result.0.now c.split_at.result.1.now c.split_at.ensures.front
+    c.split_at.ensures.back in
+    let made = kept_names
+    (λ (s : Bor (List IngestRow)). s.now) c.as_slices-slices.result.now
+    c.args.rows.now c.args.mask.now c.loop-slice.rest.now c.loop-slice.slice-index
+    c.slice-item.result c.as_slices-slices.ensures c.requires c.loop-slice-test.true
+    c.slice-item.is c.loop-slice.invariant.rest
+    c.split_at.result.0.now c.split_at.result.1.now c.split_at.ensures.front
+    c.split_at.ensures.back
+    (λ (row : IngestRow). row.number)
+    c.loop-slice.numbers.items
+    c.push_numbers.new.numbers.items c.loop-slice.invariant.made c.in_ok-push_numbers.ensures.ok in
+    record { rest = rest; made = made }

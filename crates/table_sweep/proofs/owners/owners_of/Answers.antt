@@ -1,10 +1,33 @@
-use Rattle.std.proofs.Common.{Bor, map}
+use Rattle.std.proofs.Common.{Bor, List, map}
 use Rattle.meta_types.specs.declared.rows.SnapRow.{SnapRow}
-use Rattle.table_sweep.proofs.Owning.{kept_step}
+use Rattle.table_sweep.proofs.InSlices.{has_part, next_part, kept_slice}
 use Rattle.table_sweep.proofs.owners.owners_of.Goals as goal
 
-pub loop-i-preserved : goal.loop-i-preserved
-loop-i-preserved c =
-    let row_of : Bor SnapRow → SnapRow = λ (row : Bor SnapRow). row.now in
-    kept_step row_of c.args.mask.now c.args.rows.now c.loop-i.i _ c.index-rows-i.result
-    (map row_of c.loop-i.owners.items) (map row_of c.push_owner.new.owners.items) c.requires c.loop-i-test.true c.index-rows-i.is c.loop-i.invariant c.in_ok-push_owner.ensures.ok
+-- the mask has a part for the slice
+pub split_at-requires : goal.split_at-requires
+split_at-requires c =
+    has_part (λ (s : Bor (List SnapRow)). s.now) c.as_slices-slices.result.now
+    c.args.rows.now c.args.mask.now c.loop-slice.rest.now c.loop-slice.slice-index
+    c.slice-item.result c.as_slices-slices.ensures c.requires c.loop-slice-test.true
+    c.slice-item.is c.loop-slice.invariant.rest
+
+pub loop-slice-preserved : goal.loop-slice-preserved
+loop-slice-preserved c =
+    let rest = next_part
+    (λ (s : Bor (List SnapRow)). s.now) c.as_slices-slices.result.now
+    c.args.rows.now c.args.mask.now c.loop-slice.rest.now c.loop-slice.slice-index
+    c.slice-item.result c.as_slices-slices.ensures c.requires c.loop-slice-test.true
+    c.slice-item.is c.loop-slice.invariant.rest
+    c.split_at.result.0.now c.split_at.result.1.now c.split_at.ensures.front
+    c.split_at.ensures.back in
+    let made = kept_slice
+    (λ (s : Bor (List SnapRow)). s.now) c.as_slices-slices.result.now
+    c.args.rows.now c.args.mask.now c.loop-slice.rest.now c.loop-slice.slice-index
+    c.slice-item.result c.as_slices-slices.ensures c.requires c.loop-slice-test.true
+    c.slice-item.is c.loop-slice.invariant.rest
+    c.split_at.result.0.now c.split_at.result.1.now c.split_at.ensures.front
+    c.split_at.ensures.back
+    (map (λ (owner : Bor SnapRow). owner.now) c.loop-slice.owners.items)
+    (map (λ (owner : Bor SnapRow). owner.now) c.push_owners.new.owners.items)
+    c.loop-slice.invariant.made c.in_ok-push_owners.ensures.ok in
+    record { rest = rest; made = made }
