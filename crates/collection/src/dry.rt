@@ -31,7 +31,7 @@ use std::alloc::Global;
 use std::sync::Wait;
 use std::thread::Threads;
 use steal_mark::Gate;
-use table_sweep::{BackRows, Plan, plan_of};
+use table_sweep::{BackRows, Plan, Team, plan_of};
 
 // What a collection of these records and of what is lent would report.
 fn dry_lent<R: Threads + Wait + Sync, G: Gate, H: SweepGate>(
@@ -111,7 +111,12 @@ fn plan_rows<R: Threads + Sync>(
 {
     let (book, graph, ignored) = build(rt, alloc, rows, at, 1)?;
     let marks = mark_plain(alloc, &graph)?;
-    let plan = plan_of(alloc, rows, namespaces, back, &book, &marks, ignored, at)?;
+    let team = Team {
+        rt,
+        alloc,
+        workers: 1,
+    };
+    let plan = plan_of(&team, rows, namespaces, back, &book, &marks, ignored, at)?;
     Ok(plan)
 }
 

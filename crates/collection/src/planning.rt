@@ -25,7 +25,7 @@ use std::mem::drop;
 use std::sync::Wait;
 use std::thread::Threads;
 use steal_mark::{Gate, mark_workers};
-use table_sweep::{BackRows, Plan, plan_of};
+use table_sweep::{BackRows, Plan, Team, plan_of};
 
 /// The fault of a collection, before anything is done; never OutOfMemory.
 pub(crate) fn check(records: &Records) -> Result<(), Fault>
@@ -77,7 +77,12 @@ fn plan_rows<R: Threads + Wait + Sync, G: Gate, H: SweepGate>(
     let (book, graph, ignored) = build(crew.rt, alloc, rows, at, crew.workers.count)?;
     let marks = marks_of(crew, &graph)?;
     drop(graph);
-    let plan = plan_of(alloc, rows, namespaces, back, &book, &marks, ignored, at)?;
+    let team = Team {
+        rt: crew.rt,
+        alloc,
+        workers: crew.workers.count,
+    };
+    let plan = plan_of(&team, rows, namespaces, back, &book, &marks, ignored, at)?;
     Ok(plan)
 }
 

@@ -1,5 +1,5 @@
 -- How many numbers there are, and what a search finds.
-use Rattle.std.proofs.Common.{◌≡◌, ℕ, ◌<◌, ◌≤◌, false, List, ◌++◌, map, length, filter, get_or, refl, ap, ◌∙◌, inl, inr, arith, ℤ, nat_lt, Bor, Option, None}
+use Rattle.std.proofs.Common.{◌≡◌, ℕ, ◌<◌, ◌≤◌, false, List, ◌++◌, map, length, filter, get_or, refl, ap, ◌∙◌, inl, inr, arith, ℤ, nat_lt, Option, None}
 use Rattle.std.specs.Prelude.{All}
 use Rattle.std.specs.List.{flat_map}
 use Rattle.std.specs.List.Sorted.{IsPermutation}
@@ -8,9 +8,6 @@ use Rattle.std.proofs.lemmas.List.{length-append, length-map}
 use Rattle.std.proofs.lemmas.List.Elements.{Contains-get_or}
 use Rattle.meta_types.specs.Paths.{ingest, content, snapshot, is_root}
 use Rattle.meta_types.specs.declared.resource.Mode.TheVariants.{Full, Flat}
-use Rattle.meta_types.specs.declared.rows.ContentRow.{ContentRow}
-use Rattle.meta_types.specs.declared.rows.IngestRow.{IngestRow}
-use Rattle.meta_types.specs.declared.rows.SnapRow.{SnapRow}
 use Rattle.mark_core.specs.declared.graph.Graph.{Graph}
 use Rattle.mark_core.specs.Reach.{node_count}
 use Rattle.mark_core.specs.Nearest.{IsStart, IsDepth}
@@ -43,11 +40,11 @@ few_numbered stored small =
     let b = length-append (fulls ++ flats) (snaps ++ flat_snaps) in
     let d = length-append fulls flats in
     let f = length-append snaps flat_snaps in
-    let li : length i ≡ length stored.ingests.now = length-map records.tables.ingests ingest ∙ length-map stored.ingests.now (λ (r : Bor IngestRow). r.now) in
-    let lf : length fulls ≡ length stored.content.now = length-map records.tables.content (content Full) ∙ length-map stored.content.now (λ (r : Bor ContentRow). r.now) in
-    let ll : length flats ≡ length stored.content.now = length-map records.tables.content (content Flat) ∙ length-map stored.content.now (λ (r : Bor ContentRow). r.now) in
-    let ls : length snaps ≡ length stored.snapshots.now = length-map records.tables.snapshots (snapshot Full) ∙ length-map stored.snapshots.now (λ (r : Bor SnapRow). r.now) in
-    let lt : length flat_snaps ≡ length stored.snapshots.now = length-map records.tables.snapshots (snapshot Flat) ∙ length-map stored.snapshots.now (λ (r : Bor SnapRow). r.now) in
+    let li : length i ≡ length stored.ingests.now = length-map records.tables.ingests ingest in
+    let lf : length fulls ≡ length stored.content.now = length-map records.tables.content (content Full) in
+    let ll : length flats ≡ length stored.content.now = length-map records.tables.content (content Flat) in
+    let ls : length snaps ≡ length stored.snapshots.now = length-map records.tables.snapshots (snapshot Full) in
+    let lt : length flat_snaps ≡ length stored.snapshots.now = length-map records.tables.snapshots (snapshot Flat) in
     omega (arith, small, a, b, d, f, li, lf, ll, ls, lt)
 
 -- ---- a search

@@ -444,7 +444,7 @@ module _ (stored : StoreRows) (at : ℤ) where
       stored.images.now
       ++ flat_map (λ (row : Bor LeaseRow). past_end stored.profile at (lease row.now))
       stored.leases.now
-      ++ flat_map (λ (row : Bor IngestRow). past_end stored.profile at (ingest row.now))
+      ++ flat_map (λ (row : IngestRow). past_end stored.profile at (ingest row))
       stored.ingests.now
 
   same_ends : ends_of (records_of stored) at ≡ stored_ends
@@ -455,10 +455,9 @@ module _ (stored : StoreRows) (at : ℤ) where
       let leases =
       flat_map-map (λ (row : LeaseRow). past_end stored.profile at (lease row))
       (λ (row : Bor LeaseRow). row.now) stored.leases.now in
-      let ingests =
-      flat_map-map (λ (row : IngestRow). past_end stored.profile at (ingest row))
-      (λ (row : Bor IngestRow). row.now) stored.ingests.now in
-      (λ i. images i ++ leases i ++ ingests i)
+      let ingests : List ℤ =
+      flat_map (λ (row : IngestRow). past_end stored.profile at (ingest row)) stored.ingests.now in
+      (λ i. images i ++ leases i ++ ingests)
 
   pub all_ends : (ends : List ℤ) → IsPermutation stored_ends ends → (thing : Thing)
       → Contains (things (records_of stored)) thing → (end : ℤ)

@@ -3,6 +3,7 @@ pub mod ReasonEdges
 pub mod Later
 pub mod LastPaths
 pub mod EndTexts
+pub mod InSlices
 pub mod Numbers
 pub mod Searches
 pub mod Uniqueness

@@ -20,7 +20,7 @@ use std::alloc::Global;
 // The time after which a lease is collected (containerd garbage-collection.md).
 const EXPIRE: &str = "containerd.io/gc.expire";
 
-fn text_of(alloc: Global, text: &str) -> Result<RawText, Fault>
+fn text_of(alloc: Global, text: &str) -> Result<RawText<'static>, Fault>
     ensures fault { Refuses result None }
     ensures ok { IfOk result (λ copy. copy ≡ text.now) }
 {
@@ -70,7 +70,7 @@ fn mode_of(thing: Found<'_>) -> Option<Mode>
     }
 }
 
-fn expire_in(alloc: Global, labels: &Labels) -> Result<Option<RawText>, Fault>
+fn expire_in(alloc: Global, labels: &Labels) -> Result<Option<RawText<'static>>, Fault>
     ensures fault { Refuses result None }
     ensures ok { IfOk result (λ text. text ≡ value_of labels.now (codes "containerd.io/gc.expire")) }
 {
@@ -81,7 +81,7 @@ fn expire_in(alloc: Global, labels: &Labels) -> Result<Option<RawText>, Fault>
 }
 
 // The own end of an ingest.
-fn end_of(alloc: Global, row: &IngestRow) -> Result<Option<RawText>, Fault>
+fn end_of(alloc: Global, row: &IngestRow) -> Result<Option<RawText<'static>>, Fault>
     ensures fault { Refuses result None }
     ensures ok { IfOk result (λ text. text ≡ option_map (λ end. end_text end.0) row.now.expires) }
 {
@@ -91,7 +91,11 @@ fn end_of(alloc: Global, row: &IngestRow) -> Result<Option<RawText>, Fault>
     }
 }
 
-fn expire_of(alloc: Global, profile: u8, thing: Found<'_>) -> Result<Option<RawText>, Fault>
+fn expire_of(
+    alloc: Global,
+    profile: u8,
+    thing: Found<'_>,
+) -> Result<Option<RawText<'static>>, Fault>
     ensures fault { Refuses result None }
     ensures ok { IfOk result (λ text. text ≡ expire_of profile (thing_of thing.entry)) }
 {

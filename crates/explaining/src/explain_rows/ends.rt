@@ -11,6 +11,7 @@ use gc_graph::StoreRows;
 use gc_labels::{Expiry, expiry};
 use lease_book::Lease;
 use meta_types::{Fault, ImageRow, IngestRow, Instant, Labels};
+use row_tables::Slices;
 use std::alloc::Global;
 
 fn end_in(labels: &Labels) -> Option<i128>
@@ -88,18 +89,36 @@ fn push_leases(rows: &[&Lease], profile: u8, at: Instant, ends: &mut Vec<i128>) 
     Ok(())
 }
 
-fn push_ingests(
-    rows: &[&IngestRow],
+// Adds the ends of those in a slice.
+fn push_ingests_in(
+    rows: &[IngestRow],
     profile: u8,
     at: Instant,
     ends: &mut Vec<i128>,
 ) -> Result<(), Fault>
     ensures fault { Refuses result None }
     ensures ok { OnOk result (ends.new.items ≡ ends.old.items
-        ++ flat_map (λ row. past_end profile at.0 (ingest row.now)) rows.now) }
+        ++ flat_map (λ row. past_end profile at.0 (ingest row)) rows.now) }
 {
     for row in rows {
         push_past(ingest_end(row, profile), at, ends)?;
+    }
+    Ok(())
+}
+
+fn push_ingests(
+    rows: &Slices<'_, IngestRow>,
+    profile: u8,
+    at: Instant,
+    ends: &mut Vec<i128>,
+) -> Result<(), Fault>
+    ensures fault { Refuses result None }
+    ensures ok { OnOk result (ends.new.items ≡ ends.old.items
+        ++ flat_map (λ row. past_end profile at.0 (ingest row)) rows.now) }
+{
+    let slices = rows.as_slices();
+    for slice in slices {
+        push_ingests_in(slice, profile, at, ends)?;
     }
     Ok(())
 }
@@ -114,7 +133,7 @@ pub(crate) fn past_ends(
     ensures all { IfOk result (λ ends. IsPermutation
         (flat_map (λ row. past_end rows.now.profile at.0 (image row.now)) rows.now.images.now
         ++ flat_map (λ row. past_end rows.now.profile at.0 (lease row.now)) rows.now.leases.now
-        ++ flat_map (λ row. past_end rows.now.profile at.0 (ingest row.now)) rows.now.ingests.now)
+        ++ flat_map (λ row. past_end rows.now.profile at.0 (ingest row)) rows.now.ingests.now)
         ends.items) }
     ensures order { IfOk result (λ ends. AreRising ends.items) }
 {

@@ -174,7 +174,7 @@ fn since_year_0(end: i128) -> u128
 }
 
 /// An end in UTC: `YYYY-MM-DDThh:mm:ss`, a fraction where it isn't 0, and `Z` (RFC 3339, 5.6).
-pub(crate) fn end_text(alloc: Global, end: Instant) -> Result<RawText, Fault>
+pub(crate) fn end_text(alloc: Global, end: Instant) -> Result<RawText<'static>, Fault>
     ensures fault { Refuses result None }
     ensures ok { IfOk result (λ text. text ≡ end_text end.0) }
 {
