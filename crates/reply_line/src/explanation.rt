@@ -38,7 +38,7 @@ fn write_text(out: &mut Writer, key: &str, text: &str) -> Result<(), AllocError>
 }
 
 // The expiry label of a root, where it has one.
-fn write_expire(out: &mut Writer, expire: &Option<RawText>) -> Result<(), AllocError>
+fn write_expire(out: &mut Writer, expire: &Option<RawText<'static>>) -> Result<(), AllocError>
     ensures { OnOk result (Adds out.old out.new
         (tokens_if (codes "expire") (option_map string expire.now))) }
 {
