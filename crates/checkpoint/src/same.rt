@@ -26,6 +26,7 @@ fn are_same_records(alloc: Global, records: &Records, others: &Records) -> Resul
     if !are_same_tables(alloc, &records.tables, &others.tables)? {
         return Ok(false);
     }
+    // For the prover: the result is opened, not passed on.
     let same = are_same_leases(alloc, &records.leases, &others.leases)?;
     Ok(same)
 }
@@ -51,6 +52,7 @@ where
     if !are_same_records(alloc, store.records(), other.records())? {
         return Ok(false);
     }
+    // For the prover: the result is opened, not passed on.
     let same = are_same_objects(alloc, &store.backends, &other.backends)?;
     Ok(same)
 }

@@ -1,10 +1,10 @@
--- Changes of one lease in its place: a label, or a resource more or less. Ours, unless a source
--- stands beside.
+-- Changes of one lease in its place: a label, or a resource more or less; its labels and its data.
+-- Ours, unless a source stands beside.
 use Rattle.std.specs.Prelude.{◌≡◌, Bool, Option, Result, Ok, Err, OnOk, OnErr}
 use Rattle.std.proofs.Common.{ap, ◌∙◌}
 use Rattle.meta_types.specs.Text.{Text}
 use Rattle.meta_types.specs.Keys.{has_row, remove_row}
-use Rattle.meta_types.specs.Labels.{put_label, takes_label}
+use Rattle.meta_types.specs.Labels.{LabelList, put_label, takes_label}
 use Rattle.meta_types.specs.Resources.{resource_key, held}
 use Rattle.meta_types.specs.Rows.{LeaseRow}
 use Rattle.meta_types.specs.Faults.{Refuses, unless}
@@ -19,6 +19,10 @@ with_label key value row = record row { labels = put_label key value row.labels 
 -- a label that a lease doesn't take
 abbrev pub refuses_label : Text → Text → LeaseRow → Option Fault
 refuses_label key value row = unless (takes_label key value row.labels) InvalidArgument
+
+-- the lease has other labels and other data
+abbrev pub lease_with : LabelList → Text → LeaseRow → LeaseRow
+lease_with labels extra row = record row { labels = labels; extra = extra }
 
 -- the lease holds one resource more (containerd leases service, AddResource)
 abbrev pub with_resource : Resource → LeaseRow → LeaseRow

@@ -1,10 +1,10 @@
-//! Changes of one lease in its place: a label, or a resource more or less.
-ghost use Rattle.std.specs.Prelude.{None, refl};
+//! Changes of one lease in its place: a label, or a resource more or less; its labels and its data.
+ghost use Rattle.std.specs.Prelude.{◌≡◌, None, refl};
 ghost use Rattle.std.proofs.Common.{ap};
-ghost use Rattle.lease_book.specs.Edits.{Edits, edits_keep, Releases, with_label, refuses_label, with_resource};
+ghost use Rattle.lease_book.specs.Edits.{Edits, edits_keep, Releases, with_label, refuses_label, with_resource, lease_with};
 
 use crate::lease::Lease;
-use meta_types::{Fault, Name, Resource};
+use meta_types::{Data, Fault, Labels, Name, Resource};
 use row_tables::Change;
 use std::alloc::Global;
 
@@ -25,6 +25,23 @@ impl<'a> Change<Name, Lease, Result<(), Fault>> for OneLabel<'a> {
 
     fn change(self, row: &mut Lease) -> Result<(), Fault> {
         row.relabel(self.alloc, self.key, self.value)
+    }
+}
+
+/// Other labels and other data.
+#[derive(Drop)]
+pub(crate) struct Parts {
+    pub(crate) labels: Labels,
+    pub(crate) extra: Data,
+}
+
+impl Change<Name, Lease, ()> for Parts {
+    ghost changes = { λ c old answer new. new ≡ lease_with c.labels c.extra old };
+
+    ghost keeps_name = { λ c old answer new is. ap (λ row. row.id) is };
+
+    fn change(self, row: &mut Lease) {
+        row.set_parts(self.labels, self.extra)
     }
 }
 

@@ -1,4 +1,4 @@
-//! One lease, with its labels and the resources that it holds.
+//! One lease, with its labels, its data and the resources that it holds.
 ghost use Rattle.std.specs.Prelude.{◌≡◌, [], map, None, IfOk, OnOk, OnErr, IsTrue};
 ghost use Rattle.meta_types.specs.Keys.{are_in_order, has_row, remove_row};
 ghost use Rattle.meta_types.specs.Resources.{resource_key, held};
@@ -7,7 +7,7 @@ ghost use Rattle.meta_types.specs.Faults.{Refuses, unless};
 ghost use Rattle.meta_types.specs.declared.fault.Fault.TheVariants.{InvalidArgument};
 ghost use Rattle.row_tables.specs.Arrived.{sorted};
 
-use meta_types::{Fault, Labels, Name, Resource, ShortName};
+use meta_types::{Data, Fault, Labels, Name, Resource, ShortName};
 use row_tables::{GroupedRow, NamedRow, RowTable, in_key_order};
 use std::alloc::Global;
 use std::marker::Model;
@@ -19,6 +19,7 @@ pub struct Lease {
     ns: ShortName,
     id: Name,
     labels: Labels,
+    extra: Data,
     resources: RowTable<Resource, Resource>,
 }
 
@@ -33,19 +34,28 @@ impl Model for Lease {
       ns = l.ns;
       id = l.id;
       labels = l.labels;
+      extra = l.extra;
       resources = sorted resource_key l.resources;
     } };
 }
 
 impl Lease {
     /// A lease that holds nothing yet.
-    pub(crate) fn new(alloc: Global, seed: Seed, ns: ShortName, id: Name, labels: Labels) -> Lease
-        ensures { result ≡ record { ns = ns; id = id; labels = labels; resources = [] } }
+    pub(crate) fn new(
+        alloc: Global,
+        seed: Seed,
+        ns: ShortName,
+        id: Name,
+        labels: Labels,
+        extra: Data,
+    ) -> Lease
+        ensures { result ≡ record { ns = ns; id = id; labels = labels; extra = extra; resources = [] } }
     {
         Lease {
             ns,
             id,
             labels,
+            extra,
             resources: RowTable::new(alloc, seed),
         }
     }
@@ -69,6 +79,13 @@ impl Lease {
         ensures { result.now ≡ self.now.labels }
     {
         &self.labels
+    }
+
+    /// Its data.
+    pub fn extra(&self) -> &Data
+        ensures { result.now ≡ self.now.extra }
+    {
+        &self.extra
     }
 
     /// What it holds, in the order of types and ids.
@@ -117,6 +134,13 @@ impl Lease {
         self.resources.take(resource).is_some()
     }
 
+    pub(crate) fn set_parts(&mut self, labels: Labels, extra: Data)
+        ensures { self.new ≡ record self.old { labels = labels; extra = extra } }
+    {
+        self.labels = labels;
+        self.extra = extra;
+    }
+
     pub(crate) fn relabel(&mut self, alloc: Global, key: &str, value: &str) -> Result<(), Fault>
         ensures fault { Refuses result
             (unless (takes_label key.now value.now self.old.labels) InvalidArgument) }
@@ -134,11 +158,13 @@ impl Lease {
         let ns = self.ns.copy()?;
         let id = self.id.copy()?;
         let labels = self.labels.copy(alloc)?;
+        let extra = self.extra.copy()?;
         let resources = self.resources.copy(alloc)?;
         Ok(Lease {
             ns,
             id,
             labels,
+            extra,
             resources,
         })
     }

@@ -1,16 +1,18 @@
 //! The leases of all namespaces, and what requests do to them.
-ghost use Rattle.std.specs.Prelude.{◌≡◌, length, ◌++◌, ◌∷◌, [], map, None, Some, option_map, option_copied, OnOk, OnErr, IfOk, IsTrue};
+ghost use Rattle.std.specs.Prelude.{◌≡◌, length, ◌∷◌, [], map, filter, bytes_eq, None, Some, option_map, option_copied, OnOk, OnErr, IfOk, IsTrue};
 ghost use Rattle.meta_types.specs.Keys.{are_in_order, row_at, has_row, add_row, remove_row, change_row};
 ghost use Rattle.meta_types.specs.Labels.{put_label};
 ghost use Rattle.meta_types.specs.Rows.{lease_key};
 ghost use Rattle.meta_types.specs.Changes.{lease_holds, hold_in_lease, release_in_lease, has_lease_in};
 ghost use Rattle.meta_types.specs.Faults.{Refuses, OnlyRefuses};
 ghost use Rattle.row_tables.specs.Arrived.{sorted};
+ghost use Rattle.lease_book.specs.Edits.{lease_with};
 ghost use Rattle.lease_book.specs.Calls.{creating_fault, missing_fault, labelling_fault, ids_in};
 
-use crate::edits::{Hold, OneLabel, Release};
+use crate::edits::{Hold, OneLabel, Parts, Release};
+use crate::ids::ids_of;
 use crate::lease::Lease;
-use meta_types::{Fault, Labels, Name, Resource, ShortName};
+use meta_types::{Data, Fault, Labels, Name, Resource, ShortName};
 use row_tables::{ArrivedByNamespace, ByNamespace};
 use std::alloc::Global;
 use std::marker::Model;
@@ -93,15 +95,22 @@ impl Leases {
         }
     }
 
-    /// The labels of a lease.
-    pub fn lease_labels(&self, ns: &ShortName, id: &Name) -> Option<&Labels>
-        ensures { option_copied result
-            ≡ option_map (λ row. row.labels) (row_at lease_key (ns.now ∷ id.now ∷ []) self.now) }
+    /// A lease.
+    pub fn get(&self, ns: &ShortName, id: &Name) -> Option<&Lease>
+        ensures { option_copied result ≡ row_at lease_key (ns.now ∷ id.now ∷ []) self.now }
     {
-        match self.rows.get(ns, id) {
-            Some(lease) => Some(lease.labels()),
-            None => None,
-        }
+        self.rows.get(ns, id)
+    }
+
+    /// The leases of a namespace, in the order of their ids.
+    pub fn leases_in(&self, alloc: Global, ns: &ShortName) -> Result<Vec<&Lease>, Fault>
+        ensures fault { Refuses result None }
+        ensures ok { IfOk result (λ list. map (λ row. row.now) list.items
+            ≡ filter (λ row. bytes_eq ns.now row.ns) self.now) }
+    {
+        // For the prover: the result is opened, not passed on.
+        let rows = self.rows.rows_in(alloc, ns)?;
+        Ok(rows)
     }
 
     /// Adds a lease that holds nothing yet.
@@ -111,11 +120,13 @@ impl Leases {
         ns: &ShortName,
         id: &Name,
         labels: Labels,
+        extra: Data,
     ) -> Result<(), Fault>
         ensures fault { Refuses result
             (creating_fault (has_row lease_key (ns.now ∷ id.now ∷ []) self.old)) }
         ensures ok { OnOk result (self.new ≡ add_row lease_key
-            (record { ns = ns.now; id = id.now; labels = labels; resources = [] }) self.old) }
+            (record { ns = ns.now; id = id.now; labels = labels; extra = extra; resources = [] })
+            self.old) }
         ensures err { OnErr result (self.new ≡ self.old) }
     {
         if self.has(ns, id) {
@@ -125,7 +136,7 @@ impl Leases {
         let ns = ns.copy()?;
         let id = id.copy()?;
         self.rows
-            .add(alloc, Lease::new(alloc, seed, ns, id, labels))
+            .add(alloc, Lease::new(alloc, seed, ns, id, labels, extra))
     }
 
     /// Takes a lease away, with what it holds.
@@ -139,6 +150,26 @@ impl Leases {
             Ok(())
         } else {
             Err(Fault::NotFound)
+        }
+    }
+
+    /// Sets the labels and the data of a lease.
+    pub fn set(
+        &mut self,
+        ns: &ShortName,
+        id: &Name,
+        labels: Labels,
+        extra: Data,
+    ) -> Result<(), Fault>
+        ensures fault { OnlyRefuses result
+            (missing_fault (has_row lease_key (ns.now ∷ id.now ∷ []) self.old)) }
+        ensures left { self.new ≡ change_row lease_key (ns.now ∷ id.now ∷ [])
+            (lease_with labels extra) self.old }
+        ensures err { OnErr result (self.new ≡ self.old) }
+    {
+        match self.rows.change(ns, id, Parts { labels, extra }) {
+            Some(()) => Ok(()),
+            None => Err(Fault::NotFound),
         }
     }
 
@@ -216,7 +247,7 @@ impl Leases {
         ensures fault { Refuses result None }
         ensures ok { IfOk result (λ ids. ids.items ≡ ids_in ns.now self.now) }
     {
-        let rows = self.rows.rows_in(alloc, ns)?;
+        let rows = self.leases_in(alloc, ns)?;
         ids_of(alloc, &rows)
     }
 
@@ -251,24 +282,4 @@ impl Leases {
             rows: ByNamespace::from_arrived(arrived),
         }
     }
-}
-
-fn ids_of(alloc: Global, rows: &[&Lease]) -> Result<Vec<Name>, Fault>
-    ensures fault { Refuses result None }
-    ensures ok { IfOk result (λ ids. ids.items ≡ map (λ row. row.id) (map (λ row. row.now) rows.now)) }
-{
-    let mut ids = Vec::new(alloc);
-    for row in rows {
-        push_id(&mut ids, row.id())?;
-    }
-    Ok(ids)
-}
-
-fn push_id(ids: &mut Vec<Name>, id: &Name) -> Result<(), Fault>
-    ensures fault { Refuses result None }
-    ensures ok { OnOk result (ids.new.items ≡ ids.old.items ++ id.now ∷ []) }
-{
-    let id = id.copy()?;
-    ids.push(id)?;
-    Ok(())
 }

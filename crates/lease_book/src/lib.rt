@@ -2,6 +2,7 @@
 #![tactic(auto)]
 
 mod edits;
+mod ids;
 mod lease;
 mod leases;
 

@@ -38,4 +38,5 @@ pub mod ChildrenFirst
 pub mod EachKind
 pub mod Finding
 pub mod EndTextsRead
+pub mod WrittenData
 mod WithoutRow

@@ -32,19 +32,21 @@ abbrev pub snap_kind : Test kind.SnapKind
 snap_kind = tags snap_kinds.the_type back found
 
 abbrev pub image : Test images.struct.D
-image = fields images.struct images.the_propositions (text ⊗ text ⊗ text ⊗ one labels)
+image = fields images.struct images.the_propositions (text ⊗ text ⊗ text ⊗ labels ⊗ one text)
 
 abbrev pub content : Test contents.struct.D
-content = fields contents.struct contents.the_propositions (text ⊗ text ⊗ one labels)
+content = fields contents.struct contents.the_propositions (text ⊗ text ⊗ labels ⊗ one text)
 
 abbrev pub container : Test containers.struct.D
-container = fields containers.struct containers.the_propositions (text ⊗ text ⊗ maybe (text ⊗ text) ⊗ one labels)
+container = fields containers.struct containers.the_propositions
+    (text ⊗ text ⊗ maybe (text ⊗ text) ⊗ labels ⊗ one text)
 
 abbrev pub instant : Test instants.struct.D
 instant = fields instants.struct instants.the_propositions (one signed)
 
 abbrev pub ingest : Test ingests.struct.D
-ingest = fields ingests.struct ingests.the_propositions (text ⊗ text ⊗ maybe text ⊗ maybe instant ⊗ one number)
+ingest = fields ingests.struct ingests.the_propositions
+    (text ⊗ text ⊗ maybe text ⊗ maybe instant ⊗ number ⊗ one text)
 
 abbrev pub snap_key : Test snap_keys.struct.D
 snap_key = fields snap_keys.struct snap_keys.the_propositions (text ⊗ text ⊗ one text)
@@ -53,7 +55,9 @@ abbrev pub resource : Test resources.enum.D
 resource = variants resources.enum (one text ⊕ text ⊗ one text ⊕ one text ⊕ tt)
 
 abbrev pub snap : Test snaps.struct.D
-snap = fields snaps.struct snaps.the_propositions (snap_key ⊗ snap_kind ⊗ maybe text ⊗ number ⊗ one labels)
+snap = fields snaps.struct snaps.the_propositions
+    (snap_key ⊗ snap_kind ⊗ maybe text ⊗ number ⊗ labels ⊗ one text)
 
 abbrev pub row : Test rows.enum.D
-row = variants rows.enum (one image ⊕ one container ⊕ one content ⊕ one ingest ⊕ one snap ⊕ text ⊗ one labels ⊕ tt)
+row = variants rows.enum (one image ⊕ one container ⊕ one content ⊕ one ingest ⊕ one snap ⊕ text ⊗
+    labels ⊗ one text ⊕ tt)

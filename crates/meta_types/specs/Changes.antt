@@ -71,6 +71,11 @@ is_new_to ns lease resource leases = option_map_or (λ id. not (lease_holds (ns 
 abbrev pub holding : Text → Option Text → Resource → State → State
 holding ns lease resource state = with_leases state (hold_under ns lease resource state.records.leases)
 
+-- the lease that the request names, if there is one, drops the object (containerd leases service)
+abbrev pub dropping : Text → Option Text → Resource → State → State
+dropping ns lease resource state = with_leases state (release_under ns lease resource
+    state.records.leases)
+
 -- ---- backend objects
 
 -- a blob is kept once, whoever stores it (containerd content-flow.md)

@@ -1,5 +1,5 @@
 -- What would go without a row. Ours, unless a source stands beside.
-use Rattle.std.specs.Prelude.{◌≡◌, ℕ, ℤ, Bool, false, not, ◌&&◌, ◌||◌, ◌==◌, List, filter, Option}
+use Rattle.std.specs.Prelude.{◌≡◌, ℕ, ℤ, Bool, false, not, ◌&&◌, ◌||◌, ◌==◌, List, filter, Option, None}
 use Rattle.std.specs.Prelude.{is_some, bytes_eq}
 use Rattle.std.specs.List.{list_any}
 use Rattle.std.specs.Option.{option_map_or}
@@ -28,10 +28,10 @@ abbrev pub removal_of : Text → Object → Request
 removal_of ns (Image name) = Q.ImageRemove (record { ns = ns; name = name })
 removal_of ns (Container name) = Q.ContainerRemove (record { ns = ns; name = name })
 removal_of ns (Lease id) = Q.LeaseRemove (record { ns = ns; name = id })
-removal_of ns (Held (R.Content digest)) = Q.ContentRemove (record { ns = ns; digest = digest })
+removal_of ns (Held (R.Content digest)) = Q.ContentRemove (record { ns = ns; digest = digest }) None
 removal_of ns (Held (R.Snapshot snapshotter name)) =
-    Q.SnapRemove (record { ns = ns; snapshotter = snapshotter; name = name })
-removal_of ns (Held (R.Ingest name)) = Q.IngestAbort (record { ns = ns; name = name })
+    Q.SnapRemove (record { ns = ns; snapshotter = snapshotter; name = name }) None
+removal_of ns (Held (R.Ingest name)) = Q.IngestAbort (record { ns = ns; name = name }) None
 
 -- what that request comes to
 abbrev pub removed : State → Text → Object → Outcome

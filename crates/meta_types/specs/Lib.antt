@@ -14,6 +14,8 @@ pub mod Promises
 pub mod Ops
 pub mod Changes
 pub mod Requests
+pub mod Shown
+pub mod Holdings
 pub mod Steps
 pub mod Histories
 pub mod Sound
@@ -31,6 +33,8 @@ pub mod Faults
 pub mod Limits
 pub mod Keys
 pub mod Labels
+pub mod Updates
+pub mod Data
 pub mod Resources
 pub mod Digits
 pub mod Digests

@@ -9,7 +9,7 @@ pub mod Snapshots
 pub mod Leases
 use Rattle.std.specs.Prelude.{Bool, not, ◌||◌, false, true, List, [], ◌∷◌, map, Option, None, filter, bytes_eq}
 use Rattle.std.specs.Option.{option_map_or}
-use Rattle.meta_types.specs.Text.{Text, is_short_name, is_name}
+use Rattle.meta_types.specs.Text.{Text, is_short_name, is_name, is_digest}
 use Rattle.meta_types.specs.Faults.{least_of}
 use Rattle.meta_types.specs.Keys.{Key}
 use Rattle.meta_types.specs.Labels.{LabelList, is_label, has_room}
@@ -54,6 +54,9 @@ is_allowed_name named = all_of (is_short_name named.ns ∷ is_name named.name �
 
 abbrev pub digest_key : RawContent → Key
 digest_key named = named.ns ∷ named.digest ∷ []
+
+abbrev pub is_allowed_content : RawContent → Bool
+is_allowed_content named = all_of (is_short_name named.ns ∷ is_digest named.digest ∷ [])
 
 abbrev pub snapshot_key : RawSnapshot → Key
 snapshot_key named = named.ns ∷ named.snapshotter ∷ named.name ∷ []

@@ -1,9 +1,11 @@
 -- Questions: each reads the store and leaves it as it was. None is an event, so no log and no list
 -- has one. Ours, unless a source stands beside.
-use Rattle.std.specs.Prelude.{◌≡◌, ℤ, Bool, List, Some, None}
+use Rattle.std.specs.Prelude.{◌≡◌, ℤ, Bool, List, map, Some, None}
 use Rattle.meta_types.specs.Text.{Text}
 use Rattle.meta_types.specs.Time.{instant_of}
-use Rattle.meta_types.specs.Rows.{Records, State}
+use Rattle.meta_types.specs.Rows.{BackLists, Records, State}
+use Rattle.meta_types.specs.Backends.{BackNames, object_name}
+use Rattle.meta_types.specs.Shown.{Shown}
 use Rattle.meta_types.specs.Steps.{Answer}
 use Rattle.meta_types.specs.Explanations.{object_of, is_asked, question_fault, IsExplanation}
 use Rattle.meta_types.specs.Impacts.{Impact, IsImpact, removed, impact_question_fault}
@@ -15,14 +17,24 @@ pub record ExplanationValue : Type 0 where
   pub kept : Bool
   pub path : List PathStep
 
+-- the names of all objects of the backend
+abbrev pub names_of : BackLists → BackNames
+names_of lists = record {
+  blobs = lists.blobs;
+  ingests = lists.ingests;
+  snapshots = map object_name lists.snapshots;
+}
+
 -- the answer to a question, each in the words of its own
 pub data QuestionAnswer : Type 0 where
   explains : ExplanationValue → QuestionAnswer
   foresees : Impact → QuestionAnswer
+  lists : BackNames → QuestionAnswer
 
--- the answer to a line: an event's, or a question's
+-- the answer to a line: an event's, what it shows beside, or a question's
 pub data LineAnswer : Type 0 where
   of_event : Answer → LineAnswer
+  of_shown : Shown → LineAnswer
   of_question : QuestionAnswer → LineAnswer
 
 -- The question has no fault, and this explains the row that it asks for, at its moment. The texts

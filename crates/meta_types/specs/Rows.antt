@@ -7,6 +7,7 @@
 --     images [ns, name] (containerd image store)
 --       target: the digest of the content that it runs from, stored or not
 --       labels: keys and values, by key
+--       extra: data that no collection reads, empty if there is none; so of each row below
 --     containers [ns, name] (containerd container store)
 --       snapshot: snapshotter and name of the snapshot that it runs on, if any, stored or not
 --       labels
@@ -47,6 +48,7 @@ pub record LeaseRow : Type 0 where
   pub ns : Text
   pub id : Text
   pub labels : LabelList
+  pub extra : Text
   pub resources : List Resource
 
 -- ---- the key of each row

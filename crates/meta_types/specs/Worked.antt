@@ -94,7 +94,12 @@ snap_named snapshotter name = record { ns = x; snapshotter = snapshotter; name =
 
 -- an image of this content, with these labels
 abbrev pub adds_image : Text → List (Text × Text) → Request
-adds_image target labels = ImageAdd (record { image = named i; target = target; labels = labels })
+adds_image target labels = ImageAdd (record {
+  image = named i;
+  target = target;
+  labels = labels;
+  extra = None;
+})
 
 -- content with these labels
 abbrev pub adds : Text → List (Text × Text) → Request
@@ -102,6 +107,7 @@ adds digest labels = ContentAdd (record {
   content = record { ns = x; digest = digest };
   labels = labels;
   lease = None;
+  extra = None;
 })
 
 -- content that the lease holds
@@ -110,11 +116,12 @@ adds_held digest = ContentAdd (record {
   content = record { ns = x; digest = digest };
   labels = [];
   lease = Some l;
+  extra = None;
 })
 
 -- a lease with these labels
 abbrev pub adds_lease : List (Text × Text) → Request
-adds_lease labels = LeaseAdd (record { lease = named l; labels = labels })
+adds_lease labels = LeaseAdd (record { lease = named l; labels = labels; extra = None })
 
 -- a resource that the lease holds
 abbrev pub holds : Text → Text → Request
@@ -131,6 +138,7 @@ prepares snapshotter key parent labels = SnapPrepare (record {
   parent = parent;
   labels = labels;
   lease = None;
+  extra = None;
 })
 
 -- a snapshot committed under a name
@@ -140,6 +148,8 @@ commits snapshotter key name = SnapCommit (record {
   name = name;
   labels = [];
   lease = None;
+  dropped_by = None;
+  extra = None;
 })
 
 -- a snapshot over no parent, committed under a name

@@ -2,6 +2,7 @@
 #![tactic(auto)]
 
 mod copies;
+mod data;
 mod digest;
 mod digest_text;
 mod digits;
@@ -23,8 +24,10 @@ mod rows;
 mod same;
 mod shared;
 mod short_name;
+mod shown_row;
 mod text;
 
+pub use data::Data;
 pub use digest::Digest;
 pub use digest_text::DigestText;
 pub use explanation::{By, Explanation, PathStep};
@@ -38,10 +41,12 @@ pub use object::Object;
 pub use raw::{RawLabel, RawLabels, RawText};
 pub use reply::{Holdings, Listing, Reply, ReplyRow};
 pub use request::{
-    ContainerAdd, ContentAdd, ImageAdd, ImageTarget, IngestBegin, IngestCommit, LeaseAdd,
-    LeaseResource, RawContent, RawName, RawSnapshot, Removal, Request, SnapAdd, SnapCommit,
+    ContainerAdd, ContainerSet, ContentAdd, ImageAdd, ImageSet, ImageTarget, IngestBegin,
+    IngestCommit, LeaseAdd, LeaseResource, RawContent, RawName, RawSnapshot, Removal, Request,
+    RowUpdate, SnapAdd, SnapCommit,
 };
 pub use resource::{Kind, Mode, Resource};
 pub use rows::{ContainerRow, ContentRow, ImageRow, IngestRow, SnapKey, SnapKind, SnapRow};
 pub use shared::Shared;
 pub use short_name::ShortName;
+pub use shown_row::ShownRow;

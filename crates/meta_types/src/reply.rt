@@ -6,6 +6,7 @@ ghost use Rattle.std.proofs.lemmas.Cmp.{nat_list_eq_equiv, lists_equiv};
 ghost use Rattle.meta_types.specs.Listings.{listed_text};
 ghost use Rattle.meta_types.specs.Faults.{Refuses};
 
+use crate::data::Data;
 use crate::digest::Digest;
 use crate::fault::Fault;
 use crate::labels::Labels;
@@ -155,7 +156,7 @@ impl Holdings {
     }
 }
 
-/// A row that was asked for; of a lease its id and its labels.
+/// A row that was asked for; of a lease its id, its labels and its data.
 #[derive(PartialEq, Clone, Drop)]
 pub enum ReplyRow {
     Image(ImageRow),
@@ -163,7 +164,7 @@ pub enum ReplyRow {
     Content(ContentRow),
     Ingest(IngestRow),
     Snap(SnapRow),
-    Lease(Name, Labels),
+    Lease(Name, Labels, Data),
 }
 
 /// What a request answers. One that changes the store answers `Done`.

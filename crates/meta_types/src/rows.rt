@@ -2,6 +2,7 @@
 ghost use Rattle.std.specs.Prelude.{◌≡◌, IfOk, None};
 ghost use Rattle.meta_types.specs.Faults.{Refuses};
 
+use crate::data::Data;
 use crate::digest::Digest;
 use crate::fault::Fault;
 use crate::instant::Instant;
@@ -17,6 +18,7 @@ pub struct ImageRow {
     pub name: Name,
     pub target: Digest,
     pub labels: Labels,
+    pub extra: Data,
 }
 
 impl ImageRow {
@@ -36,6 +38,7 @@ pub struct ContainerRow {
     pub name: Name,
     pub snapshot: Option<(ShortName, Name)>,
     pub labels: Labels,
+    pub extra: Data,
 }
 
 impl ContainerRow {
@@ -54,6 +57,7 @@ pub struct ContentRow {
     pub ns: ShortName,
     pub digest: Digest,
     pub labels: Labels,
+    pub extra: Data,
 }
 
 impl ContentRow {
@@ -75,6 +79,7 @@ pub struct IngestRow {
     pub expected: Option<Digest>,
     pub expires: Option<Instant>,
     pub number: u64,
+    pub extra: Data,
 }
 
 impl IngestRow {
@@ -122,6 +127,7 @@ pub struct SnapRow {
     pub parent: Option<Name>,
     pub number: u64,
     pub labels: Labels,
+    pub extra: Data,
 }
 
 impl SnapRow {

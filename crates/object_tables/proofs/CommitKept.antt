@@ -28,7 +28,8 @@ active_stays_out Active a c = absurd cc
 active_stays_out Committed a c = absurd cc
 active_stays_out View a c = absurd cc
 
-module _ (ns snapshotter key name : Text) (labels : LabelList) (rows : List SnapRow) (row : SnapRow)
+module _ (ns snapshotter key name : Text) (labels : LabelList) (extra : Text) (rows : List SnapRow)
+    (row : SnapRow)
   where
     -- the row under its new name
     abbrev pub named : SnapRow
@@ -38,6 +39,7 @@ module _ (ns snapshotter key name : Text) (labels : LabelList) (rows : List Snap
           kind =
               Committed;
           labels = labels;
+          extra = extra;
         }
 
     abbrev left : List SnapRow
@@ -49,7 +51,7 @@ module _ (ns snapshotter key name : Text) (labels : LabelList) (rows : List Snap
     module _ (found : row_at snap_key (ns ∷ snapshotter ∷ key ∷ []) rows ≡ Some row)
         (active : is_active row.kind ≡ true)
         (free : has_row snap_key (ns ∷ snapshotter ∷ name ∷ []) rows ≡ false) where
-      pub committed_is : committed ns snapshotter key name labels rows ≡ after
+      pub committed_is : committed ns snapshotter key name labels extra rows ≡ after
       committed_is = rw found refl
 
       still_free : has_row snap_key (ns ∷ snapshotter ∷ name ∷ []) left ≡ false

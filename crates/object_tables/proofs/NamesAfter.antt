@@ -12,7 +12,15 @@ use Rattle.row_tables.specs.Arrived.{one_text, kept}
 use Rattle.row_tables.specs.Visiting.{gone, all_visited}
 use Rattle.object_tables.specs.Children.{NamesByParent, names_under, entered, left, without_row}
 use Rattle.object_tables.proofs.OrderStays.{nothing_to_remove}
-use Rattle.object_tables.proofs.NamesUnder.{named_added, named_plain, named_less, named_relabelled, named_free, named_kept, entered_left}
+use Rattle.object_tables.proofs.NamesUnder.{
+  named_added,
+  named_plain,
+  named_less,
+  named_reset,
+  named_free,
+  named_kept,
+  entered_left,
+}
 use Rattle.object_tables.proofs.RowsKept.{row_is}
 
 module _ (rows : List SnapRow) (names : NamesByParent) (are : names ≡ names_under rows) where
@@ -49,8 +57,19 @@ module _ (rows : List SnapRow) (names : NamesByParent) (are : names ≡ names_un
   -- labels are no part of it
   pub names_labelled : (key : Key) (labels_in : SnapRow → LabelList) (after : List SnapRow) (r : Result (Unit {0}) Fault) → OnOk r (after ≡ change_row snap_key key (λ row. record row { labels = labels_in row }) rows)
       → OnErr r (after ≡ rows) → names ≡ names_under after
-  names_labelled key labels_in after (Ok u) ok err = are ∙ sym (ap names_under ok ∙ named_relabelled key labels_in rows)
+  names_labelled key labels_in after (Ok u) ok err = are
+      ∙ sym (ap names_under ok ∙ named_reset key labels_in (λ row. row.extra) rows)
   names_labelled key labels_in after (Err fault) ok err = are ∙ ap names_under (sym err)
+
+  -- nor is data
+  pub names_set : (key : Key) (labels_in : SnapRow → LabelList) (extra_in : SnapRow → Text)
+      (after : List SnapRow)
+      → after ≡ change_row snap_key key (λ row. record row {
+        labels = labels_in row;
+        extra = extra_in row;
+      }) rows → names ≡ names_under after
+  names_set key labels_in extra_in after e = are
+      ∙ sym (ap names_under e ∙ named_reset key labels_in extra_in rows)
 
   -- those that stay, once it saw the others
   pub names_kept : (marks : List Bool) → length marks ≡ length rows → are_in_order snap_key rows ≡ true → all_visited without_row (gone marks rows) names ≡ names_under (kept marks rows)

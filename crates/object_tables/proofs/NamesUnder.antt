@@ -181,12 +181,17 @@ named_less row rows found = go row.parent refl
     go None e = named_past row rows e found ∙ ap (λ o. left_by row.key o (names_under rows)) (sym e)
     go (Some p) e = named_removed row p rows e found ∙ ap (λ o. left_by row.key o (names_under rows)) (sym e)
 
--- labels are no part of it
-pub named_relabelled : (key : Key) (labels_in : SnapRow → LabelList) (rows : List SnapRow)
-    → names_under (change_row snap_key key (λ row. record row { labels = labels_in row }) rows) ≡ names_under rows
-named_relabelled key labels_in rows = λ i a b c. at a b c rows i
+-- labels and data are no part of it
+pub named_reset : (key : Key) (labels_in : SnapRow → LabelList) (extra_in : SnapRow → Text)
+    (rows : List SnapRow)
+    → names_under (change_row snap_key key
+    (λ row. record row { labels = labels_in row; extra = extra_in row }) rows) ≡ names_under rows
+named_reset key labels_in extra_in rows = λ i a b c. at a b c rows i
   where
-    at : (a b c : Text) (rows : List SnapRow) → names_under (change_row snap_key key (λ row. record row { labels = labels_in row }) rows) a b c ≡ names_under rows a b c
+    at : (a b c : Text) (rows : List SnapRow)
+        → names_under (change_row snap_key key
+        (λ row. record row { labels = labels_in row; extra = extra_in row }) rows) a b c
+        ≡ names_under rows a b c
     at a b c [] = refl
     at a b c (row ∷ rows) = elim (cases_Bool (is_key key (snap_key row))) [
       | inl t ↦ elim (cases_Bool (is_child_of a b c row)) [

@@ -1,5 +1,5 @@
 -- Parents and numbers after a call: of ingests that changed, and of snapshots.
-use Rattle.std.proofs.Common.{◌≡◌, Bool, false, List, [], ◌∷◌, sym, subst}
+use Rattle.std.proofs.Common.{◌≡◌, Bool, false, List, [], ◌∷◌, Option, refl, sym, subst}
 use Rattle.std.specs.Prelude.{Result, Ok, Err, OnOk, OnErr}
 use Rattle.std.specs.List.{list_any}
 use Rattle.meta_types.specs.Text.{Text}
@@ -10,12 +10,19 @@ use Rattle.meta_types.specs.Ops.Snapshots.{is_child_of}
 use Rattle.meta_types.specs.Faults.{Refuses, least_of}
 use Rattle.meta_types.specs.Sound.{AreNumbered}
 use Rattle.meta_types.specs.declared.fault.Fault.{Fault}
+use Rattle.meta_types.specs.declared.instant.Instant.{Instant}
 use Rattle.meta_types.specs.declared.rows.IngestRow.{IngestRow}
 use Rattle.meta_types.specs.declared.rows.SnapRow.{SnapRow}
 use Rattle.row_tables.proofs.Entries.{was_free}
 use Rattle.object_tables.specs.Calls.{kept}
-use Rattle.object_tables.proofs.ParentsKept.{relabel}
-use Rattle.object_tables.proofs.NumbersKept.{numbered_ingest_removed, numbered_snap_removed, numbered_snap_relabelled}
+use Rattle.object_tables.specs.Edits.{ingest_until}
+use Rattle.object_tables.proofs.ParentsKept.{reset}
+use Rattle.object_tables.proofs.NumbersKept.{
+  numbered_ingest_removed,
+  numbered_ingest_changed,
+  numbered_snap_removed,
+  numbered_snap_reset,
+}
 use Rattle.object_tables.proofs.SomeKept.{numbered_ingests_kept}
 
 -- as a call that was refused, or wasn't, leaves it
@@ -43,6 +50,12 @@ module _ (snapshots : List SnapRow) (old new : List IngestRow) (s : AreNumbered 
   begun_removed key e =
       subst (AreNumbered snapshots) (sym e) (numbered_ingest_removed snapshots key old s)
 
+  pub ended : (key : Key) (expires : Option Instant)
+      → new ≡ change_row ingest_key key (ingest_until expires) old → AreNumbered snapshots new
+  ended key expires e =
+      subst (AreNumbered snapshots) (sym e) (numbered_ingest_changed snapshots key
+      (ingest_until expires) (λ row. refl) old s)
+
   pub begun_left : (marks : List Bool) → new ≡ kept marks old → AreNumbered snapshots new
   begun_left marks e =
       subst (AreNumbered snapshots) (sym e) (numbered_ingests_kept marks snapshots old s)
@@ -65,10 +78,16 @@ module _ (ingests : List IngestRow) (old new : List SnapRow) (s : AreNumbered ol
   unstacked ns snapshotter key childless e =
       subst Numbered (sym e) (numbered_snap_removed ingests ns snapshotter key old childless s)
 
+  -- one has other labels and other data
+  pub set_there : (key : Key) (labels_in : SnapRow → LabelList) (extra_in : SnapRow → Text)
+      → new ≡ change_row snap_key key (reset labels_in extra_in) old → AreNumbered new ingests
+  set_there key labels_in extra_in e =
+      subst Numbered (sym e) (numbered_snap_reset ingests key labels_in extra_in old s)
+
   -- one has other labels, or as before
   pub relabelled : (key : Key) (labels_in : SnapRow → LabelList) (r : Result (Unit {0}) Fault)
-      → OnOk r (new ≡ change_row snap_key key (relabel labels_in) old) → OnErr r (new ≡ old)
-      → AreNumbered new ingests
+      → OnOk r (new ≡ change_row snap_key key (reset labels_in (λ row. row.extra)) old)
+      → OnErr r (new ≡ old) → AreNumbered new ingests
   relabelled key labels_in r ok err =
-      either Numbered old (change_row snap_key key (relabel labels_in) old) new r s
-      (numbered_snap_relabelled ingests key labels_in old s) ok err
+      either Numbered old (change_row snap_key key (reset labels_in (λ row. row.extra)) old) new r s
+      (numbered_snap_reset ingests key labels_in (λ row. row.extra) old s) ok err

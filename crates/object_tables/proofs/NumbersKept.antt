@@ -15,7 +15,15 @@ use Rattle.meta_types.specs.declared.rows.SnapRow.{SnapRow}
 use Rattle.meta_types.proofs.KeepsSound.{all_added, all_removed, all_changed}
 use Rattle.object_tables.proofs.PairsKept.{pairs_added, each_fails, all_both}
 use Rattle.object_tables.proofs.RowsKept.{pairs_removed, pairs_changed}
-use Rattle.object_tables.proofs.ParentsKept.{key_above, parent_kept, stays_added, stays_removed, other_parent, relabel, stays_relabelled}
+use Rattle.object_tables.proofs.ParentsKept.{
+  key_above,
+  parent_kept,
+  stays_added,
+  stays_removed,
+  other_parent,
+  reset,
+  stays_reset,
+}
 
 -- ---- numbers of ingests
 
@@ -67,6 +75,24 @@ numbered_ingest_removed snapshots key rows s = record {
       key rows all) snapshots s.apart;
 }
 
+-- a change that leaves the number
+pub numbered_ingest_changed : (snapshots : List SnapRow) (key : Key) (change : IngestRow
+    → IngestRow)
+    → ((row : IngestRow) → (change row).number ≡ row.number)
+    → (rows : List IngestRow) → AreNumbered snapshots rows
+    → AreNumbered snapshots (change_row ingest_key key change rows)
+numbered_ingest_changed snapshots key change same rows s = record {
+  parents = s.parents;
+  snapshots_apart = s.snapshots_apart;
+  ingests_apart = pairs_changed ingest_key TwoIngests key change
+      (λ a b h. (rw (same a) h, rw (same b) h)) rows s.ingests_apart;
+  apart = All-weaker (λ snap. Apart snap rows)
+      (λ snap. Apart snap (change_row ingest_key key change rows))
+      (λ snap all. all_changed ingest_key
+      (λ (begun : IngestRow). IsTrue (not (snap.number == begun.number)))
+      key change (λ begun h. rw (same begun) h) rows all) snapshots s.apart;
+}
+
 -- ---- numbers of snapshots
 
 pub numbered_snap_added : (ingests : List IngestRow) (new : SnapRow) (rows : List SnapRow)
@@ -110,21 +136,22 @@ numbered_snap_removed ingests ns snapshotter key rows childless s =
       apart = all_removed snap_key (λ snap. Apart snap ingests) gone rows s.apart;
     }
 
-pub numbered_snap_relabelled : (ingests : List IngestRow) (key : Key)
-    (labels_in : SnapRow → LabelList)
+pub numbered_snap_reset : (ingests : List IngestRow) (key : Key)
+    (labels_in : SnapRow → LabelList) (extra_in : SnapRow → Text)
     (rows : List SnapRow) → AreNumbered rows ingests
-    → AreNumbered (change_row snap_key key (relabel labels_in) rows) ingests
-numbered_snap_relabelled ingests key labels_in rows s =
-    let after = change_row snap_key key (relabel labels_in) rows in
+    → AreNumbered (change_row snap_key key (reset labels_in extra_in) rows) ingests
+numbered_snap_reset ingests key labels_in extra_in rows s =
+    let change : SnapRow → SnapRow = reset labels_in extra_in in
+    let after = change_row snap_key key change rows in
     record {
-      parents = all_changed snap_key (HasParent after) key (relabel labels_in) (λ row has. has) rows
+      parents = all_changed snap_key (HasParent after) key change (λ row has. has) rows
           (All-weaker (HasParent rows) (HasParent after)
           (λ row has. (parent_kept rows after row
-          (λ name e. stays_relabelled key (key_above row name) labels_in rows)
+          (λ name e. stays_reset key (key_above row name) labels_in extra_in rows)
           has).0) rows s.parents);
-      snapshots_apart = pairs_changed snap_key TwoSnaps key (relabel labels_in) (λ a b h. (h, h))
+      snapshots_apart = pairs_changed snap_key TwoSnaps key change (λ a b h. (h, h))
           rows s.snapshots_apart;
       ingests_apart = s.ingests_apart;
-      apart = all_changed snap_key (λ snap. Apart snap ingests) key (relabel labels_in)
+      apart = all_changed snap_key (λ snap. Apart snap ingests) key change
           (λ snap all. all) rows s.apart;
     }

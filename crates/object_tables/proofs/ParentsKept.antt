@@ -127,14 +127,16 @@ other_parent ns snapshotter key row name none e =
     back : (a b : Text) → bytes_eq a b ≡ true → bytes_eq b a ≡ true
     back a b h = (bytes_eq-Decides b a).1 (sym ((bytes_eq-Decides a b).0 h))
 
--- the labels of a row change
-abbrev pub relabel : (SnapRow → LabelList) → SnapRow → SnapRow
-relabel labels_in row = record row { labels = labels_in row }
+-- the labels and the data of a row change
+abbrev pub reset : (SnapRow → LabelList) → (SnapRow → Text) → SnapRow → SnapRow
+reset labels_in extra_in row = record row { labels = labels_in row; extra = extra_in row }
 
-pub stays_relabelled : (key other : Key) (labels_in : SnapRow → LabelList) (rows : List SnapRow)
-    → Stays rows (change_row snap_key key (relabel labels_in) rows) other
-stays_relabelled key other labels_in rows above e c =
-    let found = row_changed snap_key other key (relabel labels_in) (λ row. refl) rows above e in (
+pub stays_reset : (key other : Key) (labels_in : SnapRow → LabelList) (extra_in : SnapRow → Text)
+    (rows : List SnapRow) → Stays rows (change_row snap_key key (reset labels_in extra_in) rows)
+    other
+stays_reset key other labels_in extra_in rows above e c =
+    let found = row_changed snap_key other key (reset labels_in extra_in) (λ row. refl) rows above e
+    in (
       found.0,
       found.1,
       elim found.2 [

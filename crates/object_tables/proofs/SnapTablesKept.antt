@@ -15,8 +15,12 @@ use Rattle.meta_types.specs.declared.rows.SnapRow.{SnapRow}
 use Rattle.meta_types.proofs.KeepsSound.{rows_added, rows_removed, rows_changed}
 use Rattle.object_tables.specs.Calls.{without_snap}
 use Rattle.object_tables.proofs.RowsKept.{taken_out, free_removed}
-use Rattle.object_tables.proofs.ParentsKept.{relabel}
-use Rattle.object_tables.proofs.NumbersKept.{numbered_snap_added, numbered_snap_removed, numbered_snap_relabelled}
+use Rattle.object_tables.proofs.ParentsKept.{reset}
+use Rattle.object_tables.proofs.NumbersKept.{
+  numbered_snap_added,
+  numbered_snap_removed,
+  numbered_snap_reset,
+}
 use Rattle.object_tables.proofs.CommitKept.{named, committed_is, row_of, numbered_committed}
 use Rattle.object_tables.proofs.SomeKept.{fresh_is_childless}
 use Rattle.object_tables.proofs.OtherTables.{other_snapshots}
@@ -44,42 +48,45 @@ module _ (tables : Tables) (s : AreTables tables) where
       (numbered_snap_removed tables.ingests ns snapshotter key tables.snapshots childless
       s.numbered)
 
-  pub snap_relabelled : (key : Key) (labels_in : SnapRow → LabelList)
+  pub snap_reset : (key : Key) (labels_in : SnapRow → LabelList) (extra_in : SnapRow → Text)
       → AreTables
       (record tables {
-        snapshots = change_row snap_key key (λ row. record row { labels = labels_in row })
-            tables.snapshots;
+        snapshots = change_row snap_key key (reset labels_in extra_in) tables.snapshots;
       })
-  snap_relabelled key labels_in =
+  snap_reset key labels_in extra_in =
       other_snapshots tables s _
       (rows_changed snap_key (λ (row : SnapRow). row.key.ns) tables.namespaces key
-      (relabel labels_in)
+      (reset labels_in extra_in)
       (λ row. refl) (λ row. refl) tables.snapshots s.snapshots)
-      (numbered_snap_relabelled tables.ingests key labels_in tables.snapshots s.numbered)
+      (numbered_snap_reset tables.ingests key labels_in extra_in tables.snapshots s.numbered)
 
-  pub snap_committed : (ns snapshotter key name : Text) (labels : LabelList) (row : SnapRow)
+  pub snap_committed : (ns snapshotter key name : Text) (labels : LabelList) (extra : Text)
+      (row : SnapRow)
       → row_at snap_key (ns ∷ snapshotter ∷ key ∷ []) tables.snapshots ≡ Some row
       → is_active row.kind ≡ true
       → has_row snap_key (ns ∷ snapshotter ∷ name ∷ []) tables.snapshots ≡ false
       → AreTables
-      (record tables { snapshots = committed ns snapshotter key name labels tables.snapshots })
-  snap_committed ns snapshotter key name labels row found active free =
+      (record tables {
+        snapshots = committed ns snapshotter key name labels extra tables.snapshots;
+      })
+  snap_committed ns snapshotter key name labels extra row found active free =
       let rows = tables.snapshots in
       let gone : Key = ns ∷ snapshotter ∷ key ∷ [] in
-      let of = row_of ns snapshotter key name labels rows row found active free in
+      let of = row_of ns snapshotter key name labels extra rows row found active free in
       let there : list_any (bytes_eq ns) tables.namespaces ≡ true =
       ap (λ t. list_any (bytes_eq t) tables.namespaces) of.1
       ∙ All-contains
       (λ (other : SnapRow). IsTrue (list_any (bytes_eq other.key.ns) tables.namespaces))
       rows row s.snapshots.named of.0 in
-      rw (committed_is ns snapshotter key name labels rows row found active free)
+      rw (committed_is ns snapshotter key name labels extra rows row found active free)
       (other_snapshots tables s _
       (rows_added snap_key (λ (other : SnapRow). other.key.ns) tables.namespaces
-      (named ns snapshotter key name labels rows row) (remove_row snap_key gone rows) there
+      (named ns snapshotter key name labels extra rows row) (remove_row snap_key gone rows) there
       (free_removed snap_key (ns ∷ snapshotter ∷ name ∷ []) gone rows free)
       (rows_removed snap_key (λ (other : SnapRow). other.key.ns) tables.namespaces gone rows
       s.snapshots))
-      (numbered_committed ns snapshotter key name labels rows row found active free tables.ingests
+      (numbered_committed ns snapshotter key name labels extra rows row found active free
+      tables.ingests
       s.numbered))
 
   -- the rows are those before an addition that was taken back

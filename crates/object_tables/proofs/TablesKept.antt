@@ -12,10 +12,20 @@ use Rattle.meta_types.specs.declared.rows.ContentRow.{ContentRow}
 use Rattle.meta_types.specs.declared.rows.IngestRow.{IngestRow}
 use Rattle.meta_types.specs.declared.rows.SnapRow.{SnapRow}
 use Rattle.meta_types.proofs.KeepsSound.{rows_added, rows_removed, rows_changed}
-use Rattle.object_tables.proofs.NumbersKept.{numbered_ingest_added, numbered_ingest_removed}
+use Rattle.object_tables.proofs.NumbersKept.{
+  numbered_ingest_added,
+  numbered_ingest_removed,
+  numbered_ingest_changed,
+}
 use Rattle.object_tables.proofs.OtherTables.{other_images, other_containers, other_content, other_ingests}
 pub use Rattle.object_tables.proofs.OtherTables.{namespace_added, namespace_removed}
-pub use Rattle.object_tables.proofs.SnapTablesKept.{snap_added, snap_removed, snap_relabelled, snap_committed, snapshots_again}
+pub use Rattle.object_tables.proofs.SnapTablesKept.{
+  snap_added,
+  snap_removed,
+  snap_reset,
+  snap_committed,
+  snapshots_again,
+}
 
 module _ (tables : Tables) (s : AreTables tables) where
   -- ---- images, containers and content
@@ -108,3 +118,15 @@ module _ (tables : Tables) (s : AreTables tables) where
       other_ingests tables s _
       (rows_removed ingest_key (λ (row : IngestRow). row.ns) tables.namespaces key tables.ingests
       s.ingests) (numbered_ingest_removed tables.snapshots key tables.ingests s.numbered)
+
+  pub ingest_changed : (key : Key) (change : IngestRow → IngestRow)
+      → ((row : IngestRow) → ingest_key (change row) ≡ ingest_key row)
+      → ((row : IngestRow) → (change row).ns ≡ row.ns)
+      → ((row : IngestRow) → (change row).number ≡ row.number)
+      → AreTables (record tables { ingests = change_row ingest_key key change tables.ingests })
+  ingest_changed key change same same_ns same_number =
+      other_ingests tables s _
+      (rows_changed ingest_key (λ (row : IngestRow). row.ns) tables.namespaces key change same
+      same_ns
+      tables.ingests s.ingests)
+      (numbered_ingest_changed tables.snapshots key change same_number tables.ingests s.numbered)

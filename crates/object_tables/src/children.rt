@@ -10,11 +10,13 @@ ghost use Rattle.meta_types.specs.Ops.Snapshots.{is_child_of};
 ghost use Rattle.meta_types.specs.declared.rows.SnapRow.{SnapRow};
 ghost use Rattle.row_tables.specs.Arrived.{sorted};
 ghost use Rattle.object_tables.specs.Calls.{children_of, labelling_fault, kept};
+ghost use Rattle.object_tables.specs.Edits.{snap_with};
 ghost use Rattle.object_tables.specs.Children.{child_named, families_visited};
 
 use crate::families::Families;
+use crate::parts::set_snap;
 use crate::stored::relabel_snap;
-use meta_types::{Fault, Name, SnapKey, SnapRow};
+use meta_types::{Data, Fault, Labels, Name, SnapKey, SnapRow};
 use row_tables::{ArrivedBySnapshotter, BySnapshotter, RemovedRows};
 use std::alloc::Global;
 use std::marker::Model;
@@ -143,6 +145,16 @@ impl Snapshots {
         ensures err { OnErr result (self.new ≡ self.old) }
     {
         relabel_snap(&mut self.rows, alloc, at, key, value)
+    }
+
+    pub(crate) fn set(&mut self, at: &SnapKey, labels: Labels, extra: Data) -> bool
+        ensures found { result ≡ has_row snap_key
+            (at.now.ns ∷ at.now.snapshotter ∷ at.now.name ∷ []) self.old }
+        ensures left { self.new ≡ change_row snap_key
+            (at.now.ns ∷ at.now.snapshotter ∷ at.now.name ∷ []) (snap_with labels extra) self.old }
+        ensures same { OnFalse result (self.new ≡ self.old) }
+    {
+        set_snap(&mut self.rows, at, labels, extra)
     }
 
     pub(crate) fn is_parent(&self, key: &SnapKey) -> bool

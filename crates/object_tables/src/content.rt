@@ -1,14 +1,17 @@
 //! Content, as each namespace sees it.
-ghost use Rattle.std.specs.Prelude.{◌≡◌, ◌∷◌, [], OnOk, OnErr, option_copied};
+ghost use Rattle.std.specs.Prelude.{◌≡◌, ◌∷◌, [], IfOk, OnOk, OnErr, option_copied, bytes_eq, filter, map};
+ghost use Rattle.meta_types.specs.Changes.{has_namespace};
 ghost use Rattle.meta_types.specs.Keys.{row_at, has_row, add_row, remove_row, change_row};
 ghost use Rattle.meta_types.specs.Labels.{put_label};
 ghost use Rattle.meta_types.specs.Rows.{content_key};
 ghost use Rattle.meta_types.specs.Faults.{Refuses, OnlyRefuses};
+ghost use Rattle.object_tables.specs.Edits.{content_with};
 ghost use Rattle.object_tables.specs.Calls.{adding_fault, missing_fault, labelling_fault};
 
+use crate::parts::set_parts;
 use crate::stored::relabel;
 use crate::tables::Tables;
-use meta_types::{ContentRow, Digest, Fault, ShortName};
+use meta_types::{ContentRow, Data, Digest, Fault, Labels, ShortName};
 use std::alloc::Global;
 
 impl Tables {
@@ -25,6 +28,20 @@ impl Tables {
         ensures { result ≡ has_row content_key (ns.now ∷ digest.now ∷ []) self.now.content }
     {
         self.content.has(ns, digest)
+    }
+
+    /// The content of a namespace, in the order of the digests.
+    pub fn content_in(&self, alloc: Global, ns: &ShortName) -> Result<Vec<&ContentRow>, Fault>
+        ensures fault { Refuses result (missing_fault (has_namespace self.now ns.now)) }
+        ensures ok { IfOk result (λ list. map (λ row. row.now) list.items
+            ≡ filter (λ row. bytes_eq ns.now row.ns) self.now.content) }
+    {
+        if !self.has_ns(ns) {
+            return Err(Fault::NotFound);
+        }
+        // For the prover: the result is opened, not passed on.
+        let rows = self.content.rows_in(alloc, ns)?;
+        Ok(rows)
     }
 
     /// Adds a row of content.
@@ -52,6 +69,29 @@ impl Tables {
         ensures err { OnErr result (self.new ≡ self.old) }
     {
         if self.content.remove(ns, digest) {
+            Ok(())
+        } else {
+            Err(Fault::NotFound)
+        }
+    }
+
+    /// Sets the labels and the data of content.
+    pub fn set_content(
+        &mut self,
+        ns: &ShortName,
+        digest: &Digest,
+        labels: Labels,
+        extra: Data,
+    ) -> Result<(), Fault>
+        ensures fault { OnlyRefuses result (missing_fault (has_row content_key (ns.now
+            ∷ digest.now ∷ []) self.old.content)) }
+        ensures left { self.new ≡ record self.old {
+          content = change_row content_key (ns.now ∷ digest.now ∷ [])
+              (content_with labels extra) self.old.content;
+        } }
+        ensures err { OnErr result (self.new ≡ self.old) }
+    {
+        if set_parts(&mut self.content, ns, digest, (), labels, extra) {
             Ok(())
         } else {
             Err(Fault::NotFound)

@@ -1,17 +1,19 @@
 //! Images: names for the content that they run from.
-ghost use Rattle.std.specs.Prelude.{◌≡◌, ◌∷◌, [], None, OnOk, OnErr, option_copied};
+ghost use Rattle.std.specs.Prelude.{◌≡◌, ◌∷◌, [], None, IfOk, OnOk, OnErr, bytes_eq, filter, map, option_copied};
+ghost use Rattle.meta_types.specs.Changes.{has_namespace};
 ghost use Rattle.meta_types.specs.Keys.{row_at, has_row, add_row, remove_row, change_row};
 ghost use Rattle.meta_types.specs.Labels.{put_label};
 ghost use Rattle.meta_types.specs.Rows.{image_key};
 ghost use Rattle.meta_types.specs.Faults.{Refuses, OnlyRefuses};
 ghost use Rattle.std.specs.Bool.{OnFalse};
 ghost use Rattle.std.proofs.Common.{ap};
-ghost use Rattle.object_tables.specs.Edits.{with_target};
+ghost use Rattle.object_tables.specs.Edits.{with_target, image_with};
 ghost use Rattle.object_tables.specs.Calls.{adding_fault, missing_fault, labelling_fault};
 
+use crate::parts::set_parts;
 use crate::stored::relabel;
 use crate::tables::Tables;
-use meta_types::{Digest, Fault, ImageRow, Name, ShortName};
+use meta_types::{Data, Digest, Fault, ImageRow, Labels, Name, ShortName};
 use row_tables::{ByNamespace, Change};
 use std::alloc::Global;
 
@@ -44,6 +46,20 @@ impl Tables {
         ensures { result ≡ has_row image_key (ns.now ∷ name.now ∷ []) self.now.images }
     {
         self.images.has(ns, name)
+    }
+
+    /// The images of a namespace, in the order of their names.
+    pub fn images_in(&self, alloc: Global, ns: &ShortName) -> Result<Vec<&ImageRow>, Fault>
+        ensures fault { Refuses result (missing_fault (has_namespace self.now ns.now)) }
+        ensures ok { IfOk result (λ list. map (λ row. row.now) list.items
+            ≡ filter (λ row. bytes_eq ns.now row.ns) self.now.images) }
+    {
+        if !self.has_ns(ns) {
+            return Err(Fault::NotFound);
+        }
+        // For the prover: the result is opened, not passed on.
+        let rows = self.images.rows_in(alloc, ns)?;
+        Ok(rows)
     }
 
     /// Adds an image's row.
@@ -88,6 +104,30 @@ impl Tables {
         ensures err { OnErr result (self.new ≡ self.old) }
     {
         if set_target(&mut self.images, ns, name, target) {
+            Ok(())
+        } else {
+            Err(Fault::NotFound)
+        }
+    }
+
+    /// Sets all that an image has but its name.
+    pub fn set_image(
+        &mut self,
+        ns: &ShortName,
+        name: &Name,
+        target: Digest,
+        labels: Labels,
+        extra: Data,
+    ) -> Result<(), Fault>
+        ensures fault { OnlyRefuses result (missing_fault (has_row image_key (ns.now ∷ name.now
+            ∷ []) self.old.images)) }
+        ensures left { self.new ≡ record self.old {
+          images = change_row image_key (ns.now ∷ name.now ∷ [])
+              (image_with target labels extra) self.old.images;
+        } }
+        ensures err { OnErr result (self.new ≡ self.old) }
+    {
+        if set_parts(&mut self.images, ns, name, target, labels, extra) {
             Ok(())
         } else {
             Err(Fault::NotFound)

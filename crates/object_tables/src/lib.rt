@@ -10,6 +10,8 @@ mod images;
 mod ingests;
 mod names;
 mod parents;
+mod parts;
+mod snap_lists;
 mod snapshots;
 mod stored;
 mod tables;

@@ -1,23 +1,18 @@
 //! Snapshots, each over a committed parent or none.
-ghost use Rattle.std.specs.Prelude.{◌≡◌, ◌∷◌, [], map, false, None, IfOk, OnOk, OnErr, option_copied, option_map, IsTrue, bytes_eq, not, nat_lt};
-ghost use Rattle.std.specs.Option.{option_map_or};
-ghost use Rattle.std.specs.List.{dedup};
-ghost use Rattle.std.specs.List.Sorted.{IsStrictlySortedBy};
-ghost use Rattle.meta_types.specs.Text.{text_cmp};
+ghost use Rattle.std.specs.Prelude.{◌≡◌, ◌∷◌, [], false, None, IfOk, OnOk, OnErr, option_copied, option_map, IsTrue, nat_lt};
 ghost use Rattle.meta_types.specs.Keys.{row_at, has_row, add_row, change_row, are_in_order};
 ghost use Rattle.meta_types.specs.Labels.{put_label};
 ghost use Rattle.meta_types.specs.Rows.{snap_key};
 ghost use Rattle.meta_types.specs.Faults.{Refuses, OnlyRefuses};
 ghost use Rattle.meta_types.specs.Sound.{AreNumbered};
-ghost use Rattle.meta_types.specs.Ops.Snapshots.{committed, snapshots_in, parent_row};
-ghost use Rattle.meta_types.specs.Changes.{has_namespace};
+ghost use Rattle.meta_types.specs.Ops.Snapshots.{committed, parent_row};
 ghost use Rattle.meta_types.specs.declared.rows.SnapKind.TheVariants.{Committed};
-ghost use Rattle.object_tables.specs.Calls.{adding_snap_fault, removing_snap_fault, committing_fault, without_snap, labelling_fault, missing_fault, children_of, snapshotters_in};
+ghost use Rattle.object_tables.specs.Edits.{snap_with};
+ghost use Rattle.object_tables.specs.Calls.{adding_snap_fault, removing_snap_fault, committing_fault, without_snap, labelling_fault, missing_fault, children_of};
 
 use crate::ingests::Below;
-use crate::stored::names_of;
 use crate::tables::Tables;
-use meta_types::{Fault, Labels, Listing, Name, ShortName, SnapKey, SnapKind, SnapRow};
+use meta_types::{Data, Fault, Labels, Name, SnapKey, SnapKind, SnapRow};
 use row_tables::Test;
 use std::alloc::Global;
 
@@ -69,6 +64,24 @@ impl Tables {
         ensures err { OnErr result (self.new ≡ self.old) }
     {
         self.snapshots.relabel(alloc, at, key, value)
+    }
+
+    /// Sets the labels and the data of a snapshot.
+    pub fn set_snap(&mut self, at: &SnapKey, labels: Labels, extra: Data) -> Result<(), Fault>
+        ensures fault { OnlyRefuses result (missing_fault (has_row snap_key
+            (at.now.ns ∷ at.now.snapshotter ∷ at.now.name ∷ []) self.old.snapshots)) }
+        ensures left { self.new ≡ record self.old {
+          snapshots = change_row snap_key
+              (at.now.ns ∷ at.now.snapshotter ∷ at.now.name ∷ []) (snap_with labels extra)
+              self.old.snapshots;
+        } }
+        ensures err { OnErr result (self.new ≡ self.old) }
+    {
+        if self.snapshots.set(at, labels, extra) {
+            Ok(())
+        } else {
+            Err(Fault::NotFound)
+        }
     }
 
     /// Adds a snapshot's row. Its number is no ingest's or snapshot's, and above its parent's.
@@ -180,11 +193,12 @@ impl Tables {
         key: &SnapKey,
         name: Name,
         labels: Labels,
+        extra: Data,
     ) -> Result<(), Fault>
         ensures fault { Refuses result
             (committing_fault key.now.ns key.now.snapshotter key.now.name name self.old.snapshots) }
         ensures ok { OnOk result (self.new ≡ record self.old {
-          snapshots = committed key.now.ns key.now.snapshotter key.now.name name labels
+          snapshots = committed key.now.ns key.now.snapshotter key.now.name name labels extra
               self.old.snapshots;
         }) }
         ensures err { OnErr result (self.new ≡ self.old) }
@@ -193,7 +207,7 @@ impl Tables {
         let Some(row) = self.get_snap(key) else {
             return Err(Fault::NotFound);
         };
-        let row = committed_row(row, key, name, labels)?;
+        let row = committed_row(row, key, name, labels, extra)?;
         self.snapshots.add(alloc, row)?;
         self.snapshots.remove(key);
         Ok(())
@@ -207,74 +221,23 @@ impl Tables {
     {
         self.snapshots.children(alloc, key)
     }
-
-    /// The names of a snapshotter's snapshots in a namespace, by their bytes.
-    pub fn list_snaps(
-        &self,
-        alloc: Global,
-        ns: &ShortName,
-        snapshotter: &ShortName,
-    ) -> Result<Listing, Fault>
-        ensures fault { Refuses result (missing_fault (has_namespace self.now ns.now)) }
-        ensures ok { IfOk result (λ names. names
-            ≡ snapshots_in ns.now snapshotter.now self.now.snapshots) }
-    {
-        if !self.has_ns(ns) {
-            return Err(Fault::NotFound);
-        }
-        let rows = self.snapshots.table().rows_of(alloc, ns, snapshotter)?;
-        names_of(alloc, &rows)
-    }
-
-    /// The snapshotters that have a snapshot in a namespace, each once, by their bytes.
-    pub fn snapshotters(&self, alloc: Global, ns: &ShortName) -> Result<Listing, Fault>
-        ensures fault { Refuses result (missing_fault (has_namespace self.now ns.now)) }
-        ensures ok { IfOk result (λ names. names ≡ snapshotters_in ns.now self.now.snapshots) }
-        ensures order { IfOk result (λ names. IsStrictlySortedBy text_cmp names) }
-    {
-        if !self.has_ns(ns) {
-            return Err(Fault::NotFound);
-        }
-        let rows = self.snapshots.table().rows_in(alloc, ns)?;
-        snapshotters_of(alloc, &rows)
-    }
-}
-
-fn snapshotters_of(alloc: Global, rows: &[&SnapRow]) -> Result<Listing, Fault>
-    ensures fault { Refuses result None }
-    ensures ok { IfOk result (λ names. names
-        ≡ dedup bytes_eq (map (λ row. row.key.snapshotter) (map (λ row. row.now) rows.now))) }
-{
-    let mut names = Listing::new(alloc);
-    let mut last = None;
-    for row in rows {
-        if is_next(last, row) {
-            names.push_short_name(&row.key.snapshotter)?;
-            last = Some(&row.key.snapshotter);
-        }
-    }
-    Ok(names)
-}
-
-// Whether the row's snapshotter is another than the last.
-fn is_next(last: Option<&ShortName>, row: &SnapRow) -> bool
-    ensures { result ≡ not (option_map_or (bytes_eq row.now.key.snapshotter) (option_copied
-        last.entry) false) }
-{
-    match last {
-        Some(last) => row.key.snapshotter != *last,
-        None => true,
-    }
 }
 
 // The row that a commit makes. Its texts are shared.
-fn committed_row(row: &SnapRow, key: &SnapKey, name: Name, labels: Labels) -> Result<SnapRow, Fault>
+fn committed_row(
+    row: &SnapRow,
+    key: &SnapKey,
+    name: Name,
+    labels: Labels,
+    extra: Data,
+) -> Result<SnapRow, Fault>
     ensures fault { Refuses result None }
     ensures ok { IfOk result (λ new. new ≡ record row.now {
       key = record
           { ns = key.now.ns; snapshotter = key.now.snapshotter; name = name };
       kind = Committed;
       labels = labels;
+      extra = extra;
     }) }
 {
     let ns = key.ns.copy()?;
@@ -293,5 +256,6 @@ fn committed_row(row: &SnapRow, key: &SnapKey, name: Name, labels: Labels) -> Re
         parent,
         number: row.number,
         labels,
+        extra,
     })
 }

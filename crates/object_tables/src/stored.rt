@@ -1,4 +1,4 @@
-//! Rows that are found by their names in tables of hashes: listings, and labels.
+//! Rows that are found by their names in tables of hashes: listings and labels.
 ghost use Rattle.std.specs.Prelude.{◌≡◌, ◌∷◌, [], ◌++◌, map, None, IfOk, OnOk, OnErr, refl};
 ghost use Rattle.meta_types.specs.Text.{Text};
 ghost use Rattle.meta_types.specs.Keys.{row_at, change_row};

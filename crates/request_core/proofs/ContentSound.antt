@@ -10,7 +10,10 @@ use Rattle.meta_types.specs.Labels.{labels_of, put_label}
 use Rattle.meta_types.specs.Resources.{resource_key, resource_of, held}
 use Rattle.meta_types.specs.Rows.{State, LeaseRow, content_key, lease_key}
 use Rattle.meta_types.specs.Changes.{with_content, with_blob, put_blob, hold_in_lease, release_in_lease}
+use Rattle.meta_types.specs.Data.{data_of}
 use Rattle.meta_types.specs.Ops.{least_fault}
+use Rattle.meta_types.specs.Ops.Content.{set_content}
+use Rattle.meta_types.specs.Ops.Leases.{set_lease}
 use Rattle.meta_types.specs.Requests.{outcome}
 use Rattle.meta_types.specs.Sound.{AreRows, IsSound}
 use Rattle.meta_types.specs.declared.rows.ContentRow.{ContentRow}
@@ -22,10 +25,11 @@ use Rattle.meta_types.specs.declared.request.RawContent.{RawContent}
 use Rattle.meta_types.specs.declared.request.ContentAdd.{ContentAdd}
 use Rattle.meta_types.specs.declared.request.LeaseAdd.{LeaseAdd}
 use Rattle.meta_types.specs.declared.request.LeaseResource.{LeaseResource}
+use Rattle.meta_types.specs.declared.request.RowUpdate.{RowUpdate}
 use Rattle.meta_types.specs.declared.request.Request.TheVariants as R
 use Rattle.meta_types.proofs.KeepsSound.{all_removed, all_changed, rows_added, rows_removed, rows_changed}
 use Rattle.object_tables.proofs.TablesKept.{content_added, content_removed, content_changed}
-use Rattle.request_core.proofs.ListsSound.{none_applies, sound_content, sound_leases, still_stored, leases_held}
+use Rattle.request_core.proofs.ListsSound.{none_applies, sound_content, sound_leases, still_stored, leases_held, leases_released}
 
 -- ---- content
 
@@ -42,6 +46,7 @@ after_content_add state asked s none =
       ns = asked.content.ns;
       digest = asked.content.digest;
       labels = labels_of asked.labels;
+      extra = data_of asked.extra;
     } in
     let rows = state.records.tables.content in
     let blobs = state.backends.blobs in
@@ -55,33 +60,53 @@ after_content_add state asked s none =
     (Content asked.content.digest) state.records.leases
     s.leases)
 
-pub after_content_remove : (state : State) (content : RawContent) → IsSound state
-    → IsSound (outcome state (R.ContentRemove content)).after
-after_content_remove state content s =
+pub after_content_remove : (state : State) (content : RawContent) (dropped_by : Option Text)
+    → IsSound state → IsSound (outcome state (R.ContentRemove content dropped_by)).after
+after_content_remove state content dropped_by s =
     let key : Key = content.ns ∷ content.digest ∷ [] in
     let rows = state.records.tables.content in
     let blobs = state.backends.blobs in
-    sound_content state s (remove_row content_key key rows) blobs
+    let gone = sound_content state s (remove_row content_key key rows) blobs
     (content_removed state.records.tables s.tables key)
     (record {
       held = all_removed content_key (IsStored blobs) key rows s.stored.held;
       in_order = s.stored.in_order;
+    }) in
+    sound_leases (with_content state (remove_row content_key key rows)) gone _
+    (leases_released state.records.tables.namespaces content.ns dropped_by (Content content.digest)
+    state.records.leases s.leases)
+
+-- a row changes, but neither its key nor its blob
+content_becomes : (state : State) (place : Key) (change : ContentRow → ContentRow)
+    → ((row : ContentRow) → content_key (change row) ≡ content_key row)
+    → ((row : ContentRow) → (change row).ns ≡ row.ns)
+    → ((row : ContentRow) → (change row).digest ≡ row.digest) → IsSound state
+    → IsSound (with_content state (change_row content_key place change
+    state.records.tables.content))
+content_becomes state place change same same_ns same_blob s =
+    let blobs = state.backends.blobs in
+    sound_content state s _ blobs
+    (content_changed state.records.tables s.tables place change same same_ns)
+    (record {
+      held = all_changed content_key (IsStored blobs) place change
+          (λ row there. rw (same_blob row) there)
+          state.records.tables.content s.stored.held;
+      in_order = s.stored.in_order;
     })
+
+pub after_content_set : (state : State) (content : RawContent) (update : RowUpdate) → IsSound state
+    → IsSound (outcome state (R.ContentSet content update)).after
+after_content_set state content update s =
+    content_becomes state (content.ns ∷ content.digest ∷ []) (set_content update) (λ row. refl)
+    (λ row. refl)
+    (λ row. refl) s
 
 pub after_content_label : (state : State) (content : RawContent) (label : RawLabel) → IsSound state
     → IsSound (outcome state (R.ContentLabel content label)).after
 after_content_label state content label s =
-    let place : Key = content.ns ∷ content.digest ∷ [] in
-    let blobs = state.backends.blobs in
-    let change : ContentRow → ContentRow =
-    λ row. record row { labels = put_label label.key label.value row.labels } in
-    sound_content state s _ blobs
-    (content_changed state.records.tables s.tables place change (λ row. refl) (λ row. refl))
-    (record {
-      held = all_changed content_key (IsStored blobs) place change (λ row there. there)
-          state.records.tables.content s.stored.held;
-      in_order = s.stored.in_order;
-    })
+    content_becomes state (content.ns ∷ content.digest ∷ [])
+    (λ row. record row { labels = put_label label.key label.value row.labels }) (λ row. refl)
+    (λ row. refl) (λ row. refl) s
 
 -- ---- leases
 
@@ -98,6 +123,7 @@ after_lease_add state asked s none =
       ns = asked.lease.ns;
       id = asked.lease.name;
       labels = labels_of asked.labels;
+      extra = data_of asked.extra;
       resources = [];
     } in
     sound_leases state s _
@@ -127,6 +153,13 @@ after_lease_label state lease label s =
     (λ row. record row { labels = put_label label.key label.value row.labels }) (λ row. refl)
     (λ row. refl)
     state.records.leases s.leases)
+
+pub after_lease_set : (state : State) (lease : RawName) (update : RowUpdate) → IsSound state
+    → IsSound (outcome state (R.LeaseSet lease update)).after
+after_lease_set state lease update s =
+    sound_leases state s _
+    (lease_changed state.records.tables.namespaces (lease.ns ∷ lease.name ∷ []) (set_lease update)
+    (λ row. refl) (λ row. refl) state.records.leases s.leases)
 
 pub after_lease_hold : (state : State) (asked : LeaseResource) → IsSound state
     → IsSound (outcome state (R.LeaseHold asked)).after

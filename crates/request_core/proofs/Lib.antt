@@ -1,7 +1,13 @@
 pub mod EmptyStore
 pub mod PairLabels
+pub mod SetRows
+pub mod SetKinds
+pub mod ShownRows
+pub mod ShownSnapshots
+pub mod ShownIngests
 pub mod Refusals
 pub mod Undone
+pub mod OpenedIngests
 pub mod FreeNumbers
 pub mod Following
 pub mod IngestEnds
@@ -20,3 +26,9 @@ pub mod EachRequest
 pub mod Prepared
 pub mod NextNumber
 pub mod HistoriesSound
+pub mod HeldThere
+pub mod LentRows
+pub mod HeldStays
+pub mod ThereHeld
+pub mod HoldsThere
+pub mod AppliedThere

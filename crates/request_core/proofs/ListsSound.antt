@@ -5,10 +5,10 @@ use Rattle.std.specs.List.{list_any}
 use Rattle.std.proofs.lemmas.Bool.{cases_Bool}
 use Rattle.std.proofs.lemmas.Slice.Eq.{bytes_eq-Decides}
 use Rattle.meta_types.specs.Text.{Text}
-use Rattle.meta_types.specs.Keys.{add_row, is_before}
-use Rattle.meta_types.specs.Resources.{held}
+use Rattle.meta_types.specs.Keys.{add_row, remove_row, is_before}
+use Rattle.meta_types.specs.Resources.{resource_key, held}
 use Rattle.meta_types.specs.Rows.{State, LeaseRow, BackSnap, namespace_key, content_key, lease_key}
-use Rattle.meta_types.specs.Changes.{with_images, with_containers, with_leases, put_blob, hold_under}
+use Rattle.meta_types.specs.Changes.{with_images, with_containers, with_leases, put_blob, hold_under, release_under}
 use Rattle.meta_types.specs.Faults.{least_of}
 use Rattle.meta_types.specs.Ops.{Outcome, least_fault}
 use Rattle.meta_types.specs.Sound.{AreRows, AreTables, HaveBlobs, HaveObjects, IsSound}
@@ -132,3 +132,17 @@ leases_held namespaces ns (Some id) resource leases s =
     rows_changed lease_key (λ (row : LeaseRow). row.ns) namespaces (ns ∷ id ∷ [])
     (λ row. record row { resources = held resource row.resources }) (λ row. refl) (λ row. refl)
     leases s
+
+-- nor what it drops
+pub leases_released : (namespaces : List Text) (ns : Text) (lease : Option Text)
+    (resource : Resource)
+    (leases : List LeaseRow) → AreRows lease_key (λ (row : LeaseRow). row.ns) namespaces leases
+    → AreRows lease_key (λ (row : LeaseRow). row.ns) namespaces
+    (release_under ns lease resource leases)
+leases_released namespaces ns None resource leases s = s
+leases_released namespaces ns (Some id) resource leases s =
+    rows_changed lease_key (λ (row : LeaseRow). row.ns) namespaces (ns ∷ id ∷ [])
+    (λ row. record row {
+      resources = remove_row resource_key (resource_key resource) row.resources;
+    })
+    (λ row. refl) (λ row. refl) leases s

@@ -6,6 +6,7 @@ use Rattle.std.proofs.lemmas.Bool.{or_parts, not-false}
 use Rattle.meta_types.specs.Text.{Text}
 use Rattle.meta_types.specs.Keys.{add_row}
 use Rattle.meta_types.specs.Labels.{labels_of}
+use Rattle.meta_types.specs.Data.{data_of}
 use Rattle.meta_types.specs.Rows.{State, snap_key}
 use Rattle.meta_types.specs.Limits.{is_out_of_numbers}
 use Rattle.meta_types.specs.Changes.{with_snapshots, with_snapshot_object}
@@ -41,6 +42,7 @@ after_prepares state kind asked s none =
       parent = asked.parent;
       number = state.records.next;
       labels = labels_of asked.labels;
+      extra = data_of asked.extra;
     } in
     let missing = or_parts (lacks state asked.snapshot.ns asked.lease)
     (is_some asked.parent && is_none above) f.1 in

@@ -1,6 +1,6 @@
 -- Requests on namespaces, images and containers keep a state sound. None of it speaks of code.
 use Rattle.std.proofs.Common.{◌≡◌, List, [], ◌∷◌, Option, None, refl}
-use Rattle.std.specs.Prelude.{bytes_eq, option_map, option_and_then}
+use Rattle.std.specs.Prelude.{bytes_eq}
 use Rattle.std.specs.List.{list_any}
 use Rattle.std.proofs.lemmas.Bool.{or_parts, not-false}
 use Rattle.meta_types.specs.Text.{Text}
@@ -16,7 +16,12 @@ use Rattle.meta_types.specs.declared.raw.RawLabel.{RawLabel}
 use Rattle.meta_types.specs.declared.request.RawName.{RawName}
 use Rattle.meta_types.specs.declared.request.ImageAdd.{ImageAdd}
 use Rattle.meta_types.specs.declared.request.ImageTarget.{ImageTarget}
+use Rattle.meta_types.specs.declared.request.ImageSet.{ImageSet}
+use Rattle.meta_types.specs.Data.{data_of}
+use Rattle.meta_types.specs.Ops.Images.{set_image}
+use Rattle.meta_types.specs.Ops.Containers.{snapshot_named, set_container}
 use Rattle.meta_types.specs.declared.request.ContainerAdd.{ContainerAdd}
+use Rattle.meta_types.specs.declared.request.ContainerSet.{ContainerSet}
 use Rattle.meta_types.specs.declared.request.Request.TheVariants as R
 use Rattle.meta_types.proofs.KeepsSound.{rows_among, any_added}
 use Rattle.object_tables.proofs.OtherTables.{unused, namespace_added, namespace_removed}
@@ -69,6 +74,7 @@ after_image_add state asked s none =
       name = asked.image.name;
       target = asked.target;
       labels = labels_of asked.labels;
+      extra = data_of asked.extra;
     } in
     sound_images state s _
     (image_added state.records.tables s.tables row (not-false _ (or_parts _ _ f.1).0) f.2)
@@ -79,6 +85,13 @@ after_image_target state asked s =
     sound_images state s _
     (image_changed state.records.tables s.tables (asked.image.ns ∷ asked.image.name ∷ [])
     (λ row. record row { target = asked.target }) (λ row. refl) (λ row. refl))
+
+pub after_image_set : (state : State) (asked : ImageSet) → IsSound state
+    → IsSound (outcome state (R.ImageSet asked)).after
+after_image_set state asked s =
+    sound_images state s _
+    (image_changed state.records.tables s.tables (asked.image.ns ∷ asked.image.name ∷ [])
+    (set_image asked) (λ row. refl) (λ row. refl))
 
 pub after_image_remove : (state : State) (image : RawName) → IsSound state
     → IsSound (outcome state (R.ImageRemove image)).after
@@ -104,11 +117,20 @@ after_container_add state asked s none =
     let row : ContainerRow = record {
       ns = asked.container.ns;
       name = asked.container.name;
-      snapshot = option_and_then (λ s. option_map (λ k. (s, k)) asked.key) asked.snapshotter;
+      snapshot = snapshot_named asked.snapshotter asked.key;
       labels = labels_of asked.labels;
+      extra = data_of asked.extra;
     } in
     sound_containers state s _
     (container_added state.records.tables s.tables row (not-false _ (or_parts _ _ f.1).0) f.2)
+
+pub after_container_set : (state : State) (asked : ContainerSet) → IsSound state
+    → IsSound (outcome state (R.ContainerSet asked)).after
+after_container_set state asked s =
+    sound_containers state s _
+    (container_changed state.records.tables s.tables
+    (asked.container.ns ∷ asked.container.name ∷ [])
+    (set_container asked) (λ row. refl) (λ row. refl))
 
 pub after_container_remove : (state : State) (container : RawName) → IsSound state
     → IsSound (outcome state (R.ContainerRemove container)).after

@@ -97,6 +97,12 @@ ReadsTexts (Ok x) allowed value = (allowed ≡ true) × (x ≡ value)
 ReadsTexts (Err Reading) allowed value = ⊤
 ReadsTexts (Err (By fault)) allowed value = (fault ≡ InvalidArgument) × (allowed ≡ false)
 
+-- texts are put where they are allowed
+abbrev pub PutsTexts : Result (Unit {0}) Refusal → Bool → Type 0 → Type 0
+PutsTexts (Ok x) allowed Put = (allowed ≡ true) × Put
+PutsTexts (Err Reading) allowed Put = ⊤
+PutsTexts (Err (By fault)) allowed Put = (fault ≡ InvalidArgument) × (allowed ≡ false)
+
 -- OutOfMemory, while texts are read
 abbrev pub reading : Fault → Refusal
 reading OutOfMemory = Reading

@@ -1,4 +1,5 @@
 //! Laws of requests and histories, each as the contract of a function that does nothing.
+ghost use Rattle.meta_types.specs.Holdings.{WhatIsThereIsHeld, WhatIsHeldStays};
 ghost use Rattle.request_core.specs.Laws.{ARequestKeepsAStoreSound, ARemovalByNameKeepsAStoreSound, AnEventKeepsAStoreSound, AHistoryKeepsAStoreSound};
 
 /// Each event of a history keeps a sound store sound, and so does the whole history.
@@ -7,4 +8,11 @@ pub fn histories_keep_stores_sound()
     ensures a_removal_by_name_keeps_a_store_sound { ARemovalByNameKeepsAStoreSound }
     ensures an_event_keeps_a_store_sound { AnEventKeepsAStoreSound }
     ensures a_history_keeps_a_store_sound { AHistoryKeepsAStoreSound }
+{}
+
+/// What a line makes under a lease, or finds there where its lease is to hold that, the lease holds
+/// after it, and each collection at which the lease hasn't expired keeps it.
+pub fn what_is_there_is_held_and_stays()
+    ensures what_is_there_is_held { WhatIsThereIsHeld }
+    ensures what_is_held_stays { WhatIsHeldStays }
 {}

@@ -4,3 +4,4 @@ pub(crate) mod labels;
 pub(crate) mod lists;
 pub(crate) mod names;
 pub(crate) mod rows;
+pub(crate) mod updates;

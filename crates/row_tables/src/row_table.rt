@@ -8,12 +8,14 @@ ghost use Rattle.indexmap.specs.IndexMap.{IsUnique, get, insert_entry};
 ghost use Rattle.row_tables.specs.Arrived.{sorted, by_name, same_key, kept, without_memory, Becomes};
 ghost use Rattle.row_tables.specs.Visiting.{gone, all_visited};
 
+mod inserting;
+
 use crate::marks::take_mark;
 use crate::named::Named;
 use crate::row::{Change, NamedRow, RemovedRows, Test};
+use crate::row_table::inserting::insert_new;
 use crate::visiting::visit_removed;
 use indexmap::IndexMap;
-use indexmap::map::Entry;
 use meta_types::Fault;
 use std::alloc::{AllocFailed, Global};
 use std::hash::Hash;
@@ -211,31 +213,6 @@ impl<K: Named, R: NamedRow<K>> RowTable<K, R> {
             (sorted (by_name K.texts_of R.name_of) self.old) }
     {
         retain_rows(&mut self.rows, marks);
-    }
-}
-
-// One look for the name gives its row's place, or the one where a row goes.
-fn insert_new<K: Named, R: NamedRow<K>>(
-    rows: &mut IndexMap<K, R, Seed>,
-    name: K,
-    row: R,
-) -> Result<(), Fault>
-    ensures fault { Refuses result (least_of false false (is_some (get K.eq rows.old name)) false) }
-    ensures ok { OnOk result (rows.new.entries ≡ insert_entry K.eq rows.old.entries name row) }
-    ensures err { OnErr result (rows.new.entries ≡ rows.old.entries) }
-    ensures unique { IsUnique K.eq rows.new }
-{
-    match rows.entry(name) {
-        Ok(Entry::Vacant(place)) => {
-            place.insert(row);
-            Ok(())
-        }
-        Ok(Entry::Occupied(there)) => {
-            // Lends the row that is there, so that the proof sees the map again.
-            let _ = there.into_mut();
-            Err(Fault::AlreadyExists)
-        }
-        Err(_) => Err(Fault::OutOfMemory),
     }
 }
 

@@ -1,4 +1,4 @@
-//! Leases, compared with their labels and with what they hold.
+//! Leases, compared with their labels, their data and with what they hold.
 ghost use Rattle.std.specs.Prelude.{◌≡◌, ◌↔◌, IsTrue, IfOk, None, map, take};
 ghost use Rattle.meta_types.specs.Faults.{Refuses};
 
@@ -30,9 +30,10 @@ fn is_same_lease(alloc: Global, lease: &Lease, other: &Lease) -> Result<bool, Fa
     if !have_same_key(lease, other) {
         return Ok(false);
     }
-    if !lease.labels().is(other.labels()) {
+    if !lease.labels().is(other.labels()) || lease.extra() != other.extra() {
         return Ok(false);
     }
+    // For the prover: the result is opened, not passed on.
     let same = hold_same(alloc, lease, other)?;
     Ok(same)
 }
@@ -64,6 +65,7 @@ pub(crate) fn are_same_leases(
 {
     let rows = leases.leases(alloc)?;
     let others = others.leases(alloc)?;
+    // For the prover: the result is opened, not passed on.
     let same = are_same_rows(alloc, &rows, &others)?;
     Ok(same)
 }

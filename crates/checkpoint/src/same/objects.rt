@@ -98,6 +98,7 @@ pub(crate) fn are_same_objects<
     if !have_same_ingests(alloc, objects.ingests(), others.ingests())? {
         return Ok(false);
     }
+    // For the prover: the result is opened, not passed on.
     let same = have_same_snaps(alloc, objects, others)?;
     Ok(same)
 }

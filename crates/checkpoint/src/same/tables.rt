@@ -85,6 +85,7 @@ pub(crate) fn are_same_tables(
     if !have_same_ingests(alloc, tables, others)? {
         return Ok(false);
     }
+    // For the prover: the result is opened, not passed on.
     let same = have_same_snapshots(alloc, tables, others)?;
     Ok(same)
 }

@@ -112,6 +112,28 @@ pub(crate) fn put_plain<L: Lines>(
     Ok(())
 }
 
+/// Puts the data of a row, where it has some, in a line of its own: beside a row's labels it could
+/// make a line too long.
+pub(crate) fn put_data<L: Lines>(
+    lines: &mut L,
+    alloc: Global,
+    op: &str,
+    naming: &[(&str, &str)],
+    extra: &str,
+) -> Result<(), Fault>
+    ensures { IfErr result (Stops L.refuses) }
+{
+    if extra == "" {
+        return Ok(());
+    }
+    let mut members = Vec::new(alloc);
+    for member in naming {
+        members.push(*member)?;
+    }
+    members.push(("data", extra))?;
+    put_plain(lines, alloc, op, &members)
+}
+
 /// Puts the choice of a profile.
 pub(crate) fn put_profile<L: Lines>(lines: &mut L, alloc: Global, profile: u8) -> Result<(), Fault>
     ensures { IfErr result (Stops L.refuses) }

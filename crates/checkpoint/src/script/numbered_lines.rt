@@ -2,7 +2,7 @@
 ghost use Rattle.std.specs.Prelude.{IfErr};
 ghost use Rattle.checkpoint.specs.Writing.{Stops};
 
-use crate::script::line::{Lines, RowLine, put_number, put_plain, put_row};
+use crate::script::line::{Lines, RowLine, put_data, put_number, put_plain, put_row};
 use crate::script::moment::{ANY_MOMENT, began};
 use crate::script::numbered::Numbered;
 use crate::script::spare::Spare;
@@ -72,6 +72,7 @@ fn put_begin<L: Lines>(
         ("ref", row.name.text()),
         ("at", at),
         ("expected", expected),
+        ("data", row.extra.text()),
         ("lease", lease),
     ];
     put_plain(lines, alloc, "ingest.begin", &members)
@@ -173,10 +174,16 @@ fn put_snapshot<L: Lines>(
     ensures { IfErr result (Stops L.refuses) }
 {
     match row.kind {
-        SnapKind::Active => put_open(lines, alloc, "snap.prepare", row),
-        SnapKind::View => put_open(lines, alloc, "snap.view", row),
-        SnapKind::Committed => put_committed(lines, alloc, spare, row),
+        SnapKind::Active => put_open(lines, alloc, "snap.prepare", row)?,
+        SnapKind::View => put_open(lines, alloc, "snap.view", row)?,
+        SnapKind::Committed => put_committed(lines, alloc, spare, row)?,
     }
+    let naming = [
+        ("ns", row.key.ns.text()),
+        ("snapshotter", row.key.snapshotter.text()),
+        ("key", row.key.name.text()),
+    ];
+    put_data(lines, alloc, "snap.set", &naming, row.extra.text())
 }
 
 // Puts a row, or what makes an object without one. `parents` are the numbers of such objects that

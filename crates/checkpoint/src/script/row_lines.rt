@@ -2,7 +2,7 @@
 ghost use Rattle.std.specs.Prelude.{IfErr};
 ghost use Rattle.checkpoint.specs.Writing.{Stops};
 
-use crate::script::line::{Lines, RowLine, put_plain, put_row};
+use crate::script::line::{Lines, RowLine, put_data, put_plain, put_row};
 use lease_book::Lease;
 use meta_types::{ContainerRow, ContentRow, Fault, ImageRow, Resource};
 use std::alloc::{AllocError, Global};
@@ -29,7 +29,8 @@ fn put_content_at<L: Lines>(
         label_op: "content.label",
         naming: &naming,
     };
-    put_row(lines, alloc, &line, &row.labels)
+    put_row(lines, alloc, &line, &row.labels)?;
+    put_data(lines, alloc, "content.set", &naming, row.extra.text())
 }
 
 /// Puts rows of content.
@@ -73,7 +74,8 @@ fn put_image_of<L: Lines>(
         label_op: "image.label",
         naming: &naming,
     };
-    put_row(lines, alloc, &line, &row.labels)
+    put_row(lines, alloc, &line, &row.labels)?;
+    put_data(lines, alloc, "image.set", &naming, row.extra.text())
 }
 
 /// Puts images.
@@ -115,7 +117,8 @@ fn put_container<L: Lines>(lines: &mut L, alloc: Global, row: &ContainerRow) -> 
         label_op: "container.label",
         naming: &naming,
     };
-    put_row(lines, alloc, &line, &row.labels)
+    put_row(lines, alloc, &line, &row.labels)?;
+    put_data(lines, alloc, "container.set", &naming, row.extra.text())
 }
 
 /// Puts containers.
@@ -142,7 +145,8 @@ fn put_lease<L: Lines>(lines: &mut L, alloc: Global, lease: &Lease) -> Result<()
         label_op: "lease.label",
         naming: &naming,
     };
-    put_row(lines, alloc, &line, lease.labels())
+    put_row(lines, alloc, &line, lease.labels())?;
+    put_data(lines, alloc, "lease.set", &naming, lease.extra().text())
 }
 
 /// Puts leases, which hold nothing yet.

@@ -1,17 +1,20 @@
 -- What requests on leases do. A call in brackets is of containerd's leases service. Ours, unless a
 -- source stands beside.
-use Rattle.std.specs.Prelude.{false, not, ◌||◌, [], ◌∷◌, None, is_some, is_none}
+use Rattle.std.specs.Prelude.{false, not, ◌||◌, [], ◌∷◌, None, is_some, is_none, unwrap_or}
 use Rattle.std.specs.Option.{option_map_or}
 use Rattle.meta_types.specs.Text.{Text, is_short_name, is_name}
 use Rattle.meta_types.specs.Keys.{row_at, has_row, add_row, remove_row, change_row}
 use Rattle.meta_types.specs.Labels.{labels_of, are_labels, put_label}
 use Rattle.meta_types.specs.Resources.{resource_of}
-use Rattle.meta_types.specs.Rows.{State, lease_key}
-use Rattle.meta_types.specs.Changes.{with_leases, lease_holds, hold_in_lease, release_in_lease, all_of}
+use Rattle.meta_types.specs.Updates.{updated, update_tests}
+use Rattle.meta_types.specs.Data.{is_data, data_of}
+use Rattle.meta_types.specs.Rows.{State, LeaseRow, lease_key}
+use Rattle.meta_types.specs.Changes.{with_leases, lease_holds, hold_in_lease, release_in_lease, is_allowed_if, all_of}
 use Rattle.meta_types.specs.Ops.{Outcome, done, labelled, row_reply, lacks, is_allowed_name, name_key, lists_names}
 use Rattle.meta_types.specs.declared.raw.RawLabel.{RawLabel}
 use Rattle.meta_types.specs.declared.request.RawName.{RawName}
 use Rattle.meta_types.specs.declared.request.LeaseAdd.{LeaseAdd}
+use Rattle.meta_types.specs.declared.request.RowUpdate.{RowUpdate}
 use Rattle.meta_types.specs.declared.request.LeaseResource.{LeaseResource}
 use Rattle.meta_types.specs.declared.reply.ReplyRow.TheVariants as W
 use Rattle.meta_types.specs.declared.reply.Reply.TheVariants as R
@@ -21,10 +24,38 @@ abbrev pub adds_lease : State → LeaseAdd → Outcome
 adds_lease state asked =
     let rows = state.records.leases in
     record (done state) {
-      invalid = not (all_of (is_short_name asked.lease.ns ∷ is_name asked.lease.name ∷ are_labels asked.labels ∷ []));
+      invalid = not (all_of (is_short_name asked.lease.ns ∷ is_name asked.lease.name
+          ∷ are_labels asked.labels ∷ is_allowed_if is_data asked.extra ∷ []));
       missing = lacks state asked.lease.ns None;
       there = has_row lease_key (name_key asked.lease) rows;
-      after = with_leases state (add_row lease_key (record { ns = asked.lease.ns; id = asked.lease.name; labels = labels_of asked.labels; resources = [] }) rows);
+      after = with_leases state (add_row lease_key (record {
+        ns = asked.lease.ns;
+        id = asked.lease.name;
+        labels = labels_of asked.labels;
+        extra =
+            data_of asked.extra;
+        resources = [];
+      }) rows);
+    }
+
+-- a lease with what the request replaces
+abbrev pub set_lease : RowUpdate → LeaseRow → LeaseRow
+set_lease update row = record row {
+  labels = updated update row.labels;
+  extra = unwrap_or
+      update.extra row.extra;
+}
+
+-- replaces what is given of a lease: its labels, its data
+abbrev pub sets_lease : State → RawName → RowUpdate → Outcome
+sets_lease state lease update =
+    let rows = state.records.leases in
+    let found = row_at lease_key (name_key lease) rows in
+    record (done state) {
+      invalid = not (is_allowed_name lease) || not (all_of
+          (update_tests (λ row. row.labels) update found));
+      missing = is_none found;
+      after = with_leases state (change_row lease_key (name_key lease) (set_lease update) rows);
     }
 
 -- removes a lease with what it holds (Delete)
@@ -44,7 +75,7 @@ gets_lease state lease =
     record (done state) {
       invalid = not (is_allowed_name lease);
       missing = is_none found;
-      reply = row_reply (λ row. W.Lease row.id row.labels) found;
+      reply = row_reply (λ row. W.Lease row.id row.labels row.extra) found;
     }
 
 -- puts one label on a lease

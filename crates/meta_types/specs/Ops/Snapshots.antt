@@ -1,15 +1,17 @@
 -- What requests on snapshots do. A call or a kind in brackets is of containerd's snapshots service.
 -- Ours, unless a source stands beside.
-use Rattle.std.specs.Prelude.{Bool, true, false, not, ◌&&◌, ◌||◌, List, [], ◌∷◌, map, Option, None, filter, bytes_eq, is_some, is_none, option_map, option_and_then}
-use Rattle.std.specs.List.{list_any}
+use Rattle.std.specs.Prelude.{Bool, true, false, not, ◌&&◌, ◌||◌, List, [], ◌∷◌, map, Option, None, filter, bytes_eq, is_some, is_none, option_map, option_and_then, unwrap_or}
+use Rattle.std.specs.List.{list_any, dedup}
 use Rattle.std.specs.Option.{option_map_or}
 use Rattle.meta_types.specs.Text.{Text, is_short_name, is_name}
 use Rattle.meta_types.specs.Keys.{row_at, has_row, add_row, remove_row, change_row}
 use Rattle.meta_types.specs.Labels.{LabelList, labels_of, are_labels, put_label}
+use Rattle.meta_types.specs.Updates.{updated, update_tests}
+use Rattle.meta_types.specs.Data.{is_data, data_of}
 use Rattle.meta_types.specs.Rows.{State, snap_key}
 use Rattle.meta_types.specs.Limits.{is_out_of_numbers}
-use Rattle.meta_types.specs.Changes.{with_snapshots, with_snapshot_object, holding, is_allowed_if, all_of}
-use Rattle.meta_types.specs.Ops.{Outcome, Findings, in_store, done, labelled, row_reply, lacks, is_allowed_snapshot, snapshot_key}
+use Rattle.meta_types.specs.Changes.{with_snapshots, with_snapshot_object, holding, dropping, is_allowed_if, all_of}
+use Rattle.meta_types.specs.Ops.{Outcome, Findings, in_store, done, labelled, row_reply, lacks, is_allowed_snapshot, snapshot_key, names_in}
 use Rattle.meta_types.specs.declared.rows.SnapRow.{SnapRow}
 use Rattle.meta_types.specs.declared.rows.SnapKind.{SnapKind}
 use Rattle.meta_types.specs.declared.rows.SnapKind.TheVariants.{Active, View, Committed}
@@ -18,6 +20,7 @@ use Rattle.meta_types.specs.declared.raw.RawLabel.{RawLabel}
 use Rattle.meta_types.specs.declared.request.RawSnapshot.{RawSnapshot}
 use Rattle.meta_types.specs.declared.request.SnapAdd.{SnapAdd}
 use Rattle.meta_types.specs.declared.request.SnapCommit.{SnapCommit}
+use Rattle.meta_types.specs.declared.request.RowUpdate.{RowUpdate}
 use Rattle.meta_types.specs.declared.reply.ReplyRow.TheVariants as W
 use Rattle.meta_types.specs.declared.reply.Reply.TheVariants as R
 
@@ -60,10 +63,27 @@ abbrev pub prepares : State → SnapKind → SnapAdd → Outcome
 prepares state kind asked =
     let rows = state.records.tables.snapshots in
     let above = parent_row rows asked.snapshot.ns asked.snapshot.snapshotter asked.parent in
-    let new : SnapRow = record { key = record { ns = asked.snapshot.ns; snapshotter = asked.snapshot.snapshotter; name = asked.snapshot.name }; kind = kind; parent = asked.parent; number = state.records.next; labels = labels_of asked.labels } in
+    let new : SnapRow = record {
+      key = record {
+        ns = asked.snapshot.ns;
+        snapshotter =
+            asked.snapshot.snapshotter;
+        name = asked.snapshot.name;
+      };
+      kind = kind;
+      parent =
+          asked.parent;
+      number = state.records.next;
+      labels = labels_of asked.labels;
+      extra =
+          data_of asked.extra;
+    } in
     let found = prepare_findings state asked.snapshot.ns asked.snapshot.snapshotter asked.snapshot.name asked.parent asked.lease in
     record (done state) {
-      invalid = not (all_of (is_short_name asked.snapshot.ns ∷ is_short_name asked.snapshot.snapshotter ∷ is_name asked.snapshot.name ∷ is_allowed_if is_name asked.parent ∷ are_labels asked.labels ∷ is_allowed_if is_name asked.lease ∷ []));
+      invalid = not (all_of (is_short_name asked.snapshot.ns
+          ∷ is_short_name asked.snapshot.snapshotter ∷ is_name asked.snapshot.name
+          ∷ is_allowed_if is_name asked.parent ∷ are_labels asked.labels
+          ∷ is_allowed_if is_name asked.lease ∷ is_allowed_if is_data asked.extra ∷ []));
       missing = found.missing;
       there = found.there;
       forbidden = found.forbidden;
@@ -71,10 +91,16 @@ prepares state kind asked =
     }
 
 -- the rows with a key's row committed under a name, with its parent and number and with these
--- labels (Commit, but for the labels)
-abbrev pub committed : Text → Text → Text → Text → LabelList → List SnapRow → List SnapRow
-committed ns snapshotter key name labels rows =
-    option_map_or (λ row. add_row snap_key (record row { key = record { ns = ns; snapshotter = snapshotter; name = name }; kind = Committed; labels = labels })
+-- labels and this data (Commit, but for the labels and the data)
+abbrev pub committed : Text → Text → Text → Text → LabelList → Text → List SnapRow → List SnapRow
+committed ns snapshotter key name labels extra rows =
+    option_map_or (λ row. add_row snap_key (record row {
+      key = record
+          { ns = ns; snapshotter = snapshotter; name = name };
+      kind = Committed;
+      labels = labels;
+      extra = extra;
+    })
     (remove_row snap_key (ns ∷ snapshotter ∷ key ∷ []) rows)) (row_at snap_key (ns ∷ snapshotter ∷ key ∷ []) rows) rows
 
 -- what a commit finds among the rows: the key's row, another of the name, and
@@ -88,17 +114,25 @@ commit_findings ns snapshotter key name rows =
       forbidden = option_map_or (λ row. not (is_active row.kind)) found false;
     }
 
--- commits an active snapshot under a name that no snapshot has, itself included (Commit)
+-- commits an active snapshot under a name that no snapshot has, itself included, and takes the
+-- active one from a lease (Commit)
 abbrev pub commits_snapshot : State → SnapCommit → Outcome
 commits_snapshot state asked =
     let rows = state.records.tables.snapshots in
     let found = in_store state asked.snapshot.ns asked.lease (commit_findings asked.snapshot.ns asked.snapshot.snapshotter asked.snapshot.name asked.name rows) in
     record (done state) {
-      invalid = not (all_of (is_short_name asked.snapshot.ns ∷ is_short_name asked.snapshot.snapshotter ∷ is_name asked.snapshot.name ∷ is_name asked.name ∷ are_labels asked.labels ∷ is_allowed_if is_name asked.lease ∷ []));
+      invalid = not (all_of (is_short_name asked.snapshot.ns
+          ∷ is_short_name asked.snapshot.snapshotter ∷ is_name asked.snapshot.name
+          ∷ is_name asked.name ∷ are_labels asked.labels ∷ is_allowed_if is_name asked.lease
+          ∷ is_allowed_if is_name asked.dropped_by ∷ is_allowed_if is_data asked.extra ∷ []));
       missing = found.missing;
       there = found.there;
       forbidden = found.forbidden;
-      after = holding asked.snapshot.ns asked.lease (Snapshot asked.snapshot.snapshotter asked.name) (with_snapshots state (committed asked.snapshot.ns asked.snapshot.snapshotter asked.snapshot.name asked.name (labels_of asked.labels) rows));
+      after = dropping asked.snapshot.ns asked.dropped_by
+          (Snapshot asked.snapshot.snapshotter asked.snapshot.name)
+          (holding asked.snapshot.ns asked.lease (Snapshot asked.snapshot.snapshotter asked.name)
+          (with_snapshots state (committed asked.snapshot.ns asked.snapshot.snapshotter
+          asked.snapshot.name asked.name (labels_of asked.labels) (data_of asked.extra) rows)));
     }
 
 -- the snapshot's parent has this name, in this namespace and snapshotter
@@ -106,16 +140,18 @@ commits_snapshot state asked =
 abbrev pub is_child_of : Text → Text → Text → SnapRow → Bool
 is_child_of ns snapshotter key row = bytes_eq ns row.key.ns && bytes_eq snapshotter row.key.snapshotter && option_map_or (bytes_eq key) row.parent false
 
--- removes a snapshot that is no parent; its backend object goes at a later collection (Remove)
-abbrev pub removes_snapshot : State → RawSnapshot → Outcome
-removes_snapshot state snapshot =
+-- removes a snapshot that is no parent, and takes it from a lease; its backend object goes at a
+-- later collection (Remove)
+abbrev pub removes_snapshot : State → RawSnapshot → Option Text → Outcome
+removes_snapshot state snapshot dropped_by =
     let rows = state.records.tables.snapshots in
     record (done state) {
-      invalid = not (is_allowed_snapshot snapshot);
+      invalid = not (all_of (is_short_name snapshot.ns ∷ is_short_name snapshot.snapshotter
+          ∷ is_name snapshot.name ∷ is_allowed_if is_name dropped_by ∷ []));
       missing = not (has_row snap_key (snapshot_key snapshot) rows);
       forbidden = list_any (is_child_of snapshot.ns snapshot.snapshotter snapshot.name) rows;
-      after = with_snapshots state
-          (remove_row snap_key (snapshot_key snapshot) rows);
+      after = dropping snapshot.ns dropped_by (Snapshot snapshot.snapshotter snapshot.name)
+          (with_snapshots state (remove_row snap_key (snapshot_key snapshot) rows));
     }
 
 -- shows a snapshot (Stat)
@@ -140,6 +176,27 @@ labels_snapshot state snapshot label =
       after = with_snapshots state (change_row snap_key (snapshot_key snapshot) (λ row. record row { labels = put_label label.key label.value row.labels }) rows);
     }
 
+-- a snapshot with what the request replaces
+abbrev pub set_snapshot : RowUpdate → SnapRow → SnapRow
+set_snapshot update row = record row {
+  labels = updated update row.labels;
+  extra = unwrap_or
+      update.extra row.extra;
+}
+
+-- replaces what is given of a snapshot: its labels, its data (Update)
+abbrev pub sets_snapshot : State → RawSnapshot → RowUpdate → Outcome
+sets_snapshot state snapshot update =
+    let rows = state.records.tables.snapshots in
+    let found = row_at snap_key (snapshot_key snapshot) rows in
+    record (done state) {
+      invalid = not (is_allowed_snapshot snapshot) || not
+          (all_of (update_tests (λ row. row.labels) update found));
+      missing = is_none found;
+      after = with_snapshots state (change_row snap_key (snapshot_key snapshot)
+          (set_snapshot update) rows);
+    }
+
 -- the names of a snapshotter's snapshots in a namespace (List)
 abbrev pub snapshots_in : Text → Text → List SnapRow → List Text
 snapshots_in ns snapshotter rows = map (λ row. row.key.name) (filter (λ row. bytes_eq ns row.key.ns && bytes_eq snapshotter row.key.snapshotter) rows)
@@ -151,4 +208,19 @@ lists_snapshots state ns snapshotter =
       invalid = not (all_of (is_short_name ns ∷ is_short_name snapshotter ∷ []));
       missing = lacks state ns None;
       reply = R.Names (snapshots_in ns snapshotter state.records.tables.snapshots);
+    }
+
+-- the snapshotters that have a snapshot in a namespace, each once, since a snapshotter's rows stand
+-- side by side (containerd snapshots service)
+abbrev pub snapshotters_in : Text → List SnapRow → List Text
+snapshotters_in ns rows = dedup bytes_eq (names_in (λ row. row.key.ns) (λ row. row.key.snapshotter)
+    ns rows)
+
+-- lists them, by their bytes
+abbrev pub lists_snapshotters : State → Text → Outcome
+lists_snapshotters state ns =
+    record (done state) {
+      invalid = not (all_of (is_short_name ns ∷ []));
+      missing = lacks state ns None;
+      reply = R.Names (snapshotters_in ns state.records.tables.snapshots);
     }

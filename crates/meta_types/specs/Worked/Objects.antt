@@ -24,7 +24,15 @@ chain_and_content = after_all empty_store (NsAdd x ∷ chain_held ++ (adds b [] 
 
 -- a row of the chain
 abbrev pub chain_row : Text → SnapKind → Option Text → ℕ → List (Text × Text) → SnapRow
-chain_row name kind parent number labels = record { key = record { ns = x; snapshotter = overlayfs; name = name }; kind = kind; parent = parent; number = number; labels = labels }
+chain_row name kind parent number labels = record {
+  key = record
+      { ns = x; snapshotter = overlayfs; name = name };
+  kind = kind;
+  parent = parent;
+  number = number;
+  labels = labels;
+  extra = [];
+}
 
 -- its backend object
 abbrev pub chain_object : ℕ → Option ℕ → BackSnap
@@ -43,7 +51,14 @@ chain_alone = record {
       snapshots = chain_row (codes "c1") Committed None 1 [] ∷ chain_row (codes "c2") Committed (Some (codes "c1")) 2 []
           ∷ chain_row (codes "c3") Committed (Some (codes "c2")) 3 [] ∷ chain_row (codes "t") Active (Some (codes "c3")) 4 (content_label b) ∷ [];
     };
-    leases = record { ns = x; id = l; labels = flat_label; resources = Snapshot overlayfs (codes "t") ∷ [] } ∷ [];
+    leases = record {
+      ns = x;
+      id = l;
+      labels = flat_label;
+      extra = [];
+      resources = Snapshot
+          overlayfs (codes "t") ∷ [];
+    } ∷ [];
     next = 5;
     profile = 1;
   };
@@ -75,7 +90,14 @@ ChildrenGoBeforeParents = Collects two_chains first_of_march no_objects
 
 -- content that an ingest expects
 abbrev pub ingesting : State
-ingesting = after_all empty_store (NsAdd x ∷ adds b [] ∷ IngestBegin (record { ingest = named (codes "r"); at = first_of_march_text; expected = Some b; lease = None }) ∷ [])
+ingesting = after_all empty_store (NsAdd x ∷ adds b [] ∷ IngestBegin
+    (record {
+      ingest = named (codes "r");
+      at = first_of_march_text;
+      expected = Some b;
+      lease = None;
+      extra = None;
+    }) ∷ [])
 
 -- an ingest holds itself for a day, the end included
 abbrev pub AnIngestHoldsForADay : Type 0
@@ -111,7 +133,16 @@ OnlyReferenceKeysReference = Collects many_keys_and_content first_of_march no_ob
 -- a container on a snapshot, and content with a root label
 abbrev pub rooted : State
 rooted = after_all empty_store (NsAdd x ∷ prepares overlayfs (codes "t") None [] ∷ prepares native (codes "n") None []
-    ∷ adds a ((codes "containerd.io/gc.root", codes "now") ∷ (codes "containerd.io/gc.ref.snapshot.overlayfs", codes "t") ∷ []) ∷ ContainerAdd (record { container = named (codes "c"); snapshotter = Some native; key = Some (codes "n"); labels = [] }) ∷ [])
+    ∷ adds a ((codes "containerd.io/gc.root", codes "now")
+    ∷ (codes "containerd.io/gc.ref.snapshot.overlayfs", codes "t") ∷ [])
+    ∷ ContainerAdd (record {
+      container = named (codes "c");
+      snapshotter = Some native;
+      key =
+          Some (codes "n");
+      labels = [];
+      extra = None;
+    }) ∷ [])
 
 -- a container's snapshot, and content with a root label and the snapshot that it names, stay
 abbrev pub ContainersAndRootLabelsHold : Type 0

@@ -8,8 +8,9 @@ ghost use Rattle.object_tables.specs.Calls.{committing_fault};
 ghost use Rattle.request_core.specs.Parts.{is_lease_there};
 
 use crate::add::content::{hold, release};
+use crate::row_parts::RowParts;
 use crate::state::Records;
-use meta_types::{Fault, Labels, Name, Resource, ShortName, SnapKey};
+use meta_types::{Fault, Name, Resource, ShortName, SnapKey};
 use std::alloc::Global;
 
 /// The resource of a snapshot.
@@ -28,15 +29,15 @@ pub(crate) fn grow_commit(
     alloc: Global,
     key: &SnapKey,
     name: Name,
-    labels: Labels,
+    parts: RowParts,
     lease: &Option<Name>,
 ) -> Result<(), Fault>
     requires lease { is_lease_there key.now.ns lease.now records.old.leases ≡ true }
     requires fine { committing_fault key.now.ns key.now.snapshotter key.now.name name
         records.old.tables.snapshots ≡ None }
     ensures tables { OnOk result (records.new.tables ≡ record records.old.tables {
-      snapshots = committed key.now.ns key.now.snapshotter key.now.name name labels
-          records.old.tables.snapshots;
+      snapshots = committed key.now.ns key.now.snapshotter key.now.name name parts.labels
+          parts.extra records.old.tables.snapshots;
     }) }
     ensures leases { OnOk result
         (records.new.leases ≡ hold_under key.now.ns lease.now (H.Snapshot key.now.snapshotter name)
@@ -49,7 +50,9 @@ pub(crate) fn grow_commit(
 {
     let resource = snapshot_resource(&key.snapshotter, &name)?;
     let new = hold(&mut records.leases, alloc, &key.ns, lease, &resource)?;
-    match records.tables.commit_snap(alloc, key, name, labels) {
+    let labels = parts.labels;
+    let extra = parts.extra;
+    match records.tables.commit_snap(alloc, key, name, labels, extra) {
         Ok(()) => Ok(()),
         Err(fault) => {
             release(&mut records.leases, &key.ns, lease, &resource, new);

@@ -3,15 +3,16 @@ ghost use Rattle.std.specs.Prelude.{◌≡◌, ◌∷◌, [], true, false, OnOk,
 ghost use Rattle.meta_types.specs.Keys.{has_row, add_row};
 ghost use Rattle.meta_types.specs.Rows.{content_key};
 ghost use Rattle.meta_types.specs.Faults.{Refuses, least_of};
-ghost use Rattle.meta_types.specs.Changes.{has_namespace, put_blob, hold_under, is_new_to};
+ghost use Rattle.meta_types.specs.Changes.{has_namespace, put_blob, hold_under, release_under, is_new_to};
 ghost use Rattle.meta_types.specs.declared.fault.Fault.TheVariants as F;
 ghost use Rattle.meta_types.specs.declared.resource.Resource.TheVariants as H;
 ghost use Rattle.request_core.specs.Parts.{is_lease_there, release_if, MakesOrFails, MakesWhereFree};
 
+use crate::row_parts::RowParts;
 use crate::state::Records;
 use back_model::{Backends, BlobBackend, IngestBackend, MakeFault, SnapBackend};
 use lease_book::Leases;
-use meta_types::{ContentRow, Digest, Fault, Labels, Name, Resource, ShortName};
+use meta_types::{ContentRow, Digest, Fault, Name, Resource, ShortName};
 use object_tables::Tables;
 use std::alloc::Global;
 
@@ -49,10 +50,21 @@ pub(crate) fn release(
 )
     ensures { leases.new ≡ release_if new ns.now lease.now resource.now leases.old }
 {
-    if let Some(id) = lease
-        && new
-    {
-        // The caller added it, so the lease has it.
+    if new {
+        drop_from(leases, ns, lease, resource);
+    }
+}
+
+/// Takes a resource from the lease that is named, if that lease is there and has it.
+pub(crate) fn drop_from(
+    leases: &mut Leases,
+    ns: &ShortName,
+    lease: &Option<Name>,
+    resource: &Resource,
+)
+    ensures { leases.new ≡ release_under ns.now lease.now resource.now leases.old }
+{
+    if let Some(id) = lease {
         let _ = leases.drop_resource(ns, id, resource);
     }
 }
@@ -78,8 +90,8 @@ pub(crate) fn make_blob<S: SnapBackend, B: BlobBackend, I: IngestBackend>(
     }
 }
 
-// The resource of a digest.
-fn content_resource(digest: &Digest) -> Result<Resource, Fault>
+/// The resource of a digest.
+pub(crate) fn content_resource(digest: &Digest) -> Result<Resource, Fault>
     ensures ok { IfOk result (λ resource. resource ≡ H.Content digest.now) }
     ensures err { OnErr result (result ≡ Err F.OutOfMemory) }
 {
@@ -88,7 +100,7 @@ fn content_resource(digest: &Digest) -> Result<Resource, Fault>
 }
 
 // Has the named lease hold content and the backend its blob, or neither.
-fn hold_and_make<S: SnapBackend, B: BlobBackend, I: IngestBackend>(
+fn hold_and_create<S: SnapBackend, B: BlobBackend, I: IngestBackend>(
     leases: &mut Leases,
     backends: &mut Backends<S, B, I>,
     alloc: Global,
@@ -119,14 +131,23 @@ fn hold_and_make<S: SnapBackend, B: BlobBackend, I: IngestBackend>(
 }
 
 // A row of content.
-fn content_row(ns: &ShortName, digest: &Digest, labels: Labels) -> Result<ContentRow, Fault>
-    ensures ok { IfOk result (λ row. row ≡ record
-        { ns = ns.now; digest = digest.now; labels = labels }) }
+fn content_row(ns: &ShortName, digest: &Digest, parts: RowParts) -> Result<ContentRow, Fault>
+    ensures ok { IfOk result (λ row. row ≡ record {
+      ns = ns.now;
+      digest = digest.now;
+      labels = parts.labels;
+      extra = parts.extra;
+    }) }
     ensures err { OnErr result (result ≡ Err F.OutOfMemory) }
 {
     let ns = ns.copy()?;
     let digest = digest.copy()?;
-    Ok(ContentRow { ns, digest, labels })
+    Ok(ContentRow {
+        ns,
+        digest,
+        labels: parts.labels,
+        extra: parts.extra,
+    })
 }
 
 // One look-up finds whether the row is there. Where memory runs out before it, the look-up tells
@@ -136,7 +157,7 @@ fn add_row_of(
     alloc: Global,
     ns: &ShortName,
     digest: &Digest,
-    labels: Labels,
+    parts: RowParts,
 ) -> Result<(), Fault>
     requires { has_namespace tables.old ns.now ≡ true }
     ensures fault { Refuses result (least_of false false
@@ -145,11 +166,12 @@ fn add_row_of(
         (has_row content_key (ns.now ∷ digest.now ∷ []) tables.old.content ≡ false) }
     ensures ok { OnOk result (tables.new ≡ record tables.old {
       content = add_row content_key
-          (record { ns = ns.now; digest = digest.now; labels = labels }) tables.old.content;
+          (record { ns = ns.now; digest = digest.now; labels = parts.labels; extra = parts.extra })
+          tables.old.content;
     }) }
     ensures err { OnErr result (tables.new ≡ tables.old) }
 {
-    match content_row(ns, digest, labels) {
+    match content_row(ns, digest, parts) {
         Ok(row) => tables.add_content(alloc, row),
         Err(_) if tables.has_content(ns, digest) => Err(Fault::AlreadyExists),
         Err(fault) => Err(fault),
@@ -158,20 +180,21 @@ fn add_row_of(
 
 /// Adds content that isn't there, which the named lease then holds, with its blob; or nothing at
 /// all.
-pub(crate) fn grow_content<S: SnapBackend, B: BlobBackend, I: IngestBackend>(
+pub(crate) fn insert_content<S: SnapBackend, B: BlobBackend, I: IngestBackend>(
     records: &mut Records,
     backends: &mut Backends<S, B, I>,
     alloc: Global,
     ns: &ShortName,
     digest: &Digest,
-    labels: Labels,
+    parts: RowParts,
     lease: &Option<Name>,
 ) -> Result<(), Fault>
     requires ns { has_namespace records.old.tables ns.now ≡ true }
     requires lease { is_lease_there ns.now lease.now records.old.leases ≡ true }
     ensures tables { OnOk result (records.new.tables ≡ record records.old.tables {
       content = add_row content_key
-          (record { ns = ns.now; digest = digest.now; labels = labels }) records.old.tables.content;
+          (record { ns = ns.now; digest = digest.now; labels = parts.labels; extra = parts.extra })
+          records.old.tables.content;
     }) }
     ensures leases { OnOk result
         (records.new.leases
@@ -189,8 +212,8 @@ pub(crate) fn grow_content<S: SnapBackend, B: BlobBackend, I: IngestBackend>(
         (has_row content_key (ns.now ∷ digest.now ∷ []) records.old.tables.content) result
         (B.fails backends.old.blobs) (B.fails backends.new.blobs) }
 {
-    add_row_of(&mut records.tables, alloc, ns, digest, labels)?;
-    match hold_and_make(&mut records.leases, backends, alloc, ns, lease, digest) {
+    add_row_of(&mut records.tables, alloc, ns, digest, parts)?;
+    match hold_and_create(&mut records.leases, backends, alloc, ns, lease, digest) {
         Ok(()) => Ok(()),
         Err(fault) => {
             // The row was added above, so it is there.

@@ -73,8 +73,8 @@ fn hold_and_begin<S: SnapBackend, B: BlobBackend, I: IngestBackend>(
     }
 }
 
-// The resource of an ingest.
-fn ingest_resource(name: &Name) -> Result<Resource, Fault>
+/// The resource of an ingest.
+pub(crate) fn ingest_resource(name: &Name) -> Result<Resource, Fault>
     ensures ok { IfOk result (λ resource. resource ≡ H.Ingest name.now) }
     ensures err { OnErr result (result ≡ Err F.OutOfMemory) }
 {

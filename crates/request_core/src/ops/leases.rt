@@ -1,4 +1,4 @@
-//! Requests on leases: add, hold, drop, label, remove.
+//! Requests on leases: add, set, hold, drop, label, remove.
 #![tactic(auto, unfolding(crate::specs::Follows::AnswersExactly))]
 
 ghost use Rattle.meta_types.specs.declared.request.Request.TheVariants as R;
@@ -7,11 +7,13 @@ ghost use Rattle.request_core.specs.Follows.{AnswersExactly};
 use crate::read::lists::{copies, listing_of};
 use crate::read::names::{read_held, read_ns, read_object};
 use crate::read::rows::read_lease;
+use crate::read::updates::make_parts;
 use crate::refusal::Refusal;
 use crate::state::State;
 use back_model::{BlobBackend, IngestBackend, SnapBackend};
 use meta_types::{
     Fault, Holdings, LeaseAdd, LeaseResource, RawLabel, RawName, RawText, Reply, ReplyRow,
+    RowUpdate,
 };
 use std::alloc::Global;
 
@@ -19,11 +21,28 @@ impl<S: SnapBackend, B: BlobBackend, I: IngestBackend> State<S, B, I> {
     pub(crate) fn lease_add(&mut self, alloc: Global, asked: &LeaseAdd) -> Result<Reply, Refusal>
         ensures { AnswersExactly self.old (R.LeaseAdd asked.now) result self.new }
     {
-        let (ns, id, labels) = read_lease(alloc, asked)?;
+        let (ns, id, parts) = read_lease(alloc, asked)?;
         if !self.records.tables.has_ns(&ns) {
             return Err(Refusal::By(Fault::NotFound));
         }
-        self.records.leases.create(alloc, &ns, &id, labels)?;
+        let labels = parts.labels;
+        let extra = parts.extra;
+        self.records.leases.create(alloc, &ns, &id, labels, extra)?;
+        Ok(Reply::Done)
+    }
+
+    pub(crate) fn lease_set(
+        &mut self,
+        alloc: Global,
+        lease: &RawName,
+        update: &RowUpdate,
+    ) -> Result<Reply, Refusal>
+        ensures { AnswersExactly self.old (R.LeaseSet lease.now update.now) result self.new }
+    {
+        let (ns, id) = read_object(alloc, lease)?;
+        let found = self.records.leases.get(&ns, &id);
+        let (labels, extra) = make_parts(alloc, update, found)?;
+        self.records.leases.set(&ns, &id, labels, extra)?;
         Ok(Reply::Done)
     }
 
@@ -54,10 +73,11 @@ impl<S: SnapBackend, B: BlobBackend, I: IngestBackend> State<S, B, I> {
         ensures { AnswersExactly self.old (R.LeaseGet lease.now) result self.new }
     {
         let (ns, id) = read_object(alloc, lease)?;
-        match self.records.leases.lease_labels(&ns, &id) {
-            Some(labels) => {
-                let labels = labels.copy(alloc)?;
-                Ok(Reply::Row(ReplyRow::Lease(id, labels)))
+        match self.records.leases.get(&ns, &id) {
+            Some(lease) => {
+                let labels = lease.labels().copy(alloc)?;
+                let extra = lease.extra().copy()?;
+                Ok(Reply::Row(ReplyRow::Lease(id, labels, extra)))
             }
             None => Err(Refusal::By(Fault::NotFound)),
         }

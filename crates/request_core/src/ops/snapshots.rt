@@ -1,4 +1,4 @@
-//! Requests on snapshots: prepare, view, commit, label, remove.
+//! Requests on snapshots: prepare, view, commit, set, label, remove.
 #![tactic(auto, unfolding(crate::specs::Follows::AnswersExactly))]
 
 ghost use Rattle.meta_types.specs.declared.request.Request.TheVariants as R;
@@ -13,16 +13,18 @@ ghost use Rattle.object_tables.specs.Calls.{committing_fault, adding_snap_fault}
 ghost use Rattle.request_core.specs.Follows.{AnswersExactly, FollowsExactly};
 ghost use Rattle.request_core.specs.Parts.{commit_fault, prepare_fault, is_lease_there};
 
-use crate::add::commit::grow_commit;
+use crate::add::commit::{grow_commit, snapshot_resource};
+use crate::add::content::drop_from;
 use crate::add::snapshot::grow_snap;
-use crate::read::names::{read_snap, read_snapshotter};
+use crate::read::names::{read_ns, read_snap, read_snap_to_remove, read_snapshotter};
 use crate::read::rows::{read_commit, read_prepare};
+use crate::read::updates::make_parts;
 use crate::refusal::Refusal;
 use crate::state::State;
 use back_model::{BlobBackend, IngestBackend, SnapBackend};
 use meta_types::{
-    Fault, MAX_NUMBER, Name, RawLabel, RawSnapshot, RawText, Reply, ReplyRow, SnapAdd, SnapCommit,
-    SnapKey, SnapKind, SnapRow,
+    Fault, MAX_NUMBER, Name, RawLabel, RawSnapshot, RawText, Reply, ReplyRow, RowUpdate, SnapAdd,
+    SnapCommit, SnapKey, SnapKind, SnapRow,
 };
 use std::alloc::Global;
 
@@ -111,11 +113,15 @@ impl<S: SnapBackend, B: BlobBackend, I: IngestBackend> State<S, B, I> {
     ) -> Result<Reply, Refusal>
         ensures { AnswersExactly self.old (R.SnapCommit asked.now) result self.new }
     {
-        let (key, name, labels, lease) = read_commit(alloc, asked)?;
+        let (key, name, parts, holders) = read_commit(alloc, asked)?;
+        let lease = holders.lease;
+        let dropped_by = holders.dropped_by;
         if let Err(fault) = self.check_commit(&key, &name, &lease) {
             return Err(Refusal::By(fault));
         }
-        grow_commit(&mut self.records, alloc, &key, name, labels, &lease)?;
+        let resource = snapshot_resource(&key.snapshotter, &key.name)?;
+        grow_commit(&mut self.records, alloc, &key, name, parts, &lease)?;
+        drop_from(&mut self.records.leases, &key.ns, &dropped_by, &resource);
         Ok(Reply::Done)
     }
 
@@ -123,12 +129,45 @@ impl<S: SnapBackend, B: BlobBackend, I: IngestBackend> State<S, B, I> {
         &mut self,
         alloc: Global,
         snapshot: &RawSnapshot,
+        dropped_by: &Option<RawText>,
     ) -> Result<Reply, Refusal>
-        ensures { AnswersExactly self.old (R.SnapRemove snapshot.now) result self.new }
+        ensures { AnswersExactly self.old (R.SnapRemove snapshot.now dropped_by.now) result
+            self.new }
+    {
+        let (key, dropped_by) = read_snap_to_remove(alloc, snapshot, dropped_by)?;
+        let Ok(resource) = snapshot_resource(&key.snapshotter, &key.name) else {
+            return Err(Refusal::Reading);
+        };
+        self.records.tables.remove_snap(&key)?;
+        drop_from(&mut self.records.leases, &key.ns, &dropped_by, &resource);
+        Ok(Reply::Done)
+    }
+
+    pub(crate) fn snap_set(
+        &mut self,
+        alloc: Global,
+        snapshot: &RawSnapshot,
+        update: &RowUpdate,
+    ) -> Result<Reply, Refusal>
+        ensures { AnswersExactly self.old (R.SnapSet snapshot.now update.now) result self.new }
     {
         let key = read_snap(alloc, snapshot)?;
-        self.records.tables.remove_snap(&key)?;
+        let found = self.records.tables.get_snap(&key);
+        let (labels, extra) = make_parts(alloc, update, found)?;
+        self.records.tables.set_snap(&key, labels, extra)?;
         Ok(Reply::Done)
+    }
+
+    pub(crate) fn snap_snapshotters(
+        &mut self,
+        alloc: Global,
+        ns: &RawText,
+    ) -> Result<Reply, Refusal>
+        ensures { AnswersExactly self.old (R.SnapSnapshotters ns.now) result self.new }
+    {
+        let ns = read_ns(alloc, ns)?;
+        let names = self.records.tables.snapshotters(alloc, &ns)?;
+        Ok(Reply::Names(names))
     }
 
     pub(crate) fn snap_get(

@@ -1,7 +1,8 @@
 //! The labels that a request writes.
 ghost use Rattle.std.specs.Prelude.{◌≡◌};
 ghost use Rattle.meta_types.specs.Labels.{are_labels, labels_of};
-ghost use Rattle.request_core.specs.Follows.{ReadsTexts};
+ghost use Rattle.meta_types.specs.Updates.{put_pairs, takes_pairs};
+ghost use Rattle.request_core.specs.Follows.{ReadsTexts, PutsTexts};
 
 use crate::refusal::{Refusal, reading};
 use meta_types::{Labels, RawLabels, RawText};
@@ -11,15 +12,31 @@ use std::alloc::Global;
 pub(crate) fn read_labels(alloc: Global, pairs: &RawLabels) -> Result<Labels, Refusal>
     ensures { ReadsTexts result (are_labels pairs.now) (labels_of pairs.now) }
 {
-    labels_from(alloc, pairs.entries())
+    read_labels_over(alloc, Labels::new(alloc), pairs)
 }
 
-// The labels that such pairs write. The last pair is put first, so that of a key that stands
-// twice the first counts.
-fn labels_from(alloc: Global, pairs: &[(RawText<'_>, RawText<'_>)]) -> Result<Labels, Refusal>
-    ensures { ReadsTexts result (are_labels pairs.now) (labels_of pairs.now) }
+/// Reads labels that go over those that are there.
+pub(crate) fn read_labels_over(
+    alloc: Global,
+    labels: Labels,
+    pairs: &RawLabels,
+) -> Result<Labels, Refusal>
+    ensures { ReadsTexts result (takes_pairs pairs.now labels) (put_pairs pairs.now labels) }
 {
-    let mut labels = Labels::new(alloc);
+    let mut labels = labels;
+    labels_over(alloc, &mut labels, pairs.entries())?;
+    Ok(labels)
+}
+
+// Puts the labels that such pairs write. The last pair is put first, so that of a key that stands
+// twice the first counts.
+fn labels_over(
+    alloc: Global,
+    labels: &mut Labels,
+    pairs: &[(RawText<'_>, RawText<'_>)],
+) -> Result<(), Refusal>
+    ensures { PutsTexts result (takes_pairs pairs.now labels.old) (labels.new ≡ put_pairs pairs.now labels.old) }
+{
     let mut place = pairs.len();
     while 0 < place {
         place -= 1;
@@ -28,5 +45,5 @@ fn labels_from(alloc: Global, pairs: &[(RawText<'_>, RawText<'_>)]) -> Result<La
             return Err(reading(fault));
         }
     }
-    Ok(labels)
+    Ok(())
 }

@@ -158,3 +158,55 @@ fn read_resource(alloc: Global, kind: &RawText, resource: &RawText) -> Result<Re
         Err(fault) => Err(reading(fault)),
     }
 }
+
+/// Reads what names an ingest, and the lease that drops it, if one is named.
+pub(crate) fn read_ingest_to_abort(
+    alloc: Global,
+    ingest: &RawName,
+    dropped_by: &Option<RawText>,
+) -> Result<(ShortName, Name, Option<Name>), Refusal>
+    ensures { ReadsTexts result (all_of (is_short_name ingest.now.ns ∷ is_name ingest.now.name
+        ∷ is_allowed_if is_name dropped_by.now ∷ []))
+        (ingest.now.ns, ingest.now.name, dropped_by.now) }
+{
+    let (ns, name) = read_object(alloc, ingest)?;
+    let dropped_by = read_name_if(alloc, dropped_by)?;
+    Ok((ns, name, dropped_by))
+}
+
+/// Reads what names content, and the lease that drops it, if one is named.
+pub(crate) fn read_content_to_remove(
+    alloc: Global,
+    content: &RawContent,
+    dropped_by: &Option<RawText>,
+) -> Result<(ShortName, Digest, Option<Name>), Refusal>
+    ensures { ReadsTexts result (all_of (is_short_name content.now.ns
+        ∷ is_digest content.now.digest ∷ is_allowed_if is_name dropped_by.now ∷ []))
+        (content.now.ns, content.now.digest, dropped_by.now) }
+{
+    let (ns, digest) = read_content(alloc, content)?;
+    let dropped_by = read_name_if(alloc, dropped_by)?;
+    Ok((ns, digest, dropped_by))
+}
+
+/// Reads what names a snapshot, and the lease that drops it, if one is named.
+pub(crate) fn read_snap_to_remove(
+    alloc: Global,
+    snapshot: &RawSnapshot,
+    dropped_by: &Option<RawText>,
+) -> Result<(SnapKey, Option<Name>), Refusal>
+    ensures { ReadsTexts result (all_of (is_short_name snapshot.now.ns
+        ∷ is_short_name snapshot.now.snapshotter ∷ is_name snapshot.now.name
+        ∷ is_allowed_if is_name dropped_by.now ∷ [])) (
+          record {
+            ns = snapshot.now.ns;
+            snapshotter = snapshot.now.snapshotter;
+            name = snapshot.now.name;
+          },
+          dropped_by.now,
+        ) }
+{
+    let key = read_snap(alloc, snapshot)?;
+    let dropped_by = read_name_if(alloc, dropped_by)?;
+    Ok((key, dropped_by))
+}

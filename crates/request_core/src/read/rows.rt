@@ -1,9 +1,11 @@
 //! Rows that the texts of a request give.
-ghost use Rattle.std.specs.Prelude.{◌≡◌, ◌∷◌, [], is_some, is_none, option_and_then, option_map, if◌then◌else◌};
+ghost use Rattle.std.specs.Prelude.{◌≡◌, ◌∷◌, [], is_some};
 ghost use Rattle.meta_types.specs.Time.{instant_of};
+ghost use Rattle.meta_types.specs.Ops.Containers.{snapshot_named, are_together};
 ghost use Rattle.meta_types.specs.Ops.Ingests.{end_of, own_end};
 ghost use Rattle.meta_types.specs.Text.{is_short_name, is_name, is_digest};
 ghost use Rattle.meta_types.specs.Changes.{all_of, is_allowed_if};
+ghost use Rattle.meta_types.specs.Data.{is_data, data_of};
 ghost use Rattle.meta_types.specs.Labels.{are_labels, labels_of};
 ghost use Rattle.request_core.specs.Follows.{ReadsTexts};
 
@@ -12,12 +14,14 @@ use crate::read::names::{
     read_content, read_digest, read_digest_if, read_name, read_name_if, read_object,
     read_short_name, read_snap,
 };
+use crate::read::updates::read_new_data;
 use crate::refusal::Refusal;
+use crate::row_parts::RowParts;
 use gc_labels::read_instant;
 use meta_types::{
-    ContainerAdd, ContainerRow, ContentAdd, Digest, Fault, ImageAdd, ImageRow, ImageTarget,
-    IngestBegin, IngestCommit, Instant, Labels, LeaseAdd, Name, RawText, ShortName, SnapAdd,
-    SnapCommit, SnapKey, SnapKind, SnapRow,
+    ContainerAdd, ContainerRow, ContentAdd, Data, Digest, Fault, ImageAdd, ImageRow, ImageTarget,
+    IngestBegin, IngestCommit, Instant, LeaseAdd, Name, RawText, ShortName, SnapAdd, SnapCommit,
+    SnapKey, SnapKind, SnapRow,
 };
 use std::alloc::Global;
 
@@ -25,21 +29,24 @@ use std::alloc::Global;
 pub(crate) fn read_image(alloc: Global, asked: &ImageAdd) -> Result<ImageRow, Refusal>
     ensures { ReadsTexts result (all_of (is_short_name asked.now.image.ns
         ∷ is_name asked.now.image.name ∷ is_digest asked.now.target ∷ are_labels asked.now.labels
-        ∷ [])) (record {
+        ∷ is_allowed_if is_data asked.now.extra ∷ [])) (record {
           ns = asked.now.image.ns;
           name = asked.now.image.name;
           target = asked.now.target;
           labels = labels_of asked.now.labels;
+          extra = data_of asked.now.extra;
         }) }
 {
     let (ns, name) = read_object(alloc, &asked.image)?;
     let target = read_digest(alloc, &asked.target)?;
     let labels = read_labels(alloc, &asked.labels)?;
+    let extra = read_new_data(alloc, &asked.extra)?;
     Ok(ImageRow {
         ns,
         name,
         target,
         labels,
+        extra,
     })
 }
 
@@ -47,20 +54,21 @@ pub(crate) fn read_image(alloc: Global, asked: &ImageAdd) -> Result<ImageRow, Re
 pub(crate) fn read_new_content(
     alloc: Global,
     asked: &ContentAdd,
-) -> Result<(ShortName, Digest, Labels, Option<Name>), Refusal>
+) -> Result<(ShortName, Digest, RowParts, Option<Name>), Refusal>
     ensures { ReadsTexts result (all_of (is_short_name asked.now.content.ns
         ∷ is_digest asked.now.content.digest ∷ are_labels asked.now.labels
-        ∷ is_allowed_if is_name asked.now.lease ∷ [])) (
+        ∷ is_allowed_if is_name asked.now.lease ∷ is_allowed_if is_data asked.now.extra ∷ [])) (
           asked.now.content.ns,
           asked.now.content.digest,
-          labels_of asked.now.labels,
+          record { labels = labels_of asked.now.labels; extra = data_of asked.now.extra },
           asked.now.lease,
         ) }
 {
     let (ns, digest) = read_content(alloc, &asked.content)?;
     let labels = read_labels(alloc, &asked.labels)?;
     let lease = read_name_if(alloc, &asked.lease)?;
-    Ok((ns, digest, labels, lease))
+    let extra = read_new_data(alloc, &asked.extra)?;
+    Ok((ns, digest, RowParts { labels, extra }, lease))
 }
 
 /// Reads an image's name and its new target.
@@ -77,44 +85,60 @@ pub(crate) fn read_target(
     Ok((ns, name, target))
 }
 
-/// Reads a lease's namespace, id and labels.
+/// Reads a lease's namespace, id, labels and data.
 pub(crate) fn read_lease(
     alloc: Global,
     asked: &LeaseAdd,
-) -> Result<(ShortName, Name, Labels), Refusal>
+) -> Result<(ShortName, Name, RowParts), Refusal>
     ensures { ReadsTexts result (all_of (is_short_name asked.now.lease.ns
-        ∷ is_name asked.now.lease.name ∷ are_labels asked.now.labels ∷ []))
-        (asked.now.lease.ns, asked.now.lease.name, labels_of asked.now.labels) }
+        ∷ is_name asked.now.lease.name ∷ are_labels asked.now.labels
+        ∷ is_allowed_if is_data asked.now.extra ∷ [])) (
+          asked.now.lease.ns,
+          asked.now.lease.name,
+          record { labels = labels_of asked.now.labels; extra = data_of asked.now.extra },
+        ) }
 {
     let (ns, id) = read_object(alloc, &asked.lease)?;
     let labels = read_labels(alloc, &asked.labels)?;
-    Ok((ns, id, labels))
+    let extra = read_new_data(alloc, &asked.extra)?;
+    Ok((ns, id, RowParts { labels, extra }))
+}
+
+/// The lease that is to hold the new object of a commit, and the one that drops the old.
+#[derive(Drop)]
+pub struct Holders {
+    pub lease: Option<Name>,
+    pub dropped_by: Option<Name>,
 }
 
 /// Reads the texts of a commit.
 pub(crate) fn read_commit(
     alloc: Global,
     asked: &SnapCommit,
-) -> Result<(SnapKey, Name, Labels, Option<Name>), Refusal>
+) -> Result<(SnapKey, Name, RowParts, Holders), Refusal>
     ensures { ReadsTexts result (all_of (is_short_name asked.now.snapshot.ns
         ∷ is_short_name asked.now.snapshot.snapshotter ∷ is_name asked.now.snapshot.name
         ∷ is_name asked.now.name ∷ are_labels asked.now.labels
-        ∷ is_allowed_if is_name asked.now.lease ∷ [])) (
+        ∷ is_allowed_if is_name asked.now.lease ∷ is_allowed_if is_name asked.now.dropped_by
+        ∷ is_allowed_if is_data asked.now.extra ∷ [])) (
           record {
             ns = asked.now.snapshot.ns;
             snapshotter = asked.now.snapshot.snapshotter;
             name = asked.now.snapshot.name;
           },
           asked.now.name,
-          labels_of asked.now.labels,
-          asked.now.lease,
+          record { labels = labels_of asked.now.labels; extra = data_of asked.now.extra },
+          record { lease = asked.now.lease; dropped_by = asked.now.dropped_by },
         ) }
 {
     let key = read_snap(alloc, &asked.snapshot)?;
     let name = read_name(alloc, &asked.name)?;
     let labels = read_labels(alloc, &asked.labels)?;
     let lease = read_name_if(alloc, &asked.lease)?;
-    Ok((key, name, labels, lease))
+    let dropped_by = read_name_if(alloc, &asked.dropped_by)?;
+    let extra = read_new_data(alloc, &asked.extra)?;
+    let parts = RowParts { labels, extra };
+    Ok((key, name, parts, Holders { lease, dropped_by }))
 }
 
 /// When an ingest that begins at a time ends by itself: 24 hours later.
@@ -139,18 +163,20 @@ pub(crate) fn read_begin(
         Option<Instant>,
         Option<Digest>,
         Option<Name>,
+        Data,
     ),
     Refusal,
 >
     ensures { ReadsTexts result (all_of (is_short_name asked.now.ingest.ns
         ∷ is_name asked.now.ingest.name ∷ is_some (instant_of asked.now.at)
         ∷ is_allowed_if is_digest asked.now.expected ∷ is_allowed_if is_name asked.now.lease
-        ∷ [])) (
+        ∷ is_allowed_if is_data asked.now.extra ∷ [])) (
           asked.now.ingest.ns,
           asked.now.ingest.name,
           own_end asked.now.lease asked.now.at,
           asked.now.expected,
           asked.now.lease,
+          data_of asked.now.extra,
         ) }
 {
     let (ns, name) = read_object(alloc, &asked.ingest)?;
@@ -159,8 +185,9 @@ pub(crate) fn read_begin(
     };
     let expected = read_digest_if(alloc, &asked.expected)?;
     let lease = read_name_if(alloc, &asked.lease)?;
+    let extra = read_new_data(alloc, &asked.extra)?;
     let expires = if lease.is_some() { None } else { Some(end) };
-    Ok((ns, name, expires, expected, lease))
+    Ok((ns, name, expires, expected, lease, extra))
 }
 
 /// Reads the row of a new snapshot, and the lease that is to hold it.
@@ -173,7 +200,7 @@ pub(crate) fn read_prepare(
     ensures { ReadsTexts result (all_of (is_short_name asked.now.snapshot.ns
         ∷ is_short_name asked.now.snapshot.snapshotter ∷ is_name asked.now.snapshot.name
         ∷ is_allowed_if is_name asked.now.parent ∷ are_labels asked.now.labels
-        ∷ is_allowed_if is_name asked.now.lease ∷ [])) (
+        ∷ is_allowed_if is_name asked.now.lease ∷ is_allowed_if is_data asked.now.extra ∷ [])) (
           record {
             key = record {
               ns = asked.now.snapshot.ns;
@@ -184,6 +211,7 @@ pub(crate) fn read_prepare(
             parent = asked.now.parent;
             number = number;
             labels = labels_of asked.now.labels;
+            extra = data_of asked.now.extra;
           },
           asked.now.lease,
         ) }
@@ -192,12 +220,14 @@ pub(crate) fn read_prepare(
     let parent = read_name_if(alloc, &asked.parent)?;
     let labels = read_labels(alloc, &asked.labels)?;
     let lease = read_name_if(alloc, &asked.lease)?;
+    let extra = read_new_data(alloc, &asked.extra)?;
     let row = SnapRow {
         key,
         kind,
         parent,
         number,
         labels,
+        extra,
     };
     Ok((row, lease))
 }
@@ -207,51 +237,72 @@ pub(crate) fn read_container(alloc: Global, asked: &ContainerAdd) -> Result<Cont
     ensures { ReadsTexts result (all_of (is_short_name asked.now.container.ns
         ∷ is_name asked.now.container.name ∷ is_allowed_if is_short_name asked.now.snapshotter
         ∷ is_allowed_if is_name asked.now.key
-        ∷ (if is_some asked.now.key then is_some asked.now.snapshotter
-        else is_none asked.now.snapshotter) ∷ are_labels asked.now.labels ∷ [])) (record {
+        ∷ are_together asked.now.snapshotter asked.now.key ∷ are_labels asked.now.labels
+        ∷ is_allowed_if is_data asked.now.extra ∷ [])) (record {
           ns = asked.now.container.ns;
           name = asked.now.container.name;
-          snapshot = option_and_then (λ s. option_map (λ k. (s, k)) asked.now.key)
-              asked.now.snapshotter;
+          snapshot = snapshot_named asked.now.snapshotter asked.now.key;
           labels = labels_of asked.now.labels;
+          extra = data_of asked.now.extra;
         }) }
 {
     let (ns, name) = read_object(alloc, &asked.container)?;
-    let snapshot = match (&asked.snapshotter, &asked.key) {
-        (Some(snapshotter), Some(key)) => {
-            let snapshotter = read_short_name(alloc, snapshotter)?;
-            Some((snapshotter, read_name(alloc, key)?))
-        }
-        (None, None) => None,
-        _ => return Err(Refusal::By(Fault::InvalidArgument)),
-    };
+    let snapshot = read_snapshot_if(alloc, &asked.snapshotter, &asked.key)?;
     let labels = read_labels(alloc, &asked.labels)?;
+    let extra = read_new_data(alloc, &asked.extra)?;
     Ok(ContainerRow {
         ns,
         name,
         snapshot,
         labels,
+        extra,
     })
+}
+
+/// Reads a snapshotter and the name of a snapshot, which stand together or not at all.
+pub(crate) fn read_snapshot_if(
+    alloc: Global,
+    snapshotter: &Option<RawText>,
+    key: &Option<RawText>,
+) -> Result<Option<(ShortName, Name)>, Refusal>
+    ensures { ReadsTexts result (all_of (is_allowed_if is_short_name snapshotter.now
+        ∷ is_allowed_if is_name key.now ∷ are_together snapshotter.now key.now ∷ []))
+        (snapshot_named snapshotter.now key.now) }
+{
+    match (snapshotter, key) {
+        (Some(snapshotter), Some(key)) => {
+            let snapshotter = read_short_name(alloc, snapshotter)?;
+            let key = read_name(alloc, key)?;
+            Ok(Some((snapshotter, key)))
+        }
+        (None, None) => Ok(None),
+        _ => Err(Refusal::By(Fault::InvalidArgument)),
+    }
 }
 
 /// Reads the texts of an ingest's commit.
 pub(crate) fn read_ingest_commit(
     alloc: Global,
     asked: &IngestCommit,
-) -> Result<(ShortName, Name, Digest, Labels, Option<Name>), Refusal>
+) -> Result<(ShortName, Name, Digest, RowParts, Holders), Refusal>
     ensures { ReadsTexts result (all_of (is_short_name asked.now.ingest.ns
         ∷ is_name asked.now.ingest.name ∷ is_digest asked.now.digest
-        ∷ are_labels asked.now.labels ∷ is_allowed_if is_name asked.now.lease ∷ [])) (
+        ∷ are_labels asked.now.labels ∷ is_allowed_if is_name asked.now.lease
+        ∷ is_allowed_if is_name asked.now.dropped_by ∷ is_allowed_if is_data asked.now.extra
+        ∷ [])) (
           asked.now.ingest.ns,
           asked.now.ingest.name,
           asked.now.digest,
-          labels_of asked.now.labels,
-          asked.now.lease,
+          record { labels = labels_of asked.now.labels; extra = data_of asked.now.extra },
+          record { lease = asked.now.lease; dropped_by = asked.now.dropped_by },
         ) }
 {
     let (ns, name) = read_object(alloc, &asked.ingest)?;
     let digest = read_digest(alloc, &asked.digest)?;
     let labels = read_labels(alloc, &asked.labels)?;
     let lease = read_name_if(alloc, &asked.lease)?;
-    Ok((ns, name, digest, labels, lease))
+    let dropped_by = read_name_if(alloc, &asked.dropped_by)?;
+    let extra = read_new_data(alloc, &asked.extra)?;
+    let parts = RowParts { labels, extra };
+    Ok((ns, name, digest, parts, Holders { lease, dropped_by }))
 }

@@ -1,10 +1,12 @@
 use Rattle.std.proofs.Common.{rules, Some, None, ◌≡◌, ◌∷◌, [], sym, ap, ◌∙◌}
 use Rattle.std.specs.Prelude.{is_some}
+use Rattle.meta_types.specs.Keys.{remove_row}
 use Rattle.meta_types.specs.Rows.{snap_key}
 use Rattle.object_tables.specs.Children.{left_by, family_names}
 use Rattle.object_tables.proofs.OrderStays.{nothing_to_remove}
 use Rattle.object_tables.proofs.NamesAfter.{row_left, none_parted}
 use Rattle.object_tables.proofs.children.Snapshots.remove.Goals as goal
+use Rattle.object_tables.proofs.children.Snapshots.remove.Goals.{in-Some-parent, in_default-parent}
 
 -- what isn't there doesn't go
 pub invariant_of-self : goal.invariant_of-self
@@ -31,3 +33,13 @@ invariant_of-self-in_default-parent c =
     row_left c.self.inside.rows (family_names c.self.inside.families) c.self.invariant (c.args.key.now.ns ∷ c.args.key.now.snapshotter ∷ c.args.key.now.name ∷ []) c.in-Some.row
     (family_names c.self.inside.families) c.take.new.self (sym c.in-Some.ensures.row)
     (ap (λ o. left_by c.in-Some.row.key o (family_names c.self.inside.families)) (sym has)) c.take.ensures.left
+
+-- of the rows only this one goes, with a parent or without
+pub returns-clause-left : goal.returns-clause-left
+returns-clause-left c =
+    let gone = c.take.ensures.left ∙ ap (remove_row snap_key (c.args.key.now.ns
+    ∷ c.args.key.now.snapshotter ∷ c.args.key.now.name ∷ [])) c.self.view_is in
+    elim c.match-row.branch [
+      | in-Some-parent w ↦ w.self-is ∙ gone
+      | in_default-parent w ↦ w.self-is ∙ gone
+    ]

@@ -1,4 +1,4 @@
-use Rattle.std.proofs.Common.{◌≡◌, Bool, false, sym, subst, ap, ◌∙◌}
+use Rattle.std.proofs.Common.{Bool, false, sym, subst, ap, ◌∙◌}
 use Rattle.meta_types.specs.Rows.{Tables}
 use Rattle.meta_types.specs.Changes.{has_namespace}
 use Rattle.meta_types.specs.Faults.{Refuses, least_of}

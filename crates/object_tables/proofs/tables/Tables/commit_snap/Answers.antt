@@ -14,14 +14,15 @@ use Rattle.object_tables.proofs.SnapTablesKept.{snap_committed}
 use Rattle.object_tables.proofs.tables.Tables.commit_snap.Goals as goal
 
 -- the tables with the list that a commit leaves
-with_committed : (ns snapshotter key name : Text) (labels : LabelList) (tables now : Tables)
-    (left : List SnapRow) → left ≡ committed ns snapshotter key name labels tables.snapshots
+with_committed : (ns snapshotter key name : Text) (labels : LabelList) (extra : Text)
+    (tables now : Tables)
+    (left : List SnapRow) → left ≡ committed ns snapshotter key name labels extra tables.snapshots
     → tables ≡ now → record tables { snapshots = left }
-    ≡ record now { snapshots = committed ns snapshotter key name labels now.snapshots }
-with_committed ns snapshotter key name labels tables now left is same =
+    ≡ record now { snapshots = committed ns snapshotter key name labels extra now.snapshots }
+with_committed ns snapshotter key name labels extra tables now left is same =
     ap (λ (rows : List SnapRow). record tables { snapshots = rows }) is
     ∙ ap (λ (t : Tables).
-    record t { snapshots = committed ns snapshotter key name labels t.snapshots }) same
+    record t { snapshots = committed ns snapshotter key name labels extra t.snapshots }) same
 
 -- a commit that isn't refused is of an active snapshot
 is_of_active : (ns snapshotter key name : Text) (rows : List SnapRow) (row : SnapRow)
@@ -36,8 +37,10 @@ is_of_active ns snapshotter key name rows row found fine =
 pub returns-clause-ok : goal.returns-clause-ok
 returns-clause-ok c =
     let key = c.args.key.now in
-    with_committed key.ns key.snapshotter key.name c.args.name c.args.labels _ _ c.remove.new.self
-    (commit_steps key.ns key.snapshotter key.name c.args.name c.args.labels c.self.inside.snapshots
+    with_committed key.ns key.snapshotter key.name c.args.name c.args.labels c.args.extra _ _
+    c.remove.new.self
+    (commit_steps key.ns key.snapshotter key.name c.args.name c.args.labels c.args.extra
+    c.self.inside.snapshots
     c.in-Some.row.now c.in_ok-row.row c.add.new.self c.remove.new.self
     c.in_ok-row.ensures.ok c.in_ok-add.ensures.ok
     c.remove.ensures.left
@@ -49,7 +52,7 @@ returns-clause-ok c =
     (subst (λ (t : Tables). has_row snap_key (key.ns ∷ key.snapshotter ∷ c.args.name ∷ [])
     t.snapshots ≡ false) (sym c.self.view_is) c.in_ok-check_commit.ensures.free)) c.self.view_is
 
--- the row is as before but for its name, its kind and its labels
+-- the row is as before but for its name, its kind, its labels and its data
 pub invariant_of-self-2 : goal.invariant_of-self-2
 invariant_of-self-2 c =
     let key = c.args.key.now in
@@ -67,12 +70,13 @@ invariant_of-self-2 c =
     subst (λ (t : Tables).
     committing_fault key.ns key.snapshotter key.name c.args.name t.snapshots ≡ None)
     (sym c.self.view_is) c.in_ok-check_commit.ensures.fault in
-    rw (commit_steps key.ns key.snapshotter key.name c.args.name c.args.labels rows
+    rw (commit_steps key.ns key.snapshotter key.name c.args.name c.args.labels c.args.extra rows
     c.in-Some.row.now c.in_ok-row.row c.add.new.self c.remove.new.self c.in_ok-row.ensures.ok
     c.in_ok-add.ensures.ok
     c.remove.ensures.left
     c.self.invariant.snapshots.in_order (sym found) free)
     (snap_committed _ c.self.invariant key.ns key.snapshotter key.name c.args.name c.args.labels
+    c.args.extra
     c.in-Some.row.now found
     (is_of_active key.ns key.snapshotter key.name c.args.name rows c.in-Some.row.now found fine)
     free)

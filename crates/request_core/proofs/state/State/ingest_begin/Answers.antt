@@ -24,6 +24,7 @@ grow_ingest-requires-clause-numbered g c κs within =
       expected = c.in_ok-ns.expected;
       expires = c.in_ok-ns.expires;
       number = c.free_number-number.result;
+      extra = c.in_ok-ns.extra;
     } in
     subst
     (λ (store : Store). adding_fault store.state.records.tables row.ns
