@@ -19,14 +19,14 @@ use Rattle.back_model.proofs.ShardPlaces.{apart_head, apart_rest}
 use Rattle.backend_sweep.specs.Shards.{is_number, numbers_of}
 use Rattle.backend_sweep.specs.Sweep.{Childfirst}
 use Rattle.backend_sweep.specs.Singles.{AreHeldOnce}
-use Rattle.backend_sweep.specs.ShardPlans.{PlannedShard, shard_plan_for, IsReady, fate_of, is_removed, is_failed}
-use Rattle.backend_sweep.specs.Fated.{AllFates, removed_of, failed_of}
+use Rattle.backend_sweep.specs.ShardPlans.{PlannedShard, shard_plan_for, IsReady, outcome_of, is_removed, is_failed}
+use Rattle.backend_sweep.specs.ObjectOutcomes.{AllOutcomes, removed_of, failed_of}
 use Rattle.backend_sweep.specs.Backed.{MaySweep}
 use Rattle.backend_sweep.specs.Swept.{IsSwept, SweepsNames, count_names}
 use Rattle.backend_sweep.specs.Tasks.{entries_in, shards_in, shard_plans_in, left_in, AreJobsOf, AreReady, SweepsJobs, SweepsList}
-use Rattle.backend_sweep.specs.declared.fates.Fate.{Fate}
+use Rattle.backend_sweep.specs.declared.outcomes.Outcome.{Outcome}
 use Rattle.backend_sweep.specs.declared.shard_task.ShardJob.{ShardJob}
-use Rattle.backend_sweep.proofs.Fated.{removed_by, failed_by}
+use Rattle.backend_sweep.proofs.ObjectOutcomes.{removed_by, failed_by}
 use Rattle.backend_sweep.proofs.Zipped.{Triple, olds_of, shard_plans_of, news_of, One, Zips, shard_plan_at, shard_there, zipped}
 use Rattle.backend_sweep.proofs.Counting.{counted}
 use Rattle.backend_sweep.proofs.LeftShards.{same_snaps, same_failures}
@@ -83,15 +83,16 @@ same_names : (names : List (Text × ℕ)) (zs : List Triple)
 same_names names [] each = refl
 same_names names (z ∷ zs) each = λ i. sym (each z (here z zs)).new_name i ∷ same_names names zs (λ w c. each w (later z zs w c)) i
 
--- a sweep of the same backend, with the same fates
-list_swept : {X B : Type 0} (same : X → X → Bool) (contents : B → List X) (fails : B → ℕ) (list : List X) (old mid new last : B) (fates fates' : List Fate)
-    → mid ≡ old → fates' ≡ fates → last ≡ new
-    → SweepsList same contents fails list fates mid new
+-- a sweep of the same backend, with the same outcomes
+list_swept : {X B : Type 0} (same : X → X → Bool) (contents : B → List X) (fails : B
+    → ℕ) (list : List X) (old mid new last : B) (outcomes fates' : List Outcome)
+    → mid ≡ old → fates' ≡ outcomes → last ≡ new
+    → SweepsList same contents fails list outcomes mid new
     → SweepsList same contents fails list fates' old last
-list_swept same contents fails list old mid new last fates fates' m f l s =
+list_swept same contents fails list old mid new last outcomes fates' m f l s =
     subst (λ (b : _). SweepsList same contents fails list fates' b last) m
-    (subst (λ (fs : List Fate). SweepsList same contents fails list fs mid last) (sym f)
-    (subst (λ (b : _). SweepsList same contents fails list fates mid b) (sym l) s))
+    (subst (λ (fs : List Outcome). SweepsList same contents fails list fs mid last) (sym f)
+    (subst (λ (b : _). SweepsList same contents fails list outcomes mid b) (sym l) s))
 
 module _ {S : Type 0} (contents : S → Snaps) (fails : S → ℕ) (olds : List Shard) (blobs : List Text) (ingests : List ℕ) (names : BackNames) (may : MaySweep (lists_of olds blobs ingests) names) (apart : AreApart olds)
     (jobs : List (ShardJob S)) (of : AreJobsOf contents fails names.snapshots olds jobs) where
@@ -119,13 +120,17 @@ module _ {S : Type 0} (contents : S → Snaps) (fails : S → ℕ) (olds : List 
         subst AreApart zips.news_are (subst (IsStrictlySortedBy text_cmp) (same_names names.snapshots zips.zs zips.each) (subst AreApart (sym (zips.olds_are ∙ of.shards_are)) apart))
 
 -- taking the shards out and putting them back leaves the other backends, and setting the
--- snapshots' fates leaves the other fates
+-- snapshots' outcomes leaves the other outcomes
 module _ {S B I : Type 0} (contents : S → Snaps) (fails : S → ℕ) (texts : B → List Text) (blob_fails : B → ℕ) (numbers : I → List ℕ) (ingest_fails : I → ℕ)
     (olds : List Shard) (b0 b1 b2 b3 : B) (i0 i1 i2 i3 : I) (names : BackNames) (may : MaySweep (lists_of olds (texts b0) (numbers i0)) names) (apart : AreApart olds)
     (jobs : List (ShardJob S)) (of : AreJobsOf contents fails names.snapshots olds jobs) (new : List (ShardJob S)) (done : SweepsJobs contents fails jobs new)
-    (fates last : AllFates) (last_is : last ≡ record fates { snapshots = map (fate_of (shard_plans_in new)) names.snapshots })
+    (outcomes last : AllOutcomes) (last_is : last ≡ record outcomes {
+      snapshots = map (outcome_of
+          (shard_plans_in new)) names.snapshots;
+    })
     (blobs_taken : b1 ≡ b0) (blobs_put : b3 ≡ b2) (ingests_taken : i1 ≡ i0) (ingests_put : i3 ≡ i2)
-    (blobs_swept : SweepsList bytes_eq texts blob_fails names.blobs fates.blobs b1 b2) (ingests_swept : SweepsList is_number numbers ingest_fails names.ingests fates.ingests i1 i2)
+    (blobs_swept : SweepsList bytes_eq texts blob_fails names.blobs outcomes.blobs b1 b2)
+    (ingests_swept : SweepsList is_number numbers ingest_fails names.ingests outcomes.ingests i1 i2)
     (news : List Shard) (news_are : news ≡ left_in contents fails names.snapshots new) where
   z : Zips names.snapshots (shards_in contents fails jobs) (shard_plans_in new) (shards_in contents fails new)
   z = zips contents fails olds (texts b0) (numbers i0) names may apart jobs of new done
@@ -134,13 +139,16 @@ module _ {S B I : Type 0} (contents : S → Snaps) (fails : S → ℕ) (texts : 
   olds_are = z.olds_are ∙ of.shards_are
 
   sb : SweepsList bytes_eq texts blob_fails names.blobs last.blobs b0 b3
-  sb = list_swept bytes_eq texts blob_fails names.blobs b0 b1 b2 b3 fates.blobs last.blobs blobs_taken (ap (λ (f : AllFates). f.blobs) last_is) blobs_put blobs_swept
+  sb = list_swept bytes_eq texts blob_fails names.blobs b0 b1 b2 b3 outcomes.blobs last.blobs
+      blobs_taken (ap (λ (f : AllOutcomes). f.blobs) last_is) blobs_put blobs_swept
 
   si : SweepsList is_number numbers ingest_fails names.ingests last.ingests i0 i3
-  si = list_swept is_number numbers ingest_fails names.ingests i0 i1 i2 i3 fates.ingests last.ingests ingests_taken (ap (λ (f : AllFates). f.ingests) last_is) ingests_put ingests_swept
+  si = list_swept is_number numbers ingest_fails names.ingests i0 i1 i2 i3 outcomes.ingests
+      last.ingests ingests_taken (ap (λ (f : AllOutcomes). f.ingests) last_is) ingests_put
+      ingests_swept
 
-  set : last.snapshots ≡ map (fate_of (shard_plans_in new)) names.snapshots
-  set = ap (λ (f : AllFates). f.snapshots) last_is
+  set : last.snapshots ≡ map (outcome_of (shard_plans_in new)) names.snapshots
+  set = ap (λ (f : AllOutcomes). f.snapshots) last_is
 
   removed_are : (removed_of names last).snapshots ≡ filter (is_removed (shard_plans_of z.zs)) names.snapshots
   removed_are = removed_by (shard_plans_in new) names.snapshots last.snapshots set ∙ ap (λ (l : List PlannedShard). filter (is_removed l) names.snapshots) (sym z.shard_plans_are)

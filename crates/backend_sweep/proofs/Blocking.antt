@@ -4,13 +4,13 @@ use Rattle.std.specs.Prelude.{◌⊎◌, Option, Some, None, option_and_then}
 use Rattle.std.specs.FinMap as map
 use Rattle.backend_sweep.specs.Shards.{IsChild, has}
 use Rattle.back_model.specs.Snaps.{Snaps, parent_of}
-use Rattle.backend_sweep.specs.declared.fates.Fate.{Fate}
-use Rattle.backend_sweep.specs.declared.fates.Fate.TheVariants as R
+use Rattle.backend_sweep.specs.declared.outcomes.Outcome.{Outcome}
+use Rattle.backend_sweep.specs.declared.outcomes.Outcome.TheVariants as R
 use Rattle.backend_sweep.specs.Sweep.{Swept, put_of, with_number, with_parent}
 use Rattle.backend_sweep.proofs.Listing.{truth, push_cases, push_old, push_new}
 
 -- one removal, by its answer on the children that are left
-abbrev pub Tried : Fate → ℕ → List ℕ → List ℕ → Snaps → Snaps → ℕ → ℕ → Type 0
+abbrev pub Tried : Outcome → ℕ → List ℕ → List ℕ → Snaps → Snaps → ℕ → ℕ → Type 0
 Tried R.Removed n failed kept m now before after =
     (now ≡ map.remove m n) × (after ≡ before) × ((c : ℕ) → IsChild m n c → (has failed c || has kept c) ≡ false)
 Tried R.Failed n failed kept m now before after =
@@ -19,7 +19,7 @@ Tried R.Kept n failed kept m now before after =
     (now ≡ m) × (after ≡ before) × ((c : ℕ) × ((has failed c || has kept c) ≡ true) × IsChild m n c)
 
 -- a number that is new goes last
-abbrev pub puts : Swept → ℕ → List ℕ → Fate → Swept
+abbrev pub puts : Swept → ℕ → List ℕ → Outcome → Swept
 puts s n parents R.Removed = record s { removed = s.removed ++ n ∷ []; room = s.room - 1 }
 puts s n parents R.Failed = record s { failed = s.failed ++ n ∷ []; parents = parents; room = s.room - 1 }
 puts s n parents R.Kept = record s { kept = s.kept ++ n ∷ []; parents = parents; room = s.room - 1 }
@@ -27,7 +27,8 @@ puts s n parents R.Kept = record s { kept = s.kept ++ n ∷ []; parents = parent
 pub last_of : (xs : List ℕ) (n : ℕ) → has xs n ≡ false → with_number xs n ≡ xs ++ n ∷ []
 last_of xs n h = rw h refl
 
-pub put_is : (s : Swept) (n : ℕ) (above : Option ℕ) (what : Fate) → has s.failed n ≡ false → has s.kept n ≡ false → put_of s n above what ≡ puts s n (with_parent s.parents above) what
+pub put_is : (s : Swept) (n : ℕ) (above : Option ℕ) (what : Outcome) → has s.failed n ≡ false
+    → has s.kept n ≡ false → put_of s n above what ≡ puts s n (with_parent s.parents above) what
 put_is s n above R.Removed f k = refl
 put_is s n above R.Failed f k = λ i. record s { failed = last_of s.failed n f i; parents = with_parent s.parents above; room = s.room - 1 }
 put_is s n above R.Kept f k = λ i. record s { kept = last_of s.kept n k i; parents = with_parent s.parents above; room = s.room - 1 }

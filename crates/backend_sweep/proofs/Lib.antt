@@ -19,7 +19,7 @@ pub mod SweptBackends
 pub mod LeftShards
 pub mod Backs
 pub mod Allowed
-pub mod Fated
+pub mod ObjectOutcomes
 pub mod OnePass
 pub mod OnePart
 pub mod NamesStand

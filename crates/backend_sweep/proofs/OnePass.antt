@@ -2,11 +2,11 @@
 use Rattle.std.proofs.Common.{◌≡◌, ℕ, ◌+◌, List, [], ◌∷◌, length, Bool, true, false, not, refl, sym, ◌∙◌, ap, subst, arith, map, ◌||◌}
 use Rattle.std.specs.Prelude.{filter}
 use Rattle.std.proofs.lemmas.List.Elements.{filter_agree}
-use Rattle.backend_sweep.specs.Fated.{names_with, was_removed, has_failed}
+use Rattle.backend_sweep.specs.ObjectOutcomes.{names_with, was_removed, has_failed}
 use Rattle.backend_sweep.specs.Singles.{is_in, SweepsEach}
-use Rattle.backend_sweep.specs.declared.fates.Fate.{Fate}
-use Rattle.backend_sweep.specs.declared.fates.Fate.TheVariants as F
-use Rattle.backend_sweep.proofs.Fated.{with_mapped}
+use Rattle.backend_sweep.specs.declared.outcomes.Outcome.{Outcome}
+use Rattle.backend_sweep.specs.declared.outcomes.Outcome.TheVariants as F
+use Rattle.backend_sweep.proofs.ObjectOutcomes.{with_mapped}
 
 all_of : {X : Type 0} (xs : List X) → filter (λ x. true) xs ≡ xs
 all_of [] = refl
@@ -31,13 +31,21 @@ module _ {X : Type 0} (same : X → X → Bool) where
         count = counted;
       }
 
-  -- all of them went, and their fates say so
-  pub all_went : (list old now : List X) (fates : List Fate) (before after : ℕ) → fates ≡ map (λ name. F.Removed) list → now ≡ filter (λ x. not (is_in same list x)) old → after ≡ before
-      → SweepsEach same list old now (names_with was_removed list fates) (names_with has_failed list fates) before after
-  all_went list old now fates before after set left count =
-      let removed : names_with was_removed list fates ≡ list = ap (names_with was_removed list) set ∙ with_mapped was_removed (λ name. F.Removed) (λ name. true) (λ name. refl) list ∙ all_of list in
-      let failed : names_with has_failed list fates ≡ [] = ap (names_with has_failed list) set ∙ with_mapped has_failed (λ name. F.Removed) (λ name. false) (λ name. refl) list ∙ none_of list in
-      subst (λ (l : List X). SweepsEach same list old now l (names_with has_failed list fates) before after) (sym removed)
+  -- all of them went, and their outcomes say so
+  pub all_went : (list old now : List X) (outcomes : List Outcome) (before after : ℕ)
+      → outcomes ≡ map (λ name. F.Removed) list
+      → now ≡ filter (λ x. not (is_in same list x)) old → after ≡ before
+      → SweepsEach same list old now (names_with was_removed list outcomes)
+      (names_with has_failed list outcomes) before after
+  all_went list old now outcomes before after set left count =
+      let removed : names_with was_removed list outcomes
+      ≡ list = ap (names_with was_removed list) set ∙ with_mapped was_removed
+      (λ name. F.Removed) (λ name. true) (λ name. refl) list ∙ all_of list in
+      let failed : names_with has_failed list outcomes ≡ [] = ap (names_with has_failed list) set
+      ∙ with_mapped has_failed (λ name. F.Removed) (λ name. false) (λ name. refl) list
+      ∙ none_of list in
+      subst (λ (l : List X). SweepsEach same list old now l
+      (names_with has_failed list outcomes) before after) (sym removed)
       (subst (λ (l : List X). SweepsEach same list old now list l before after) (sym failed) (went list old now before after left count))
 
   -- a sweep of what is still as it was

@@ -12,7 +12,7 @@ use Rattle.std.proofs.lemmas.Slice.Eq.{bytes_eq-Decides}
 use Rattle.meta_types.specs.Text.{Text, text_cmp}
 use Rattle.backend_sweep.specs.Parts.{StandBySnapshotter}
 use Rattle.backend_sweep.specs.ShardPlans.{PlannedShard, StandFrom, IsPlanAt}
-use Rattle.backend_sweep.proofs.Fated.{any_default}
+use Rattle.backend_sweep.proofs.ObjectOutcomes.{any_default}
 use Rattle.backend_sweep.proofs.OnePart.{ends}
 
 -- ---- tests of three answers

@@ -6,8 +6,8 @@ use Rattle.std.specs.Cmp.{nat_cmp_total}
 use Rattle.std.specs.FinMap as map
 use Rattle.backend_sweep.specs.Shards.{IsHeld, IsChild, has}
 use Rattle.back_model.specs.Snaps.{Snaps, parent_of}
-use Rattle.backend_sweep.specs.declared.fates.Fate.{Fate}
-use Rattle.backend_sweep.specs.declared.fates.Fate.TheVariants as R
+use Rattle.backend_sweep.specs.declared.outcomes.Outcome.{Outcome}
+use Rattle.backend_sweep.specs.declared.outcomes.Outcome.TheVariants as R
 use Rattle.backend_sweep.specs.Sweep.{Swept, Childfirst, IsAncestor, Sweeps, Tries, put_of, with_parent, is_told}
 use Rattle.backend_sweep.proofs.Listing.{or_cases, or_left, or_right, or_none, both_none, not_both, truth, has_push, push_cases, push_old, push_new, push_none, splits, front_member, has_at, swap3, swap_first, swap_last, climb_on, cmp_is, two_tests, order_grows, order_stays}
 use Rattle.backend_sweep.proofs.Blocking.{Tried, puts, put_is, Blocks, parent_old, parent_new, parent_cases, child_of, parent_is}
@@ -167,7 +167,9 @@ module _ (list done rest : List ℕ) (n : ℕ) (m0 m : Snaps) (f0 f : ℕ) (r : 
     kept_in_order = order_grows done r.kept n s.kept_in_order fresh;
   }
 
-  one_tried : (ps : List ℕ) (what : Fate) (now : Snaps) (after : ℕ) → Tried what n r.failed r.kept m now f after → Sweeps (done ++ n ∷ []) m0 now f0 after (puts r n ps what)
+  one_tried : (ps : List ℕ) (what : Outcome) (now : Snaps) (after : ℕ)
+      → Tried what n r.failed r.kept m now f after → Sweeps (done
+      ++ n ∷ []) m0 now f0 after (puts r n ps what)
   one_tried ps R.Removed now after t = subst (λ (k : ℕ). Sweeps (done ++ n ∷ []) m0 now f0 k (puts r n ps R.Removed)) (sym t.1) (removed_more ps now t.0 t.2)
   one_tried ps R.Failed now after t =
       subst (λ (x : Snaps). Sweeps (done ++ n ∷ []) m0 x f0 after (puts r n ps R.Failed)) (sym t.0) (subst (λ (k : ℕ). Sweeps (done ++ n ∷ []) m0 m f0 k (puts r n ps R.Failed)) (sym t.1) (failed_more ps t.2))
@@ -180,13 +182,16 @@ module _ (list done rest : List ℕ) (n : ℕ) (m0 m : Snaps) (f0 f : ℕ) (r : 
     no_child_left h c child = not_both (has r.parents n) (b.all n c (children_left c child) (before c n child)) h
 
     -- what a removal that isn't above another tells
-    tried_is : (above : Bool) (what : Fate) (now : Snaps) (after : ℕ) → above ≡ has r.parents n → Tries what above n m now f after → Tried what n r.failed r.kept m now f after
+    tried_is : (above : Bool) (what : Outcome) (now : Snaps) (after : ℕ) → above ≡ has r.parents n
+        → Tries what above n m now f after → Tried what n r.failed r.kept m now f after
     tried_is over R.Removed now after e t = (t.1, t.2, λ c child. absurd (no_child_left (sym e ∙ t.0) c child))
     tried_is over R.Failed now after e t = (t.1, t.2, λ c child. absurd (no_child_left (sym e ∙ t.0) c child))
     tried_is over R.Kept now after e t = (let k = b.child n (sym e ∙ t.0) in (t.1, t.2, (k.0, k.1, still k.0 n k.1 k.2)))
 
     -- the next number, whatever became of it
-    pub one_more : (parent : Option ℕ) (above : Bool) (what : Fate) (now : Snaps) (after : ℕ) → above ≡ has r.parents n → Tries what above n m now f after → Sweeps (done ++ n ∷ []) m0 now f0 after (put_of r n parent what)
+    pub one_more : (parent : Option ℕ) (above : Bool) (what : Outcome) (now : Snaps) (after : ℕ)
+        → above ≡ has r.parents n → Tries what above n m now f after → Sweeps (done
+        ++ n ∷ []) m0 now f0 after (put_of r n parent what)
     one_more parent above what now after e t =
         subst (λ (x : Swept). Sweeps (done ++ n ∷ []) m0 now f0 after x) (sym (put_is r n parent what not_in.1 not_in.2))
         (one_tried (with_parent r.parents parent) what now after (tried_is above what now after e t))
@@ -197,7 +202,8 @@ module _ (list done rest : List ℕ) (n : ℕ) (m0 m : Snaps) (f0 f : ℕ) (r : 
     theirs : (parent : Option ℕ) (p q : ℕ) → parent ≡ parent_of m n → n ≡ q → IsChild m0 p q → parent ≡ Some p
     theirs parent p q is e child = is ∙ parent_is m p n (now_is n not_in.0 ∙ subst (λ (x : ℕ). IsChild m0 p x) (sym e) child)
 
-    blocks_puts : (parent : Option ℕ) (what : Fate) → parent ≡ parent_of m n → Blocks m0 (puts r n (with_parent r.parents parent) what)
+    blocks_puts : (parent : Option ℕ) (what : Outcome) → parent ≡ parent_of m n
+        → Blocks m0 (puts r n (with_parent r.parents parent) what)
     blocks_puts parent R.Removed is = record { child = b.child; all = b.all }
     blocks_puts parent R.Failed is = record {
       child = λ p h. elim (parent_cases r.parents parent p h) [
@@ -241,5 +247,6 @@ module _ (list done rest : List ℕ) (n : ℕ) (m0 m : Snaps) (f0 f : ℕ) (r : 
     }
 
     -- and its parent
-    pub blocks_more : (parent : Option ℕ) (what : Fate) → parent ≡ parent_of m n → Blocks m0 (put_of r n parent what)
+    pub blocks_more : (parent : Option ℕ) (what : Outcome) → parent ≡ parent_of m n
+        → Blocks m0 (put_of r n parent what)
     blocks_more parent what is = subst (Blocks m0) (sym (put_is r n parent what not_in.1 not_in.2)) (blocks_puts parent what is)

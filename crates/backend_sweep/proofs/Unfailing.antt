@@ -7,14 +7,14 @@ use Rattle.back_model.specs.Snaps.{Snaps}
 use Rattle.backend_sweep.specs.Shards.{IsHeld, IsChild}
 use Rattle.backend_sweep.specs.Sweep.{Childfirst, Sweeps, Tries}
 use Rattle.backend_sweep.specs.ShardOutcomes.{all_gone}
-use Rattle.backend_sweep.specs.declared.fates.Fate.{Fate}
-use Rattle.backend_sweep.specs.declared.fates.Fate.TheVariants as R
+use Rattle.backend_sweep.specs.declared.outcomes.Outcome.{Outcome}
+use Rattle.backend_sweep.specs.declared.outcomes.Outcome.TheVariants as R
 use Rattle.backend_sweep.proofs.Blocking.{Blocks, none_blocked}
 use Rattle.backend_sweep.proofs.NextNumber.{at}
 use Rattle.backend_sweep.proofs.Sweeping.{is_held, no_child_left, one_more}
 
 -- what is tried goes
-pub goes : {B : Type 0} (fails : B → ℕ) → NeverFails fails → (old new : B) (what : Fate) (n : ℕ)
+pub goes : {B : Type 0} (fails : B → ℕ) → NeverFails fails → (old new : B) (what : Outcome) (n : ℕ)
     (m now : Snaps)
     → Tries what false n m now (fails old) (fails new)
     → Tries R.Removed false n m now (fails old) (fails new)

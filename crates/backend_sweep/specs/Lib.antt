@@ -1,5 +1,5 @@
 pub mod Shards
-pub mod Fated
+pub mod ObjectOutcomes
 pub mod Sweep
 pub mod ShardOutcomes
 pub mod Singles

@@ -6,8 +6,8 @@ use Rattle.meta_types.specs.Text.{Text, text_cmp}
 use Rattle.back_model.specs.Shown.{Shard}
 use Rattle.backend_sweep.specs.Shards.{has, numbers_of}
 use Rattle.backend_sweep.specs.Sweep.{Swept, Childfirst, IsRoomFor, Sweeps}
-use Rattle.backend_sweep.specs.declared.fates.Fate.{Fate}
-use Rattle.backend_sweep.specs.declared.fates.Fate.TheVariants as F
+use Rattle.backend_sweep.specs.declared.outcomes.Outcome.{Outcome}
+use Rattle.backend_sweep.specs.declared.outcomes.Outcome.TheVariants as F
 
 -- what is to be swept of one snapshotter's shard, and what was
 pub record PlannedShard : Type 0 where
@@ -47,13 +47,15 @@ IsPlanAt shard_plans snapshotter place =
     ≡ Some (slice_index_or shard_plans place other))
 
 -- what became of the number, as its plan has it; one without a plan is kept
-abbrev pub fate_in : Option PlannedShard → ℕ → Fate
-fate_in None n = F.Kept
-fate_in (Some shard_plan) n = if has shard_plan.swept.failed n then F.Failed else if has shard_plan.swept.kept n then F.Kept else F.Removed
+abbrev pub outcome_in : Option PlannedShard → ℕ → Outcome
+outcome_in None n = F.Kept
+outcome_in (Some shard_plan) n = if has shard_plan.swept.failed n then F.Failed else if has
+    shard_plan.swept.kept n then F.Kept else F.Removed
 
 -- what became of the name, by its plan
-abbrev pub fate_of : List PlannedShard → Text × ℕ → Fate
-fate_of shard_plans name = fate_in (find (λ (shard_plan : PlannedShard). bytes_eq shard_plan.snapshotter name.0) shard_plans) name.1
+abbrev pub outcome_of : List PlannedShard → Text × ℕ → Outcome
+outcome_of shard_plans name = outcome_in (find (λ (shard_plan : PlannedShard). bytes_eq
+    shard_plan.snapshotter name.0) shard_plans) name.1
 
 -- the test of the number by the name's plan; false where it has no plan
 abbrev pub in_shard_plan : (PlannedShard → ℕ → Bool) → List PlannedShard → Text × ℕ → Bool

@@ -3,8 +3,8 @@ use Rattle.std.specs.Prelude.{ℕ, ◌≡◌, ◌+◌, ◌-◌, ◌≤◌, Bool,
 use Rattle.std.specs.FinMap as map
 use Rattle.backend_sweep.specs.Shards.{IsHeld, IsChild, has}
 use Rattle.back_model.specs.Snaps.{Snaps}
-use Rattle.backend_sweep.specs.declared.fates.Fate.{Fate}
-use Rattle.backend_sweep.specs.declared.fates.Fate.TheVariants as R
+use Rattle.backend_sweep.specs.declared.outcomes.Outcome.{Outcome}
+use Rattle.backend_sweep.specs.declared.outcomes.Outcome.TheVariants as R
 
 -- numbers, and for how many more there is room
 pub record Roomy : Type 0 where
@@ -56,7 +56,7 @@ pub record Sweeps (list : List ℕ) (m now : Snaps) (before after : ℕ) (r : Sw
   pub kept_in_order : IsInOrderOf list r.kept
 
 -- one removal: it isn't tried where a child is left
-abbrev pub Tries : Fate → Bool → ℕ → Snaps → Snaps → ℕ → ℕ → Type 0
+abbrev pub Tries : Outcome → Bool → ℕ → Snaps → Snaps → ℕ → ℕ → Type 0
 Tries R.Removed above n m now before after = (above ≡ false) × (now ≡ map.remove m n) × (after ≡ before)
 Tries R.Failed above n m now before after = (above ≡ false) × (now ≡ m) × (after ≡ before + 1)
 Tries R.Kept above n m now before after = (above ≡ true) × (now ≡ m) × (after ≡ before)
@@ -71,7 +71,7 @@ with_parent xs None = xs
 with_parent xs (Some p) = with_number xs p
 
 -- one number more, with its parent
-abbrev pub put_of : Swept → ℕ → Option ℕ → Fate → Swept
+abbrev pub put_of : Swept → ℕ → Option ℕ → Outcome → Swept
 put_of s n parent R.Removed = record s { removed = s.removed ++ n ∷ []; room = s.room - 1 }
 put_of s n parent R.Failed = record s { failed = with_number s.failed n; parents = with_parent s.parents parent; room = s.room - 1 }
 put_of s n parent R.Kept = record s { kept = with_number s.kept n; parents = with_parent s.parents parent; room = s.room - 1 }

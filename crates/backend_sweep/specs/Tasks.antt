@@ -5,10 +5,10 @@ use Rattle.back_model.specs.Snaps.{Snaps, is_empty}
 use Rattle.back_model.specs.Shown.{Shard, shown}
 use Rattle.table_sweep.specs.BlobMarks.{AreBlobMarks}
 use Rattle.table_sweep.specs.declared.planning.Plan.{Plan}
-use Rattle.backend_sweep.specs.Fated.{names_with, was_removed, has_failed}
+use Rattle.backend_sweep.specs.ObjectOutcomes.{names_with, was_removed, has_failed}
 use Rattle.backend_sweep.specs.Singles.{AreHeldOnce, SweepsEach}
 use Rattle.backend_sweep.specs.ShardPlans.{PlannedShard, shard_plan_for, IsReady, SweepsShardPlan}
-use Rattle.backend_sweep.specs.declared.fates.Fate.{Fate}
+use Rattle.backend_sweep.specs.declared.outcomes.Outcome.{Outcome}
 use Rattle.backend_sweep.specs.declared.shard_task.ShardJob.{ShardJob}
 
 -- the shards, each with its snapshotter
@@ -58,6 +58,9 @@ SweepsJobs contents fails old new = (length new ≡ length old) × ((i : ℕ) (d
 abbrev pub MaySweepBlobs : Plan → List Text → List Text → Type 0
 MaySweepBlobs plan held arrived = AreHeldOnce bytes_eq plan.report.backend.blobs held × AreBlobMarks plan.report.backend.blobs arrived plan.blobs.items
 
--- the list is swept of a backend, as the fates say of each
-abbrev pub SweepsList : {X B : Type 0} → (X → X → Bool) → (B → List X) → (B → ℕ) → List X → List Fate → B → B → Type 0
-SweepsList same contents fails list fates old new = SweepsEach same list (contents old) (contents new) (names_with was_removed list fates) (names_with has_failed list fates) (fails old) (fails new)
+-- the list is swept of a backend, as the outcomes say of each
+abbrev pub SweepsList : {X B : Type 0} → (X → X → Bool) → (B → List X) → (B → ℕ) → List X
+    → List Outcome → B → B → Type 0
+SweepsList same contents fails list outcomes old new = SweepsEach same list (contents old)
+    (contents new) (names_with was_removed list outcomes) (names_with has_failed list outcomes)
+    (fails old) (fails new)

@@ -6,11 +6,11 @@ ghost use Rattle.meta_types.specs.declared.fault.Fault.TheVariants.{InvalidArgum
 ghost use Rattle.back_model.specs.Held.{held, failures};
 ghost use Rattle.table_sweep.specs.BlobMarks.{AreBlobMarks};
 ghost use Rattle.backend_sweep.specs.Planned.{IsPlanned};
-ghost use Rattle.backend_sweep.specs.Fated.{AreFatesOf, failed_of};
+ghost use Rattle.backend_sweep.specs.ObjectOutcomes.{AreOutcomesOf, failed_of};
 ghost use Rattle.backend_sweep.specs.Swept.{SweepsNames, count_names};
 
-use crate::fates::Fates;
-use crate::gate::{Crew, SweepGate};
+use crate::gate::{SweepCrew, SweepGate};
+use crate::outcomes::Outcomes;
 use crate::shard_task::ShardTask;
 use crate::tasks::{sweep_singles, sweep_tasks};
 use back_model::{Backends, BlobBackend, IngestBackend, SnapBackend};
@@ -25,7 +25,7 @@ pub fn sweep_plain<S: SnapBackend, B: BlobBackend, I: IngestBackend>(
     alloc: Global,
     backends: &mut Backends<S, B, I>,
     plan: &Plan,
-) -> Result<Fates, Fault>
+) -> Result<Outcomes, Fault>
     requires planned { IsPlanned (held B.contents I.contents backends.old) plan.now }
     requires marks { AreBlobMarks plan.now.report.backend.blobs (B.arrived backends.old.blobs)
         plan.now.blobs.items }
@@ -33,18 +33,18 @@ pub fn sweep_plain<S: SnapBackend, B: BlobBackend, I: IngestBackend>(
     ensures ok { IfOk result (SweepsNames plan.now.report.backend
         (held B.contents I.contents backends.old)
         (held B.contents I.contents backends.new)) }
-    ensures of { IfOk result (AreFatesOf plan.now.report.backend) }
-    ensures count { IfOk result (λ fates. failures B.fails I.fails backends.new
+    ensures of { IfOk result (AreOutcomesOf plan.now.report.backend) }
+    ensures count { IfOk result (λ outcomes. failures B.fails I.fails backends.new
         ≡ failures B.fails I.fails backends.old
-        + count_names (failed_of plan.now.report.backend fates)) }
+        + count_names (failed_of plan.now.report.backend outcomes)) }
     ensures err { OnErr result (backends.new ≡ backends.old) }
 {
-    let mut fates = Fates::room(alloc, plan)?;
+    let mut outcomes = Outcomes::room(alloc, plan)?;
     let mut task = ShardTask::take(alloc, backends, plan)?;
     task.sweep_in_turn();
-    sweep_singles(plan, backends, &mut fates);
-    task.put_back(backends, plan, &mut fates);
-    Ok(fates)
+    sweep_singles(plan, backends, &mut outcomes);
+    task.put_back(backends, plan, &mut outcomes);
+    Ok(outcomes)
 }
 
 /// Removes the objects that the plan names, and runs a task beside, which is to remove the plan's
@@ -59,12 +59,12 @@ pub fn sweep_by<
     H: SweepGate,
     F: FnMut() + Send,
 >(
-    crew: &Crew<R, H>,
+    crew: &SweepCrew<R, H>,
     alloc: Global,
     backends: &mut Backends<S, B, I>,
     plan: &Plan,
     beside: &mut F,
-) -> Result<Fates, Fault>
+) -> Result<Outcomes, Fault>
     requires planned { IsPlanned (held B.contents I.contents backends.old) plan.now }
     requires marks { AreBlobMarks plan.now.report.backend.blobs (B.arrived backends.old.blobs)
         plan.now.blobs.items }
@@ -73,19 +73,19 @@ pub fn sweep_by<
     ensures ok { IfOk result (SweepsNames plan.now.report.backend
         (held B.contents I.contents backends.old)
         (held B.contents I.contents backends.new)) }
-    ensures of { IfOk result (AreFatesOf plan.now.report.backend) }
-    ensures count { IfOk result (λ fates. failures B.fails I.fails backends.new
+    ensures of { IfOk result (AreOutcomesOf plan.now.report.backend) }
+    ensures count { IfOk result (λ outcomes. failures B.fails I.fails backends.new
         ≡ failures B.fails I.fails backends.old
-        + count_names (failed_of plan.now.report.backend fates)) }
+        + count_names (failed_of plan.now.report.backend outcomes)) }
     ensures err { OnErr result (backends.new ≡ backends.old) }
     ensures ran { IfOk result (λ _. F.step beside.old tt beside.new) }
     ensures not_run { OnErr result (beside.new ≡ beside.old) }
 {
-    let mut fates = Fates::room(alloc, plan)?;
+    let mut outcomes = Outcomes::room(alloc, plan)?;
     let mut task = ShardTask::take(alloc, backends, plan)?;
-    sweep_tasks(crew, &mut task, plan, backends, &mut fates, beside);
-    task.put_back(backends, plan, &mut fates);
-    Ok(fates)
+    sweep_tasks(crew, &mut task, plan, backends, &mut outcomes, beside);
+    task.put_back(backends, plan, &mut outcomes);
+    Ok(outcomes)
 }
 
 /// Removes the objects that the plan names, as `sweep_by` does, by this number of workers, if it is
@@ -105,7 +105,7 @@ pub fn sweep_shards<
     workers: usize,
     gate: &H,
     beside: &mut F,
-) -> Result<Fates, Fault>
+) -> Result<Outcomes, Fault>
     requires planned { IsPlanned (held B.contents I.contents backends.old) plan.now }
     requires marks { AreBlobMarks plan.now.report.backend.blobs (B.arrived backends.old.blobs)
         plan.now.blobs.items }
@@ -114,10 +114,10 @@ pub fn sweep_shards<
     ensures ok { IfOk result (SweepsNames plan.now.report.backend
         (held B.contents I.contents backends.old)
         (held B.contents I.contents backends.new)) }
-    ensures of { IfOk result (AreFatesOf plan.now.report.backend) }
-    ensures count { IfOk result (λ fates. failures B.fails I.fails backends.new
+    ensures of { IfOk result (AreOutcomesOf plan.now.report.backend) }
+    ensures count { IfOk result (λ outcomes. failures B.fails I.fails backends.new
         ≡ failures B.fails I.fails backends.old
-        + count_names (failed_of plan.now.report.backend fates)) }
+        + count_names (failed_of plan.now.report.backend outcomes)) }
     ensures err { OnErr result (backends.new ≡ backends.old) }
     ensures ran { IfOk result (λ _. F.step beside.old tt beside.new) }
     ensures not_run { OnErr result (beside.new ≡ beside.old) }
@@ -125,7 +125,8 @@ pub fn sweep_shards<
     let Some(workers) = Workers::new(workers) else {
         return Err(Fault::InvalidArgument);
     };
-    let crew = Crew { rt, workers, gate };
-    let fates = sweep_by(&crew, alloc, backends, plan, beside)?;
-    Ok(fates)
+    let crew = SweepCrew { rt, workers, gate };
+    // For the prover: the result is opened, not passed on.
+    let outcomes = sweep_by(&crew, alloc, backends, plan, beside)?;
+    Ok(outcomes)
 }

@@ -3,35 +3,35 @@ ghost use Rattle.std.specs.Prelude.{◌≡◌, length, map, bytes_eq};
 ghost use Rattle.table_sweep.specs.BlobMarks.{AreBlobMarks};
 ghost use Rattle.backend_sweep.specs.Singles.{AreHeldOnce};
 ghost use Rattle.backend_sweep.specs.Tasks.{SweepsList};
-ghost use Rattle.backend_sweep.specs.declared.fates.Fate.TheVariants.{Removed};
+ghost use Rattle.backend_sweep.specs.declared.outcomes.Outcome.TheVariants.{Removed};
 
-use crate::fates::Fate;
+use crate::outcomes::Outcome;
 use back_model::BlobBackend;
 use meta_types::Digest;
 
 // Removes the blobs one by one, and sets what became of each; one that the device fails stays.
-fn remove_each<B: BlobBackend>(backend: &mut B, names: &[Digest], fates: &mut [Fate])
+fn remove_each<B: BlobBackend>(backend: &mut B, names: &[Digest], outcomes: &mut [Outcome])
     requires names { AreHeldOnce bytes_eq names.now (B.contents backend.old) }
-    requires fates { length fates.old ≡ length names.now }
-    ensures swept { SweepsList bytes_eq B.contents B.fails names.now fates.new backend.old
+    requires outcomes { length outcomes.old ≡ length names.now }
+    ensures swept { SweepsList bytes_eq B.contents B.fails names.now outcomes.new backend.old
         backend.new }
-    ensures fates { length fates.new ≡ length names.now }
+    ensures outcomes { length outcomes.new ≡ length names.now }
 {
     for i in 0..names.len() {
         match backend.remove(&names[i]) {
-            Ok(()) => fates[i] = Fate::Removed,
-            Err(_) => fates[i] = Fate::Failed,
+            Ok(()) => outcomes[i] = Outcome::Removed,
+            Err(_) => outcomes[i] = Outcome::Failed,
         }
     }
 }
 
 // Sets that all of these went.
-fn set_removed(names: &[Digest], fates: &mut [Fate])
-    requires { length fates.old ≡ length names.now }
-    ensures { fates.new ≡ map (λ _. Removed) names.now }
+fn set_removed(names: &[Digest], outcomes: &mut [Outcome])
+    requires { length outcomes.old ≡ length names.now }
+    ensures { outcomes.new ≡ map (λ _. Removed) names.now }
 {
     for i in 0..names.len() {
-        fates[i] = Fate::Removed;
+        outcomes[i] = Outcome::Removed;
     }
 }
 
@@ -42,18 +42,18 @@ pub(crate) fn sweep_blobs<B: BlobBackend>(
     backend: &mut B,
     names: &[Digest],
     marks: &[bool],
-    fates: &mut [Fate],
+    outcomes: &mut [Outcome],
 )
     requires names { AreHeldOnce bytes_eq names.now (B.contents backend.old) }
     requires marks { AreBlobMarks names.now (B.arrived backend.old) marks.now }
-    requires fates { length fates.old ≡ length names.now }
-    ensures swept { SweepsList bytes_eq B.contents B.fails names.now fates.new backend.old
+    requires outcomes { length outcomes.old ≡ length names.now }
+    ensures swept { SweepsList bytes_eq B.contents B.fails names.now outcomes.new backend.old
         backend.new }
-    ensures fates { length fates.new ≡ length names.now }
+    ensures outcomes { length outcomes.new ≡ length names.now }
 {
     if backend.retain(marks) {
-        set_removed(names, fates);
+        set_removed(names, outcomes);
         return;
     }
-    remove_each(backend, names, fates);
+    remove_each(backend, names, outcomes);
 }

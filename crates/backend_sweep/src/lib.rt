@@ -3,10 +3,10 @@
 
 mod backends;
 mod blobs;
-mod fates;
 mod gate;
 mod ingests;
 mod number_set;
+mod outcomes;
 mod parts;
 mod rows;
 mod shard;
@@ -17,8 +17,8 @@ mod shard_task;
 mod tasks;
 
 pub use backends::{sweep_by, sweep_plain, sweep_shards};
-pub use fates::{Fate, Fates};
-pub use gate::{Crew, OpenSweepGate, SweepGate};
+pub use gate::{OpenSweepGate, SweepCrew, SweepGate};
+pub use outcomes::{Outcome, Outcomes};
 pub use rows::{rows_lent, rows_listed};
 pub use shard::sweep_shard;
 pub use shard_swept::ShardSwept;

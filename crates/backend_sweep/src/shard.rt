@@ -5,8 +5,8 @@ ghost use Rattle.backend_sweep.specs.Shards.{IsHeld, IsChild};
 ghost use Rattle.backend_sweep.specs.Sweep.{Tries, Sweeps, Childfirst, IsRoomFor, Leaves};
 ghost use Rattle.backend_sweep.specs.ShardOutcomes.{all_gone};
 
-use crate::fates::Fate;
 use crate::gate::SweepGate;
+use crate::outcomes::Outcome;
 use crate::shard_swept::ShardSwept;
 use back_model::{RemoveFault, SnapBackend};
 
@@ -17,19 +17,19 @@ fn try_remove<S: SnapBackend, H: SweepGate>(
     number: u64,
     is_above: bool,
     gate: &H,
-) -> Fate
+) -> Outcome
     requires held { IsHeld (S.contents shard.old) number }
     requires children { is_above ≡ false → (c : ℕ) → ¬ (IsChild (S.contents shard.old) number c) }
     ensures { Tries result is_above number (S.contents shard.old) (S.contents shard.new)
         (S.fails shard.old) (S.fails shard.new) }
 {
     if is_above {
-        return Fate::Kept;
+        return Outcome::Kept;
     }
     gate.before_remove(snapshotter, number);
     match shard.remove(number) {
-        Ok(()) => Fate::Removed,
-        Err(RemoveFault::Device) => Fate::Failed,
+        Ok(()) => Outcome::Removed,
+        Err(RemoveFault::Device) => Outcome::Failed,
         Err(RemoveFault::Missing) => unreachable!(),
         Err(RemoveFault::HasChildren) => unreachable!(),
     }

@@ -1,13 +1,13 @@
 //! Shards beside what is to be swept of each.
 ghost use Rattle.std.specs.Prelude.{◌≡◌, ◌≤◌, true, length, map, find, option_map, bytes_eq, None, Some, IfOk};
 ghost use Rattle.meta_types.specs.Faults.{Refuses};
-ghost use Rattle.backend_sweep.specs.Fated.{AreFatesOf};
+ghost use Rattle.backend_sweep.specs.ObjectOutcomes.{AreOutcomesOf};
 ghost use Rattle.backend_sweep.specs.Sweep.{Childfirst, IsRoomFor, Sweeps};
-ghost use Rattle.backend_sweep.specs.ShardPlans.{shard_plan_for, StandFrom, IsPlanAt, fate_in, fate_of};
+ghost use Rattle.backend_sweep.specs.ShardPlans.{shard_plan_for, StandFrom, IsPlanAt, outcome_in, outcome_of};
 ghost use Rattle.backend_sweep.specs.Parts.{StandBySnapshotter};
 
-use crate::fates::{Fate, Fates};
 use crate::gate::SweepGate;
+use crate::outcomes::{Outcome, Outcomes};
 use crate::parts::part_of;
 use crate::shard_outcome::ShardOutcome;
 use back_model::SnapBackend;
@@ -169,53 +169,53 @@ fn reach<S: SnapBackend>(
 }
 
 // What became of a number, as its shard's plan has it.
-fn fate_in<S: SnapBackend>(shard_plan: &ShardPlan<S>, number: u64) -> Fate
-    ensures { result ≡ fate_in (Some shard_plan.now) number }
+fn outcome_in<S: SnapBackend>(shard_plan: &ShardPlan<S>, number: u64) -> Outcome
+    ensures { result ≡ outcome_in (Some shard_plan.now) number }
 {
     if shard_plan.outcome.has_failed(number) {
-        return Fate::Failed;
+        return Outcome::Failed;
     }
     if shard_plan.outcome.has_kept(number) {
-        return Fate::Kept;
+        return Outcome::Kept;
     }
-    Fate::Removed
+    Outcome::Removed
 }
 
 // What became of a name, by the plan that was reached; all plans are asked where that isn't its
 // own.
-fn fate_at<S: SnapBackend>(
+fn outcome_at<S: SnapBackend>(
     shard_plans: &[ShardPlan<S>],
     reached: Reached,
     name: &(ShortName, u64),
-) -> Fate
+) -> Outcome
     requires { reached.found ≡ true → IsPlanAt shard_plans.now name.now.0 reached.place }
-    ensures { result ≡ fate_of shard_plans.now name.now }
+    ensures { result ≡ outcome_of shard_plans.now name.now }
 {
     if reached.found {
-        return fate_in(&shard_plans[reached.place], name.1);
+        return outcome_in(&shard_plans[reached.place], name.1);
     }
     let Some(shard_plan) = shard_plan_at(shard_plans, &name.0) else {
-        return Fate::Kept;
+        return Outcome::Kept;
     };
-    fate_in(shard_plan, name.1)
+    outcome_in(shard_plan, name.1)
 }
 
-// Sets the fate of each name, in one pass over names and plans.
-fn set_fates<S: SnapBackend>(
+// Sets the outcome of each name, in one pass over names and plans.
+fn set_outcomes<S: SnapBackend>(
     shard_plans: &[ShardPlan<S>],
     names: &[(ShortName, u64)],
-    fates: &mut [Fate],
+    outcomes: &mut [Outcome],
 )
     requires names { StandBySnapshotter names.now }
-    requires fates { length fates.old ≡ length names.now }
-    ensures { fates.new ≡ map (fate_of shard_plans.now) names.now }
+    requires outcomes { length outcomes.old ≡ length names.now }
+    ensures { outcomes.new ≡ map (outcome_of shard_plans.now) names.now }
 {
     let mut from = 0;
     for i in 0..names.len() {
         let name = &names[i];
         let reached = reach(shard_plans, from, &name.0);
         from = reached.place;
-        fates[i] = fate_at(shard_plans, reached, name);
+        outcomes[i] = outcome_at(shard_plans, reached, name);
     }
 }
 
@@ -223,18 +223,18 @@ fn set_fates<S: SnapBackend>(
 pub(crate) fn set_snapshots<S: SnapBackend>(
     shard_plans: &[ShardPlan<S>],
     plan: &Plan,
-    fates: &mut Fates,
+    outcomes: &mut Outcomes,
 )
     requires names { StandBySnapshotter plan.now.report.backend.snapshots }
-    requires fates { AreFatesOf plan.now.report.backend fates.old }
-    ensures set { fates.new ≡ record fates.old {
-      snapshots = map (fate_of shard_plans.now) plan.now.report.backend.snapshots;
+    requires outcomes { AreOutcomesOf plan.now.report.backend outcomes.old }
+    ensures set { outcomes.new ≡ record outcomes.old {
+      snapshots = map (outcome_of shard_plans.now) plan.now.report.backend.snapshots;
     } }
-    ensures of { AreFatesOf plan.now.report.backend fates.new }
+    ensures of { AreOutcomesOf plan.now.report.backend outcomes.new }
 {
-    set_fates(
+    set_outcomes(
         shard_plans,
         &plan.report.backend.snapshots,
-        &mut fates.snapshots,
+        &mut outcomes.snapshots,
     );
 }

@@ -4,8 +4,8 @@ ghost use Rattle.meta_types.specs.Faults.{Refuses};
 ghost use Rattle.backend_sweep.specs.Shards.{has};
 ghost use Rattle.backend_sweep.specs.Sweep.{put_of};
 
-use crate::fates::Fate;
 use crate::number_set::NumberSet;
+use crate::outcomes::Outcome;
 use meta_types::Fault;
 use std::alloc::Global;
 use std::marker::Model;
@@ -118,16 +118,16 @@ impl ShardSwept {
     }
 
     // Puts a number into the list that its removal asks for, in the room for it.
-    pub(crate) fn put(&mut self, number: u64, parent: Option<u64>, became: Fate)
+    pub(crate) fn put(&mut self, number: u64, parent: Option<u64>, became: Outcome)
         requires { 0 < self.old.room }
         ensures { self.new ≡ put_of self.old number parent became }
     {
         match became {
-            Fate::Removed => self.removed.push_reserved(number),
-            Fate::Failed => self.failed.add(number),
-            Fate::Kept => self.kept.add(number),
+            Outcome::Removed => self.removed.push_reserved(number),
+            Outcome::Failed => self.failed.add(number),
+            Outcome::Kept => self.kept.add(number),
         }
-        if became != Fate::Removed {
+        if became != Outcome::Removed {
             if let Some(above) = parent {
                 self.parents.add(above);
             }

@@ -3,13 +3,13 @@ ghost use Rattle.std.specs.Prelude.{◌≡◌, ◌≤◌, [], length, map, filte
 ghost use Rattle.std.specs.Vec.{vec_capacity};
 ghost use Rattle.meta_types.specs.Faults.{Refuses};
 ghost use Rattle.back_model.specs.Shown.{AreApart, shown};
-ghost use Rattle.backend_sweep.specs.Fated.{AreFatesOf};
+ghost use Rattle.backend_sweep.specs.ObjectOutcomes.{AreOutcomesOf};
 ghost use Rattle.backend_sweep.specs.Parts.{StandBySnapshotter};
-ghost use Rattle.backend_sweep.specs.ShardPlans.{shard_plan_for, IsReady, fate_of};
+ghost use Rattle.backend_sweep.specs.ShardPlans.{shard_plan_for, IsReady, outcome_of};
 ghost use Rattle.backend_sweep.specs.Tasks.{entries_in, shards_in, shard_plans_in, is_left, left_in, AreJobsOf, AreReady, SweepsJob, SweepsJobs};
 
-use crate::fates::Fates;
-use crate::gate::{Crew, OpenSweepGate, SweepGate};
+use crate::gate::{OpenSweepGate, SweepCrew, SweepGate};
+use crate::outcomes::Outcomes;
 use crate::parts::part_of;
 use crate::shard_plans::{ShardPlan, set_snapshots, shard_plans_of, sweep_shard_plan};
 use back_model::{Backends, BlobBackend, IngestBackend, SnapBackend};
@@ -150,7 +150,7 @@ fn sweep_jobs_in_turn<S: SnapBackend>(jobs: &mut [ShardJob<S>])
 }
 
 fn sweep_jobs<R: Threads + Sync, S: SnapBackend, H: SweepGate>(
-    crew: &Crew<R, H>,
+    crew: &SweepCrew<R, H>,
     jobs: &mut [ShardJob<S>],
 )
     requires { AreReady S.contents S.fails jobs.old }
@@ -241,31 +241,31 @@ impl<S: SnapBackend> ShardTask<S> {
 
     /// Sweeps each shard by its plan, as many at once as there are workers. Threads alone take
     /// memory.
-    pub(crate) fn sweep<R: Threads + Sync, H: SweepGate>(&mut self, crew: &Crew<R, H>)
+    pub(crate) fn sweep<R: Threads + Sync, H: SweepGate>(&mut self, crew: &SweepCrew<R, H>)
         requires { AreReady S.contents S.fails self.old }
         ensures { SweepsJobs S.contents S.fails self.old self.new }
     {
         sweep_jobs(crew, &mut self.jobs);
     }
 
-    /// Puts the shards back that are left, and copies each snapshot's fate from its shard's plan.
+    /// Puts the shards back that are left, and copies each snapshot's outcome from its shard's plan.
     /// It takes no memory.
     pub(crate) fn put_back<B: BlobBackend, I: IngestBackend>(
         self,
         backends: &mut Backends<S, B, I>,
         plan: &Plan,
-        fates: &mut Fates,
+        outcomes: &mut Outcomes,
     )
         requires names { StandBySnapshotter plan.now.report.backend.snapshots }
         requires apart { AreApart (shards_in S.contents S.fails self) }
-        requires of { AreFatesOf plan.now.report.backend fates.old }
+        requires of { AreOutcomesOf plan.now.report.backend outcomes.old }
         ensures shards { backends.new ≡ record backends.old {
           shards = left_in S.contents S.fails plan.now.report.backend.snapshots self;
         } }
-        ensures set { fates.new ≡ record fates.old {
-          snapshots = map (fate_of (shard_plans_in self)) plan.now.report.backend.snapshots;
+        ensures set { outcomes.new ≡ record outcomes.old {
+          snapshots = map (outcome_of (shard_plans_in self)) plan.now.report.backend.snapshots;
         } }
-        ensures of { AreFatesOf plan.now.report.backend fates.new }
+        ensures of { AreOutcomesOf plan.now.report.backend outcomes.new }
     {
         let ShardTask {
             jobs,
@@ -275,6 +275,6 @@ impl<S: SnapBackend> ShardTask<S> {
         part_jobs(jobs, &mut shards, &mut shard_plans);
         leave_out(&mut shards, &plan.report.backend.snapshots);
         backends.put_shards(shards);
-        set_snapshots(&shard_plans, plan, fates);
+        set_snapshots(&shard_plans, plan, outcomes);
     }
 }

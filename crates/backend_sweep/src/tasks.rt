@@ -1,15 +1,15 @@
 //! Shards, blobs and ingests, and a task of the caller's, swept at once or in turn.
 ghost use Rattle.std.specs.Prelude.{◌≡◌, length, bytes_eq};
 ghost use Rattle.std.specs.Thread.{IsSync, IsSend};
-ghost use Rattle.backend_sweep.specs.Fated.{AreFatesOf};
+ghost use Rattle.backend_sweep.specs.ObjectOutcomes.{AreOutcomesOf};
 ghost use Rattle.backend_sweep.specs.Shards.{is_number};
 ghost use Rattle.backend_sweep.specs.Singles.{AreHeldOnce};
 ghost use Rattle.backend_sweep.specs.Tasks.{AreReady, SweepsJobs, MaySweepBlobs, SweepsList};
 
 use crate::blobs::sweep_blobs;
-use crate::fates::{Fate, Fates};
-use crate::gate::{Crew, SweepGate};
+use crate::gate::{SweepCrew, SweepGate};
 use crate::ingests::sweep_ingests;
+use crate::outcomes::{Outcome, Outcomes};
 use crate::shard_task::ShardTask;
 use back_model::{Backends, BlobBackend, IngestBackend, SnapBackend};
 use std::thread::{Threads, join_mut};
@@ -61,24 +61,28 @@ fn run_both<R: Threads, F: FnMut() + Send, G: FnMut()>(rt: &R, at_once: bool, f:
 pub(crate) fn sweep_singles<S: SnapBackend, B: BlobBackend, I: IngestBackend>(
     plan: &Plan,
     backends: &mut Backends<S, B, I>,
-    fates: &mut Fates,
+    outcomes: &mut Outcomes,
 )
     requires blobs { MaySweepBlobs plan.now (B.contents backends.old.blobs)
         (B.arrived backends.old.blobs) }
     requires ingests { AreHeldOnce is_number plan.now.report.backend.ingests
         (I.contents backends.old.ingests) }
-    requires fates { AreFatesOf plan.now.report.backend fates.old }
+    requires outcomes { AreOutcomesOf plan.now.report.backend outcomes.old }
     ensures blobs { SweepsList bytes_eq B.contents B.fails plan.now.report.backend.blobs
-        fates.new.blobs backends.old.blobs backends.new.blobs }
+        outcomes.new.blobs backends.old.blobs backends.new.blobs }
     ensures ingests { SweepsList is_number I.contents I.fails plan.now.report.backend.ingests
-        fates.new.ingests backends.old.ingests backends.new.ingests }
-    ensures of { AreFatesOf plan.now.report.backend fates.new }
+        outcomes.new.ingests backends.old.ingests backends.new.ingests }
+    ensures of { AreOutcomesOf plan.now.report.backend outcomes.new }
     ensures shards { backends.new.shards ≡ backends.old.shards }
 {
     let objects = &plan.report.backend;
-    let set = &mut fates.blobs;
+    let set = &mut outcomes.blobs;
     sweep_blobs(backends.blobs_mut(), &objects.blobs, &plan.blobs, set);
-    sweep_ingests(backends.ingests_mut(), &objects.ingests, &mut fates.ingests);
+    sweep_ingests(
+        backends.ingests_mut(),
+        &objects.ingests,
+        &mut outcomes.ingests,
+    );
 }
 
 // Sweeps blobs, and runs the task, at once where it is `split`. A closure may capture the blobs'
@@ -88,15 +92,16 @@ fn sweep_rest<R: Threads + Sync, B: BlobBackend, F: FnMut() + Send>(
     split: bool,
     plan: &Plan,
     backend: &mut B,
-    fates: &mut [Fate],
+    outcomes: &mut [Outcome],
     beside: &mut F,
 )
     requires blobs { MaySweepBlobs plan.now (B.contents backend.old) (B.arrived backend.old) }
-    requires fates { length fates.old ≡ length plan.now.report.backend.blobs }
+    requires outcomes { length outcomes.old ≡ length plan.now.report.backend.blobs }
     requires beside { F.pre beside.old }
-    ensures swept { SweepsList bytes_eq B.contents B.fails plan.now.report.backend.blobs fates.new
+    ensures swept { SweepsList bytes_eq B.contents B.fails plan.now.report.backend.blobs
+        outcomes.new
         backend.old backend.new }
-    ensures fates { length fates.new ≡ length plan.now.report.backend.blobs }
+    ensures outcomes { length outcomes.new ≡ length plan.now.report.backend.blobs }
     ensures beside { F.step beside.old tt beside.new }
 {
     run_both(
@@ -105,12 +110,12 @@ fn sweep_rest<R: Threads + Sync, B: BlobBackend, F: FnMut() + Send>(
         beside,
         &mut ||
             requires { MaySweepBlobs plan.now (B.contents backend.now) (B.arrived backend.now)
-                × (length fates.now ≡ length plan.now.report.backend.blobs) }
+                × (length outcomes.now ≡ length plan.now.report.backend.blobs) }
             ensures swept { SweepsList bytes_eq B.contents B.fails
-                plan.entry.now.report.backend.blobs fates.exit.now backend.entry.now
+                plan.entry.now.report.backend.blobs outcomes.exit.now backend.entry.now
                 backend.exit.now }
-            ensures fates { length fates.exit.now ≡ length plan.entry.now.report.backend.blobs }
-        { sweep_blobs(backend, &plan.report.backend.blobs, &plan.blobs, fates) },
+            ensures outcomes { length outcomes.exit.now ≡ length plan.entry.now.report.backend.blobs }
+        { sweep_blobs(backend, &plan.report.backend.blobs, &plan.blobs, outcomes) },
     );
 }
 
@@ -123,21 +128,22 @@ fn sweep_at_once<
     H: SweepGate,
     F: FnMut() + Send,
 >(
-    crew: &Crew<R, H>,
+    crew: &SweepCrew<R, H>,
     task: &mut ShardTask<S>,
     plan: &Plan,
     backend: &mut B,
-    fates: &mut [Fate],
+    outcomes: &mut [Outcome],
     beside: &mut F,
 )
     requires ready { AreReady S.contents S.fails task.old }
     requires blobs { MaySweepBlobs plan.now (B.contents backend.old) (B.arrived backend.old) }
-    requires fates { length fates.old ≡ length plan.now.report.backend.blobs }
+    requires outcomes { length outcomes.old ≡ length plan.now.report.backend.blobs }
     requires beside { F.pre beside.old }
     ensures shards { SweepsJobs S.contents S.fails task.old task.new }
-    ensures swept { SweepsList bytes_eq B.contents B.fails plan.now.report.backend.blobs fates.new
+    ensures swept { SweepsList bytes_eq B.contents B.fails plan.now.report.backend.blobs
+        outcomes.new
         backend.old backend.new }
-    ensures fates { length fates.new ≡ length plan.now.report.backend.blobs }
+    ensures outcomes { length outcomes.new ≡ length plan.now.report.backend.blobs }
     ensures beside { F.step beside.old tt beside.new }
 {
     let rt = crew.rt;
@@ -155,13 +161,13 @@ fn sweep_at_once<
         &mut ||
             requires { IsSync R.row × IsSend F.row × F.pre beside.now
                 × MaySweepBlobs plan.now (B.contents backend.now) (B.arrived backend.now)
-                × (length fates.now ≡ length plan.now.report.backend.blobs) }
+                × (length outcomes.now ≡ length plan.now.report.backend.blobs) }
             ensures swept { SweepsList bytes_eq B.contents B.fails
-                plan.entry.now.report.backend.blobs fates.exit.now backend.entry.now
+                plan.entry.now.report.backend.blobs outcomes.exit.now backend.entry.now
                 backend.exit.now }
-            ensures fates { length fates.exit.now ≡ length plan.entry.now.report.backend.blobs }
+            ensures outcomes { length outcomes.exit.now ≡ length plan.entry.now.report.backend.blobs }
             ensures beside { F.step beside.entry.now tt beside.exit.now }
-        { sweep_rest(rt, split, plan, backend, fates, beside) },
+        { sweep_rest(rt, split, plan, backend, outcomes, beside) },
     );
 }
 
@@ -176,11 +182,11 @@ pub(crate) fn sweep_tasks<
     H: SweepGate,
     F: FnMut() + Send,
 >(
-    crew: &Crew<R, H>,
+    crew: &SweepCrew<R, H>,
     task: &mut ShardTask<S>,
     plan: &Plan,
     backends: &mut Backends<S, B, I>,
-    fates: &mut Fates,
+    outcomes: &mut Outcomes,
     beside: &mut F,
 )
     requires ready { AreReady S.contents S.fails task.old }
@@ -188,20 +194,20 @@ pub(crate) fn sweep_tasks<
         (B.arrived backends.old.blobs) }
     requires ingests { AreHeldOnce is_number plan.now.report.backend.ingests
         (I.contents backends.old.ingests) }
-    requires fates { AreFatesOf plan.now.report.backend fates.old }
+    requires outcomes { AreOutcomesOf plan.now.report.backend outcomes.old }
     requires beside { F.pre beside.old }
     ensures jobs { SweepsJobs S.contents S.fails task.old task.new }
     ensures blobs { SweepsList bytes_eq B.contents B.fails plan.now.report.backend.blobs
-        fates.new.blobs backends.old.blobs backends.new.blobs }
+        outcomes.new.blobs backends.old.blobs backends.new.blobs }
     ensures ingests { SweepsList is_number I.contents I.fails plan.now.report.backend.ingests
-        fates.new.ingests backends.old.ingests backends.new.ingests }
-    ensures of { AreFatesOf plan.now.report.backend fates.new }
+        outcomes.new.ingests backends.old.ingests backends.new.ingests }
+    ensures of { AreOutcomesOf plan.now.report.backend outcomes.new }
     ensures shards { backends.new.shards ≡ backends.old.shards }
     ensures beside { F.step beside.old tt beside.new }
 {
-    let blobs = &mut fates.blobs;
+    let blobs = &mut outcomes.blobs;
     sweep_at_once(crew, task, plan, backends.blobs_mut(), blobs, beside);
-    let ingests = &mut fates.ingests;
+    let ingests = &mut outcomes.ingests;
     sweep_ingests(
         backends.ingests_mut(),
         &plan.report.backend.ingests,

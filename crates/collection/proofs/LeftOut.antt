@@ -22,8 +22,8 @@ use Rattle.table_sweep.specs.declared.masks.Masks.{Masks}
 use Rattle.table_sweep.proofs.SortedRows.{sorted_filter}
 use Rattle.table_sweep.proofs.Planned.{kept_by}
 use Rattle.collection.specs.Leaving.{less, less_images, less_leases, images_by, leases_by, listed_by, AreOthers}
-use Rattle.collection.specs.declared.removal.Named.{Named}
-use Rattle.collection.specs.declared.removal.Named.TheVariants as N
+use Rattle.collection.specs.declared.removal.RemovedRow.{RemovedRow}
+use Rattle.collection.specs.declared.removal.RemovedRow.TheVariants as N
 use Rattle.collection.specs.declared.leaving.Others.{Others}
 use Rattle.collection.specs.declared.leaving.Others.TheVariants as O
 use Rattle.collection.proofs.Bridges.{Agree}
@@ -59,13 +59,13 @@ module _ {Row : Type 0} (key_of : Row → Key) (key : Key) where
 
 -- ---- records
 
-abbrev less_arrived : Option Named → Records → Records
+abbrev less_arrived : Option RemovedRow → Records → Records
 less_arrived named arrived = record arrived {
   tables = record arrived.tables { images = less_images named arrived.tables.images };
   leases = less_leases named arrived.leases;
 }
 
-less_in_order : (arrived : Records) (named : Option Named)
+less_in_order : (arrived : Records) (named : Option RemovedRow)
     → IsTrue (are_in_order image_key (sorted image_key arrived.tables.images))
     → IsTrue (are_in_order lease_key (sorted lease_key arrived.leases))
     → records_in_key_order (less_arrived named arrived) ≡ less (records_in_key_order arrived) named
@@ -82,7 +82,7 @@ less_in_order arrived (Some (N.Lease ns id)) i l =
     }
 
 -- the rows that are listed are in order the records without what is named
-pub listed_in_order : (arrived : Records) (named : Option Named) (others : Others)
+pub listed_in_order : (arrived : Records) (named : Option RemovedRow) (others : Others)
     → AreOthers named arrived.tables.images arrived.leases others
     → IsTrue (are_in_order image_key (sorted image_key arrived.tables.images))
     → IsTrue (are_in_order lease_key (sorted lease_key arrived.leases))
@@ -107,7 +107,7 @@ agree_listed others a b h = record {
 }
 
 -- marks of rows are marks of the same rows
-pub others_as : (named : Option Named) (others : Others) (images also : List ImageRow)
+pub others_as : (named : Option RemovedRow) (others : Others) (images also : List ImageRow)
     (leases held : List LeaseRow) → images ≡ also → leases ≡ held
     → AreOthers named images leases others → AreOthers named also held others
 others_as named others images also leases held i l a =
@@ -130,12 +130,12 @@ module _ (records : Records) (ns name : Text) (marks : Vec Bool Global) where
   leases_less = filter (is_other lease_key (ns ∷ name ∷ [])) records.leases
 
   module _ (is : marks.items ≡ map (is_other image_key (ns ∷ name ∷ [])) records.tables.images) where
-    pub other_images_are : (named : Option Named) → named ≡ Some (N.Image ns name)
+    pub other_images_are : (named : Option RemovedRow) → named ≡ Some (N.Image ns name)
         → AreOthers named records.tables.images records.leases (O.Images marks)
     other_images_are named e =
         let told = marks_keep (is_other image_key (ns ∷ name ∷ [])) records.tables.images
         marks.items is in
-        subst (λ (n : Option Named).
+        subst (λ (n : Option RemovedRow).
         AreOthers n records.tables.images records.leases (O.Images marks)) (sym e)
         (record { fit = told.0; images_are = told.1; leases_are = refl })
 
@@ -150,11 +150,11 @@ module _ (records : Records) (ns name : Text) (marks : Vec Bool Global) where
         })
 
   module _ (is : marks.items ≡ map (is_other lease_key (ns ∷ name ∷ [])) records.leases) where
-    pub other_leases_are : (named : Option Named) → named ≡ Some (N.Lease ns name)
+    pub other_leases_are : (named : Option RemovedRow) → named ≡ Some (N.Lease ns name)
         → AreOthers named records.tables.images records.leases (O.Leases marks)
     other_leases_are named e =
         let told = marks_keep (is_other lease_key (ns ∷ name ∷ [])) records.leases marks.items is in
-        subst (λ (n : Option Named).
+        subst (λ (n : Option RemovedRow).
         AreOthers n records.tables.images records.leases (O.Leases marks)) (sym e)
         (record { fit = told.0; images_are = refl; leases_are = told.1 })
 
@@ -177,7 +177,7 @@ stay_as masks a b tables stay = subst (λ (t : Tables). StayNumbered t masks) (s
 
 -- ---- sound stores
 
-pub sound_less : (state : State) (named : Option Named) → IsSound state
+pub sound_less : (state : State) (named : Option RemovedRow) → IsSound state
     → IsSound (record { records = less state.records named; backends = state.backends })
 sound_less state None s = s
 sound_less state (Some (N.Image ns name)) s =

@@ -7,4 +7,4 @@ pub mod LeftOut
 pub mod PlansLess
 pub mod NamedRows
 pub mod LessRows
-pub mod Dealing
+pub mod Splitting

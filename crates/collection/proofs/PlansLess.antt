@@ -12,19 +12,19 @@ use Rattle.table_sweep.specs.InKeyOrder.{records_in_key_order}
 use Rattle.table_sweep.specs.Plans.{IsPlanOf}
 use Rattle.table_sweep.specs.Stays.{AreMasks, Collection, FitRows, StayNumbered}
 use Rattle.backend_sweep.specs.Planned.{IsPlanned}
-use Rattle.backend_sweep.specs.Fated.{AllFates, failed_of}
+use Rattle.backend_sweep.specs.ObjectOutcomes.{AllOutcomes, failed_of}
 use Rattle.backend_sweep.specs.Swept.{SweepsNames}
 use Rattle.collection.specs.Leaving.{less, tables_by, leases_by, listed_by, IsPlanLess}
 use Rattle.collection.specs.Stores.{records_in}
 use Rattle.collection.specs.Whole.{reported}
 use Rattle.collection.specs.declared.leaving.Planned.{Planned}
-use Rattle.collection.specs.declared.removal.Named.{Named}
+use Rattle.collection.specs.declared.removal.RemovedRow.{RemovedRow}
 use Rattle.collection.proofs.Bridges.{in_some_order}
 use Rattle.collection.proofs.LeftOut.{listed_in_order, sound_less}
 use Rattle.collection.proofs.SweptPlans.{a_swept_plan_is_a_collection}
 use Rattle.collection.proofs.Wholes.{fits, stays, rows_swept}
 
-module _ (arrived : Records) (named : Option Named) (back : BackLists) (at : ℤ)
+module _ (arrived : Records) (named : Option RemovedRow) (back : BackLists) (at : ℤ)
     (planned : Planned) where
   -- the rows that are listed
   abbrev rows : Records
@@ -35,7 +35,7 @@ module _ (arrived : Records) (named : Option Named) (back : BackLists) (at : ℤ
       planned.plan.masks
   rows_fit p = fits rows (length arrived.tables.namespaces) back at planned.plan p.plan_is
 
-module _ (kept : Kept) (arrived : Records) (named : Option Named) (back : BackLists) (at : ℤ)
+module _ (kept : Kept) (arrived : Records) (named : Option RemovedRow) (back : BackLists) (at : ℤ)
     (planned : Planned) (is : records_in_key_order arrived ≡ records_in kept)
     (sound : IsSound (record { records = records_in kept; backends = back }))
     (p : IsPlanLess arrived named back at planned) where
@@ -87,7 +87,8 @@ module _ (kept : Kept) (arrived : Records) (named : Option Named) (back : BackLi
     profile = arrived.profile;
   }
 
-  pub swept_less : (fates : AllFates) (tables : Tables) (leases : List LeaseRow) (new : BackLists)
+  pub swept_less : (outcomes : AllOutcomes) (tables : Tables) (leases : List LeaseRow)
+      (new : BackLists)
       → ((of : Collection) → tables_by planned.others arrived.tables ≡ of.records.tables
       → AreMasks of.records of.at of.reached planned.plan.masks
       → in_key_order tables
@@ -96,18 +97,19 @@ module _ (kept : Kept) (arrived : Records) (named : Option Named) (back : BackLi
       → AreMasks of.records of.at of.reached planned.plan.masks
       → sorted lease_key leases
       ≡ (collected_records of.at of.reached (records_in_key_order of.records)).leases)
-      → SweepsNames planned.plan.report.backend back new fates
-      → Collects left at (failed_of planned.plan.report.backend fates)
-      (reported planned.plan.report fates)
+      → SweepsNames planned.plan.report.backend back new outcomes
+      → Collects left at (failed_of planned.plan.report.backend outcomes)
+      (reported planned.plan.report outcomes)
       (record {
         records = left_by tables leases;
         backends = new;
       })
-  swept_less fates tables leases new t l s =
+  swept_less outcomes tables leases new t l s =
       subst (λ (r : Records). Collects (record { records = r; backends = back }) at
-      (failed_of planned.plan.report.backend fates) (reported planned.plan.report fates) (record {
+      (failed_of planned.plan.report.backend outcomes) (reported planned.plan.report outcomes)
+      (record {
         records = left_by tables leases;
         backends = new;
       })) listed_is
-      (a_swept_plan_is_a_collection listed back at planned.plan fates _ new p.plan_is
+      (a_swept_plan_is_a_collection listed back at planned.plan outcomes _ new p.plan_is
       (rows_swept listed planned.plan tables leases t l) s)

@@ -15,7 +15,7 @@ use Rattle.meta_types.specs.Steps.{remove_collect_fault}
 use Rattle.meta_types.specs.declared.request.Removal.{Removal}
 use Rattle.meta_types.specs.declared.request.Removal.TheVariants as R
 use Rattle.collection.specs.Removing.{is_readable, named_in, is_missing, without}
-use Rattle.collection.specs.declared.removal.Named.{Named}
+use Rattle.collection.specs.declared.removal.RemovedRow.{RemovedRow}
 
 -- with texts that are allowed, the tests are those of the code
 pub fault_is : (state : State) (removal : Removal) (workers : ℕ) → is_readable removal ≡ true
@@ -70,13 +70,15 @@ not_false : (b : Bool) → not b ≡ false → b ≡ true
 not_false true h = refl
 not_false false h = absurd cc
 
-module _ (state : State) (removal : Removal) (workers : ℕ) (named : Named) (read : (is_readable removal ≡ true) × (named ≡ named_in removal)) where
+module _ (state : State) (removal : Removal) (workers : ℕ) (named : RemovedRow) (read :
+    (is_readable removal ≡ true) × (named ≡ named_in removal)) where
   abbrev tested : Option Fault
   tested = least_of (not (is_worker_count workers)) (is_missing state.records named) false (is_too_large state.records)
 
   tested_is : tested ≡ remove_collect_fault state removal workers
   tested_is =
-      ap (λ (n : Named). least_of (not (is_worker_count workers)) (is_missing state.records n) false (is_too_large state.records)) read.1
+      ap (λ (n : RemovedRow). least_of (not (is_worker_count workers))
+      (is_missing state.records n) false (is_too_large state.records)) read.1
       ∙ fault_is state removal workers read.0
 
   -- what the check refuses is refused so
@@ -106,7 +108,7 @@ module _ (state : State) (removal : Removal) (workers : ℕ) (named : Named) (re
       (subst (CollectFails fault) (sym (none_applies h)) (from_threads fault refused))
 
 -- the store without what is named is the one that the removal leaves
-pub left_is : (records : Records) (backends : BackLists) (removal : Removal) (named : Named)
+pub left_is : (records : Records) (backends : BackLists) (removal : Removal) (named : RemovedRow)
     → named ≡ named_in removal
     → record { records = without records named; backends = backends } ≡
     (removal_outcome (record { records = records; backends = backends }) removal).after

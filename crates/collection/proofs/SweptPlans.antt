@@ -6,18 +6,18 @@ use Rattle.meta_types.specs.Reports.{Collects, Plans}
 use Rattle.table_sweep.specs.declared.planning.Plan.{Plan}
 use Rattle.table_sweep.specs.InKeyOrder.{records_in_key_order}
 use Rattle.table_sweep.specs.Plans.{IsPlanOfRows}
-use Rattle.backend_sweep.specs.Fated.{AllFates, failed_of}
+use Rattle.backend_sweep.specs.ObjectOutcomes.{AllOutcomes, failed_of}
 use Rattle.collection.specs.Whole.{reported, IsPlanOfStore, SweepsBackends, SweepsRecords}
 
 -- a plan's report, with what was swept
 pub a_swept_plan_is_a_collection : (arrived : Records) (backends : BackLists) (at : ℤ) (plan : Plan)
-    (fates : AllFates) (records : Records) (back : BackLists)
+    (outcomes : AllOutcomes) (records : Records) (back : BackLists)
     → IsPlanOfRows arrived (length arrived.tables.namespaces) backends at plan
-    → SweepsRecords plan arrived records → SweepsBackends plan backends fates back
+    → SweepsRecords plan arrived records → SweepsBackends plan backends outcomes back
     → Collects (record { records = records_in_key_order arrived; backends = backends }) at
-    (failed_of plan.report.backend fates) (reported plan.report fates)
+    (failed_of plan.report.backend outcomes) (reported plan.report outcomes)
     (record { records = records; backends = back })
-a_swept_plan_is_a_collection arrived backends at plan fates records back p rows objects =
+a_swept_plan_is_a_collection arrived backends at plan outcomes records back p rows objects =
     let left = collected_records at p.reached (records_in_key_order arrived) in
     let s = objects left.tables (ap (λ report. report.backend) p.report_is) in
     let rows_are = rows at p.reached p.masks in
@@ -29,7 +29,7 @@ a_swept_plan_is_a_collection arrived backends at plan fates records back p rows 
       report_is = λ i. record (p.report_is i) {
         backend = s.removed_is i;
         dry = false;
-        failed = failed_of plan.report.backend fates;
+        failed = failed_of plan.report.backend outcomes;
       };
     }
 

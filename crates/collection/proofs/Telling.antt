@@ -8,13 +8,13 @@ use Rattle.meta_types.specs.Rows.{Records, BackLists}
 use Rattle.table_sweep.specs.declared.planning.Plan.{Plan}
 use Rattle.table_sweep.specs.InKeyOrder.{records_in_key_order}
 use Rattle.table_sweep.specs.Plans.{IsPlanOfRows}
-use Rattle.backend_sweep.specs.Fated.{AllFates, failed_of}
+use Rattle.backend_sweep.specs.ObjectOutcomes.{AllOutcomes, failed_of}
 use Rattle.backend_sweep.specs.Swept.{count_names}
 use Rattle.collection.specs.Copies.{IsSpare, AreSpare, IsFillable, CanFill}
 use Rattle.collection.specs.Rooms.{AreRoomsFor, AllWent, CanTell}
 use Rattle.collection.specs.Whole.{SweepsBackends}
 use Rattle.collection.specs.declared.reporting.Rooms.{Rooms}
-use Rattle.collection.specs.declared.spare.Spare.{Spare}
+use Rattle.collection.specs.declared.spare.SpareReport.{SpareReport}
 
 none_listed : {X : Type 0} (list : List X) → length list ≡ 0 → list ≡ []
 none_listed [] e = refl
@@ -38,15 +38,15 @@ none_more new old more count none = omega (arith, count, none)
 
 -- where no device ever fails, a sweep removes all that the plan names: what was counted tells it
 pub all_went : (arrived : Records) (n : ℕ) (backends : BackLists) (at : ℤ) (plan : Plan)
-    (fates : AllFates) (back : BackLists) (new old : ℕ)
-    → IsPlanOfRows arrived n backends at plan → SweepsBackends plan backends fates back
-    → new ≡ old + count_names (failed_of plan.report.backend fates) → new ≡ 0
-    → AllWent plan.report.backend fates
-all_went arrived n backends at plan fates back new old p objects count no_new =
+    (outcomes : AllOutcomes) (back : BackLists) (new old : ℕ)
+    → IsPlanOfRows arrived n backends at plan → SweepsBackends plan backends outcomes back
+    → new ≡ old + count_names (failed_of plan.report.backend outcomes) → new ≡ 0
+    → AllWent plan.report.backend outcomes
+all_went arrived n backends at plan outcomes back new old p objects count no_new =
     let left = collected_records at p.reached (records_in_key_order arrived) in
     let are = ap (λ (report : Report). report.backend) p.report_is in
     let swept = objects left.tables are in
-    let failed = failed_of plan.report.backend fates in
+    let failed = failed_of plan.report.backend outcomes in
     let zero : count_names failed ≡ 0 = none_more new old (count_names failed) count no_new in
     let none = no_names failed zero in
     record {
@@ -55,27 +55,27 @@ all_went arrived n backends at plan fates back new old p objects count no_new =
       none = none;
     }
 
-pub can_tell : (may_fail : Bool) (names : BackNames) (fates : AllFates) (rooms : Option Rooms)
-    → AreRoomsFor may_fail names rooms → (may_fail ≡ false → AllWent names fates)
-    → CanTell names fates rooms
-can_tell may_fail names fates None made went = went made
-can_tell may_fail names fates (Some rooms) made went = made
+pub can_tell : (may_fail : Bool) (names : BackNames) (outcomes : AllOutcomes) (rooms : Option Rooms)
+    → AreRoomsFor may_fail names rooms → (may_fail ≡ false → AllWent names outcomes)
+    → CanTell names outcomes rooms
+can_tell may_fail names outcomes None made went = went made
+can_tell may_fail names outcomes (Some rooms) made went = made
 
-fillable : (may_fail : Bool) (planned : Report) (fates : AllFates) (spare : Spare)
-    → IsSpare may_fail planned spare → (may_fail ≡ false → AllWent planned.backend fates)
-    → IsFillable planned fates spare
-fillable may_fail planned fates spare is went = record {
+fillable : (may_fail : Bool) (planned : Report) (outcomes : AllOutcomes) (spare : SpareReport)
+    → IsSpare may_fail planned spare → (may_fail ≡ false → AllWent planned.backend outcomes)
+    → IsFillable planned outcomes spare
+fillable may_fail planned outcomes spare is went = record {
   report = is.report;
-  rooms = subst (λ (report : Report). CanTell report.backend fates spare.rooms) (sym is.report)
-      (can_tell may_fail planned.backend fates spare.rooms is.rooms went);
+  rooms = subst (λ (report : Report). CanTell report.backend outcomes spare.rooms) (sym is.report)
+      (can_tell may_fail planned.backend outcomes spare.rooms is.rooms went);
 }
 
-pub can_fill : (kept may_fail : Bool) (planned : Report) (fates : AllFates)
-    (spares : Option (Spare × Spare)) → AreSpare kept may_fail planned spares
-    → (may_fail ≡ false → AllWent planned.backend fates) → CanFill kept planned fates spares
-can_fill kept may_fail planned fates None are went = are
-can_fill kept may_fail planned fates (Some both) are went = (
+pub can_fill : (kept may_fail : Bool) (planned : Report) (outcomes : AllOutcomes)
+    (spares : Option (SpareReport × SpareReport)) → AreSpare kept may_fail planned spares
+    → (may_fail ≡ false → AllWent planned.backend outcomes) → CanFill kept planned outcomes spares
+can_fill kept may_fail planned outcomes None are went = are
+can_fill kept may_fail planned outcomes (Some both) are went = (
   are.0,
-  fillable may_fail planned fates both.0 are.1 went,
-  fillable may_fail planned fates both.1 are.2 went,
+  fillable may_fail planned outcomes both.0 are.1 went,
+  fillable may_fail planned outcomes both.1 are.2 went,
 )

@@ -6,27 +6,27 @@ use Rattle.row_tables.specs.Arrived.{kept}
 use Rattle.gc_graph.specs.Others.{is_other}
 use Rattle.table_sweep.specs.Plans.{IsPlanOfRows}
 use Rattle.collection.specs.Removing.{without}
-use Rattle.collection.specs.declared.removal.Named.{Named}
-use Rattle.collection.specs.declared.removal.Named.TheVariants as N
+use Rattle.collection.specs.declared.removal.RemovedRow.{RemovedRow}
+use Rattle.collection.specs.declared.removal.RemovedRow.TheVariants as N
 use Rattle.collection.specs.declared.leaving.Others.{Others}
 use Rattle.collection.specs.declared.leaving.Others.TheVariants as O
 use Rattle.collection.specs.declared.leaving.Planned.{Planned}
 
 -- the records without what is named, if anything is
-abbrev pub less : Records → Option Named → Records
+abbrev pub less : Records → Option RemovedRow → Records
 less records None = records
 less records (Some named) = without records named
 
 -- ---- rows as they arrived
 
 -- the images but the one that is named
-abbrev pub less_images : Option Named → List ImageRow → List ImageRow
+abbrev pub less_images : Option RemovedRow → List ImageRow → List ImageRow
 less_images None rows = rows
 less_images (Some (N.Image ns name)) rows = filter (is_other image_key (ns ∷ name ∷ [])) rows
 less_images (Some (N.Lease ns id)) rows = rows
 
 -- the leases but the one that is named
-abbrev pub less_leases : Option Named → List LeaseRow → List LeaseRow
+abbrev pub less_leases : Option RemovedRow → List LeaseRow → List LeaseRow
 less_leases None rows = rows
 less_leases (Some (N.Image ns name)) rows = rows
 less_leases (Some (N.Lease ns id)) rows = filter (is_other lease_key (ns ∷ id ∷ [])) rows
@@ -60,14 +60,14 @@ listed_by others records = record records {
 }
 
 -- the marks leave out what is named, and nothing else
-pub record AreOthers (named : Option Named) (images : List ImageRow) (leases : List LeaseRow)
+pub record AreOthers (named : Option RemovedRow) (images : List ImageRow) (leases : List LeaseRow)
     (others : Others) : Type 0 where
   pub fit : FitOthers others images leases
   pub images_are : images_by others images ≡ less_images named images
   pub leases_are : leases_by others leases ≡ less_leases named leases
 
 -- the plan is that of a collection of the rows but the one that is named
-pub record IsPlanLess (arrived : Records) (named : Option Named) (back : BackLists) (at : ℤ)
+pub record IsPlanLess (arrived : Records) (named : Option RemovedRow) (back : BackLists) (at : ℤ)
     (planned : Planned) : Type 0 where
   pub others : AreOthers named arrived.tables.images arrived.leases planned.others
   pub plan_is : IsPlanOfRows (listed_by planned.others arrived) (length arrived.tables.namespaces)

@@ -8,8 +8,8 @@ use Rattle.meta_types.specs.declared.request.Removal.{Removal}
 use Rattle.meta_types.specs.declared.request.Removal.TheVariants as R
 use Rattle.meta_types.specs.declared.fault.Fault.{Fault}
 use Rattle.meta_types.specs.declared.fault.Fault.TheVariants.{InvalidArgument, NotFound, AlreadyExists, FailedPrecondition, BadLine, TooLong, OutOfMemory, NoWorker, BackendFailed, ReadFailed, WriteFailed, Mismatch}
-use Rattle.collection.specs.declared.removal.Named.{Named}
-use Rattle.collection.specs.declared.removal.Named.TheVariants as N
+use Rattle.collection.specs.declared.removal.RemovedRow.{RemovedRow}
+use Rattle.collection.specs.declared.removal.RemovedRow.TheVariants as N
 
 -- its texts are allowed
 abbrev pub is_readable : Removal → Bool
@@ -17,7 +17,7 @@ is_readable (R.Image image) = all_of (is_short_name image.ns ∷ is_name image.n
 is_readable (R.Lease lease) = all_of (is_short_name lease.ns ∷ is_name lease.name ∷ [])
 
 -- what it names
-abbrev pub named_in : Removal → Named
+abbrev pub named_in : Removal → RemovedRow
 named_in (R.Image image) = N.Image image.ns image.name
 named_in (R.Lease lease) = N.Lease lease.ns lease.name
 
@@ -38,11 +38,11 @@ ReadsTexts (Err WriteFailed) allowed value = ⊥
 ReadsTexts (Err (Mismatch place)) allowed value = ⊥
 
 -- what is named isn't there
-abbrev pub is_missing : Records → Named → Bool
+abbrev pub is_missing : Records → RemovedRow → Bool
 is_missing records (N.Image ns name) = not (has_row image_key (ns ∷ name ∷ []) records.tables.images)
 is_missing records (N.Lease ns id) = not (has_row lease_key (ns ∷ id ∷ []) records.leases)
 
 -- the records without what is named
-abbrev pub without : Records → Named → Records
+abbrev pub without : Records → RemovedRow → Records
 without records (N.Image ns name) = record records { tables = record records.tables { images = remove_row image_key (ns ∷ name ∷ []) records.tables.images } }
 without records (N.Lease ns id) = record records { leases = remove_row lease_key (ns ∷ id ∷ []) records.leases }

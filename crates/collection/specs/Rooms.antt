@@ -2,7 +2,7 @@
 use Rattle.std.specs.Prelude.{◌≡◌, ◌≤◌, Bool, false, List, [], length, Option, None, Some}
 use Rattle.std.specs.Vec.{vec_capacity}
 use Rattle.meta_types.specs.Backends.{BackNames, no_objects}
-use Rattle.backend_sweep.specs.Fated.{AllFates, removed_of, failed_of}
+use Rattle.backend_sweep.specs.ObjectOutcomes.{AllOutcomes, removed_of, failed_of}
 use Rattle.collection.specs.declared.reporting.Room.{Room}
 use Rattle.collection.specs.declared.reporting.Rooms.{Rooms}
 
@@ -23,11 +23,11 @@ AreRoomsFor may_fail names None = may_fail ≡ false
 AreRoomsFor may_fail names (Some rooms) = HasRoomFor names rooms
 
 -- all these objects went, and none failed
-pub record AllWent (names : BackNames) (fates : AllFates) : Type 0 where
-  pub all : removed_of names fates ≡ names
-  pub none : failed_of names fates ≡ no_objects
+pub record AllWent (names : BackNames) (outcomes : AllOutcomes) : Type 0 where
+  pub all : removed_of names outcomes ≡ names
+  pub none : failed_of names outcomes ≡ no_objects
 
--- these fates can be told without memory: there is room for all objects, or all went
-abbrev pub CanTell : BackNames → AllFates → Option Rooms → Type 0
-CanTell names fates None = AllWent names fates
-CanTell names fates (Some rooms) = HasRoomFor names rooms
+-- these outcomes can be told without memory: there is room for all objects, or all went
+abbrev pub CanTell : BackNames → AllOutcomes → Option Rooms → Type 0
+CanTell names outcomes None = AllWent names outcomes
+CanTell names outcomes (Some rooms) = HasRoomFor names rooms

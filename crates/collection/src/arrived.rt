@@ -8,10 +8,10 @@ ghost use Rattle.collection.specs.Stores.{records_in};
 ghost use Rattle.table_sweep.specs.Backed.{lists_of};
 ghost use Rattle.table_sweep.specs.BlobMarks.{AreBlobMarks};
 
-use crate::crew::Crew;
+use crate::crew::CollectionCrew;
 use crate::leaving::{Planned, leave};
 use crate::planning::plan_listed;
-use crate::removal::Named;
+use crate::removal::RemovedRow;
 use backend_sweep::SweepGate;
 use gc_graph::ListedRows;
 use lease_book::{Lease, Leases};
@@ -37,9 +37,9 @@ pub(crate) struct ArrivedRecords {
 
 /// A collection that is asked for: its moment, and the row that is removed with it.
 #[derive(Drop)]
-pub(crate) struct Asked<'n> {
+pub(crate) struct CollectionTask<'n> {
     pub(crate) at: Instant,
-    pub(crate) without: Option<&'n Named>,
+    pub(crate) without: Option<&'n RemovedRow>,
 }
 
 impl ArrivedRecords {
@@ -47,14 +47,14 @@ impl ArrivedRecords {
     /// are listed.
     pub(crate) fn plan<R: Threads + Wait + Sync, G: Gate, H: SweepGate>(
         &self,
-        crew: &Crew<'_, R, G, H>,
+        crew: &CollectionCrew<'_, R, G, H>,
         back: &BackRows<'_>,
-        asked: &Asked<'_>,
+        task: &CollectionTask<'_>,
     ) -> Result<Planned, Fault>
         requires few { is_too_large (records_in (in_order self.now)) ≡ false }
         ensures fault { RefusesThreads result None }
-        ensures ok { IfOk result (IsPlanLess (arrived_in self.now) (option_copied asked.now.without)
-            (lists_of back.now) asked.now.at.0) }
+        ensures ok { IfOk result (IsPlanLess (arrived_in self.now) (option_copied task.now.without)
+            (lists_of back.now) task.now.at.0) }
         ensures blobs { IfOk result (λ planned. AreBlobMarks planned.plan.report.backend.blobs
             back.now.blobs.now planned.plan.blobs.items) }
     {
@@ -62,8 +62,8 @@ impl ArrivedRecords {
         let namespaces = self.tables.count_ns();
         let alloc = crew.alloc;
         let mut listed = ListedRows::new(alloc, &arrived, &self.leases, self.profile)?;
-        let others = leave(alloc, &mut listed, asked.without)?;
-        let plan = plan_listed(crew, &listed, namespaces, back, asked.at)?;
+        let others = leave(alloc, &mut listed, task.without)?;
+        let plan = plan_listed(crew, &listed, namespaces, back, task.at)?;
         Ok(Planned { others, plan })
     }
 }

@@ -18,19 +18,19 @@ ghost use Rattle.collection.specs.Leaving.{less, FitOthers, tables_by, leases_by
 ghost use Rattle.collection.specs.Refused.{large_fault};
 ghost use Rattle.collection.specs.Stores.{records_in, store_in};
 ghost use Rattle.backend_sweep.specs.Planned.{IsPlanned};
-ghost use Rattle.backend_sweep.specs.Fated.{AreFatesOf, failed_of};
+ghost use Rattle.backend_sweep.specs.ObjectOutcomes.{AreOutcomesOf, failed_of};
 ghost use Rattle.backend_sweep.specs.Swept.{count_names, SweepsNames};
 
-use crate::arrived::{ArrivedRecords, Asked, put_back, take_out};
-use crate::crew::Crew;
-use crate::keeps::Keeps;
+use crate::arrived::{ArrivedRecords, CollectionTask, put_back, take_out};
+use crate::crew::CollectionCrew;
+use crate::history_mode::HistoryMode;
 use crate::leaving::Planned;
 use crate::planning::check;
 use crate::reporting::may_fail;
 use crate::reports::Reports;
 use crate::spare::{Ready, reports_of};
 use back_model::{Backends, BlobBackend, IngestBackend, SnapBackend};
-use backend_sweep::{Fates, SweepGate, rows_lent, sweep_by};
+use backend_sweep::{Outcomes, SweepGate, rows_lent, sweep_by};
 use lease_book::Lease;
 use meta_types::{Fault, Instant, Name};
 use object_tables::ArrivedTables;
@@ -51,20 +51,21 @@ fn plan_held<
     G: Gate,
     H: SweepGate,
 >(
-    crew: &Crew<'_, R, G, H>,
+    crew: &CollectionCrew<'_, R, G, H>,
     arrived: &ArrivedRecords,
     backends: &Backends<S, B, I>,
-    asked: &Asked<'_>,
+    task: &CollectionTask<'_>,
 ) -> Result<Planned, Fault>
     requires few { is_too_large (records_in (in_order arrived.now)) ≡ false }
     ensures fault { RefusesThreads result None }
-    ensures ok { IfOk result (IsPlanLess (arrived_in arrived.now) (option_copied asked.now.without)
-        (held B.contents I.contents backends.now) asked.now.at.0) }
+    ensures ok { IfOk result (IsPlanLess (arrived_in arrived.now) (option_copied task.now.without)
+        (held B.contents I.contents backends.now) task.now.at.0) }
     ensures blobs { IfOk result (λ planned. AreBlobMarks planned.plan.report.backend.blobs
         (B.arrived backends.now.blobs) planned.plan.blobs.items) }
 {
     let lent = backends.lent(crew.alloc)?;
-    let planned = arrived.plan(crew, &rows_lent(&lent), asked)?;
+    // For the prover: the result is opened, not passed on.
+    let planned = arrived.plan(crew, &rows_lent(&lent), task)?;
     Ok(planned)
 }
 
@@ -78,12 +79,12 @@ fn sweep_all<
     G: Gate,
     H: SweepGate,
 >(
-    crew: &Crew<'_, R, G, H>,
+    crew: &CollectionCrew<'_, R, G, H>,
     tables: &mut ArrivedTables,
     leases: &mut ArrivedByNamespace<Name, Lease>,
     backends: &mut Backends<S, B, I>,
     planned: &Planned,
-) -> Result<Fates, Fault>
+) -> Result<Outcomes, Fault>
     requires planned { IsPlanned (held B.contents I.contents backends.old) planned.now.plan }
     requires marks { AreBlobMarks planned.now.plan.report.backend.blobs
         (B.arrived backends.old.blobs) planned.now.plan.blobs.items }
@@ -96,9 +97,10 @@ fn sweep_all<
     ensures ok { IfOk result (SweepsNames planned.now.plan.report.backend
         (held B.contents I.contents backends.old)
         (held B.contents I.contents backends.new)) }
-    ensures of { IfOk result (AreFatesOf planned.now.plan.report.backend) }
-    ensures count { IfOk result (λ fates. failures B.fails I.fails backends.new
-        ≡ failures B.fails I.fails backends.old + count_names (failed_of planned.now.plan.report.backend fates)) }
+    ensures of { IfOk result (AreOutcomesOf planned.now.plan.report.backend) }
+    ensures count { IfOk result (λ outcomes. failures B.fails I.fails backends.new
+        ≡ failures B.fails I.fails backends.old + count_names
+        (failed_of planned.now.plan.report.backend outcomes)) }
     ensures tables { IfOk result (λ _. (of : Collection)
         → tables_by planned.now.others tables.old ≡ of.records.tables
         → AreMasks of.records of.at of.reached planned.now.plan.masks
@@ -113,12 +115,13 @@ fn sweep_all<
     ensures leases_err { OnErr result (leases.new ≡ leases.old) }
     ensures backends_err { OnErr result (backends.new ≡ backends.old) }
 {
-    let sweepers = backend_sweep::Crew {
+    let sweepers = backend_sweep::SweepCrew {
         rt: crew.rt,
         workers: crew.workers,
         gate: crew.sweep_gate,
     };
-    let fates = sweep_by(
+    // For the prover: the result is opened, not passed on.
+    let outcomes = sweep_by(
         &sweepers,
         crew.alloc,
         backends,
@@ -140,7 +143,7 @@ fn sweep_all<
                 ≡ (collected_records of.at of.reached (records_in_key_order of.records)).leases }
         { planned.sweep(tables, leases) },
     )?;
-    Ok(fates)
+    Ok(outcomes)
 }
 
 // Collects records as they arrived, without what is named. From the first removal on nothing is
@@ -152,54 +155,59 @@ fn collect_arrived<
     I: IngestBackend,
     G: Gate,
     H: SweepGate,
-    K: Keeps,
+    K: HistoryMode,
 >(
-    crew: &Crew<'_, R, G, H>,
+    crew: &CollectionCrew<'_, R, G, H>,
     arrived: &mut ArrivedRecords,
     backends: &mut Backends<S, B, I>,
-    asked: &Asked<'_>,
+    task: &CollectionTask<'_>,
 ) -> Result<Reports<K>, Fault>
     requires sound { IsSound (store_in (in_order arrived.old) (held B.contents I.contents backends.old)) }
     requires few { is_too_large (records_in (in_order arrived.old)) ≡ false }
     ensures fault { RefusesThreads result None }
     ensures ok { IfOk result (λ report. Collects (record {
-      records = less (records_in (in_order arrived.old)) (option_copied asked.now.without);
+      records = less (records_in (in_order arrived.old)) (option_copied task.now.without);
       backends = held B.contents I.contents backends.old;
-    }) asked.now.at.0 report.failed report (store_in (in_order arrived.new) (held B.contents I.contents backends.new))) }
+    }) task.now.at.0 report.failed report (store_in (in_order arrived.new)
+        (held B.contents I.contents backends.new))) }
     ensures count { IfOk result (λ report. failures B.fails I.fails backends.new
         ≡ failures B.fails I.fails backends.old + count_names report.failed) }
     ensures arrived_err { OnErr result (arrived.new ≡ arrived.old) }
     ensures backends_err { OnErr result (backends.new ≡ backends.old) }
     ensures sound { IsSound (store_in (in_order arrived.new) (held B.contents I.contents backends.new)) }
 {
-    let planned = plan_held(crew, arrived, backends, asked)?;
+    let planned = plan_held(crew, arrived, backends, task)?;
     let alloc = crew.alloc;
     let may = may_fail::<S, B, I>();
     let ready = match Ready::of::<K>(alloc, &planned.plan, may) {
         Ok(ready) => ready,
         Err(fault) => {
+            // For the prover: dropped by a call, not in place.
             drop(planned);
             return Err(fault);
         }
     };
     if let Err(fault) = crew.sweep_gate.before_sweep(alloc, &planned.plan.report) {
+        // For the prover: dropped by a call, not in place.
         drop(ready);
         drop(planned);
         return Err(fault);
     }
     let tables = &mut arrived.tables;
     let leases = &mut arrived.leases;
-    let fates = match sweep_all(crew, tables, leases, backends, &planned) {
-        Ok(fates) => fates,
+    let outcomes = match sweep_all(crew, tables, leases, backends, &planned) {
+        Ok(outcomes) => outcomes,
         Err(fault) => {
+            // For the prover: dropped by a call, not in place.
             drop(ready);
             drop(planned);
             return Err(fault);
         }
     };
+    // For the prover: no removal failed where no device may.
     backends.none_failed();
     let Planned { others: _, plan } = planned;
-    Ok(reports_of(plan, fates, ready))
+    Ok(reports_of(plan, outcomes, ready))
 }
 
 // Collects records without what is named, where no fault applies.
@@ -210,19 +218,19 @@ pub(crate) fn collect_checked<
     I: IngestBackend,
     G: Gate,
     H: SweepGate,
-    K: Keeps,
+    K: HistoryMode,
 >(
-    crew: &Crew<'_, R, G, H>,
+    crew: &CollectionCrew<'_, R, G, H>,
     state: &mut State<S, B, I>,
-    asked: &Asked<'_>,
+    task: &CollectionTask<'_>,
 ) -> Result<Reports<K>, Fault>
     requires sound { IsSound state.old.state }
     requires few { is_too_large state.old.state.records ≡ false }
     ensures fault { RefusesThreads result None }
     ensures ok { IfOk result (λ report. Collects (record {
-      records = less state.old.state.records (option_copied asked.now.without);
+      records = less state.old.state.records (option_copied task.now.without);
       backends = state.old.state.backends;
-    }) asked.now.at.0 report.failed report state.new.state) }
+    }) task.now.at.0 report.failed report state.new.state) }
     ensures count { IfOk result (λ report. state.new.failures
         ≡ state.old.failures + count_names report.failed) }
     ensures err { OnErr result (state.new ≡ state.old) }
@@ -230,7 +238,7 @@ pub(crate) fn collect_checked<
 {
     let State { records, backends } = state;
     let mut arrived = take_out(crew.alloc, records);
-    let reports = collect_arrived(crew, &mut arrived, backends, asked);
+    let reports = collect_arrived(crew, &mut arrived, backends, task);
     put_back(records, arrived);
     reports
 }
@@ -244,8 +252,12 @@ pub fn collect<
     I: IngestBackend,
     G: Gate,
     H: SweepGate,
-    K: Keeps,
->(crew: &Crew<'_, R, G, H>, state: &mut State<S, B, I>, at: Instant) -> Result<Reports<K>, Fault>
+    K: HistoryMode,
+>(
+    crew: &CollectionCrew<'_, R, G, H>,
+    state: &mut State<S, B, I>,
+    at: Instant,
+) -> Result<Reports<K>, Fault>
     requires { IsSound state.old.state }
     ensures fault { RefusesThreads result (large_fault state.old.state.records) }
     ensures ok { IfOk result (λ report. Collects state.old.state at.0 report.failed report
@@ -256,7 +268,8 @@ pub fn collect<
     ensures sound { IsSound state.new.state }
 {
     check(state.records())?;
-    let asked = Asked { at, without: None };
-    let reports = collect_checked(crew, state, &asked)?;
+    let task = CollectionTask { at, without: None };
+    // For the prover: the result is opened, not passed on.
+    let reports = collect_checked(crew, state, &task)?;
     Ok(reports)
 }

@@ -8,7 +8,7 @@ use steal_mark::Gate;
 /// The threads of a collection, how many of them mark and sweep, the gate that each asks before it
 /// scans a node, and the one that each tells before it removes a snapshot of the backend.
 #[derive(Drop)]
-pub struct Crew<'c, R, G: Gate, H: SweepGate> {
+pub struct CollectionCrew<'c, R, G: Gate, H: SweepGate> {
     pub rt: &'c R,
     pub alloc: Global,
     pub workers: Workers,

@@ -15,8 +15,8 @@ ghost use Rattle.table_sweep.specs.Plans.{IsPlanOfRows, IsPlanOf};
 ghost use Rattle.meta_types.specs.Sound.{AreTables};
 ghost use Rattle.steal_mark.specs.Refusing.{RefusesThreads};
 
-use crate::crew::Crew;
-use crate::keeps::Keeps;
+use crate::crew::CollectionCrew;
+use crate::history_mode::HistoryMode;
 use crate::planning::{check, plan_store};
 use crate::reports::Reports;
 use crate::row_name::RowName;
@@ -35,7 +35,7 @@ use table_sweep::{BackRows, Plan, Team, plan_of};
 
 // What a collection of these records and of what is lent would report.
 fn dry_lent<R: Threads + Wait + Sync, G: Gate, H: SweepGate>(
-    crew: &Crew<'_, R, G, H>,
+    crew: &CollectionCrew<'_, R, G, H>,
     records: &Records,
     back: &BackRows<'_>,
     at: Instant,
@@ -57,7 +57,7 @@ fn dry_lent<R: Threads + Wait + Sync, G: Gate, H: SweepGate>(
 
 /// What a collection of these records and lists would report.
 pub fn dry_report<R: Threads + Wait + Sync, G: Gate, H: SweepGate>(
-    crew: &Crew<'_, R, G, H>,
+    crew: &CollectionCrew<'_, R, G, H>,
     records: &Records,
     back: &BackLists,
     at: Instant,
@@ -80,8 +80,12 @@ pub fn dry_run<
     I: IngestBackend,
     G: Gate,
     H: SweepGate,
-    K: Keeps,
->(crew: &Crew<'_, R, G, H>, state: &State<S, B, I>, at: Instant) -> Result<Reports<K>, Fault>
+    K: HistoryMode,
+>(
+    crew: &CollectionCrew<'_, R, G, H>,
+    state: &State<S, B, I>,
+    at: Instant,
+) -> Result<Reports<K>, Fault>
     requires { AreTables state.now.state.records.tables }
     ensures fault { RefusesThreads result (large_fault state.now.state.records) }
     ensures ok { IfOk result (λ report. Plans state.now.state at.0 report) }
@@ -116,6 +120,7 @@ fn plan_rows<R: Threads + Sync>(
         alloc,
         workers: 1,
     };
+    // For the prover: the result is opened, not passed on.
     let plan = plan_of(&team, rows, namespaces, back, &book, &marks, ignored, at)?;
     Ok(plan)
 }
@@ -146,6 +151,7 @@ fn plan_left<R: Threads + Sync>(
     let mut listed = ListedRows::new(alloc, &arrived, leases, records.profile)?;
     row.leave(&mut listed);
     let rows = listed.rows();
+    // For the prover: the result is opened, not passed on.
     let plan = plan_rows(rt, alloc, &rows, namespaces, back, at)?;
     Ok(plan)
 }
@@ -167,6 +173,7 @@ fn plan_alone<R: Threads + Sync>(
     let namespaces = records.tables.count_ns();
     let listed = ListedRows::new(alloc, &arrived, leases, records.profile)?;
     let rows = listed.rows();
+    // For the prover: the result is opened, not passed on.
     let plan = plan_rows(rt, alloc, &rows, namespaces, back, at)?;
     Ok(plan)
 }
@@ -212,6 +219,7 @@ fn dry_removed<R: Threads + Sync>(
     }) at.0 report) }
 {
     row.remove(records);
+    // For the prover: the result is opened, not passed on.
     let report = dry_alone(rt, alloc, records, back, at)?;
     Ok(report)
 }
@@ -284,6 +292,7 @@ pub(crate) fn dry_less<R: Threads + Sync>(
         let report = dry_copied(rt, alloc, records, back, row, at)?;
         return Ok(report);
     }
+    // For the prover: the result is opened, not passed on.
     let report = dry_unlisted(rt, alloc, records, back, row, at)?;
     Ok(report)
 }

@@ -9,7 +9,7 @@ ghost use Rattle.table_sweep.specs.InKeyOrder.{records_in_key_order};
 ghost use Rattle.table_sweep.specs.Stays.{AreMasks, FitRows, StayNumbered, Collection};
 ghost use Rattle.collection.specs.Leaving.{AreOthers, FitOthers, tables_by, leases_by, listed_by};
 
-use crate::removal::Named;
+use crate::removal::RemovedRow;
 use gc_graph::ListedRows;
 use lease_book::Lease;
 use meta_types::{Fault, Name};
@@ -42,19 +42,23 @@ impl Others {
 }
 
 // Takes what is named out of the list, and tells which rows are left in it.
-fn leave_named(alloc: Global, listed: &mut ListedRows<'_>, named: &Named) -> Result<Others, Fault>
+fn leave_named(
+    alloc: Global,
+    listed: &mut ListedRows<'_>,
+    named: &RemovedRow,
+) -> Result<Others, Fault>
     ensures fault { Refuses result None }
     ensures others { IfOk result (AreOthers (Some named.now) listed.old.tables.images
         listed.old.leases) }
     ensures left { IfOk result (λ others. listed.new ≡ listed_by others listed.old) }
 {
     match named {
-        Named::Image(ns, name) => {
+        RemovedRow::Image(ns, name) => {
             let marks = listed.other_images(alloc, ns, name)?;
             listed.leave_image(ns, name);
             Ok(Others::Images(marks))
         }
-        Named::Lease(ns, id) => {
+        RemovedRow::Lease(ns, id) => {
             let marks = listed.other_leases(alloc, ns, id)?;
             listed.leave_lease(ns, id);
             Ok(Others::Leases(marks))
@@ -66,7 +70,7 @@ fn leave_named(alloc: Global, listed: &mut ListedRows<'_>, named: &Named) -> Res
 pub(crate) fn leave(
     alloc: Global,
     listed: &mut ListedRows<'_>,
-    named: Option<&Named>,
+    named: Option<&RemovedRow>,
 ) -> Result<Others, Fault>
     ensures fault { Refuses result None }
     ensures others { IfOk result (AreOthers (option_copied named.entry) listed.old.tables.images
@@ -76,6 +80,7 @@ pub(crate) fn leave(
     match named {
         None => Ok(Others::All),
         Some(named) => {
+            // For the prover: the result is opened, not passed on.
             let others = leave_named(alloc, listed, named)?;
             Ok(others)
         }

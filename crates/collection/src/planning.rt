@@ -15,7 +15,7 @@ ghost use Rattle.table_sweep.specs.BlobMarks.{AreBlobMarks};
 ghost use Rattle.table_sweep.specs.Plans.{IsPlanOfRows};
 ghost use Rattle.backend_sweep.specs.Planned.{IsPlanOf};
 
-use crate::crew::Crew;
+use crate::crew::CollectionCrew;
 use backend_sweep::SweepGate;
 use gc_graph::{ListedRows, StoreRows, build};
 use mark_core::{Graph, Marks, mark_plain};
@@ -39,7 +39,7 @@ pub(crate) fn check(records: &Records) -> Result<(), Fault>
 
 // The marks of the reached numbers. One worker is the calling thread, and needs no deque.
 fn marks_of<R: Threads + Wait + Sync, G: Gate, H: SweepGate>(
-    crew: &Crew<'_, R, G, H>,
+    crew: &CollectionCrew<'_, R, G, H>,
     graph: &Graph,
 ) -> Result<Marks, Fault>
     requires range { IsInRange graph.now }
@@ -53,12 +53,13 @@ fn marks_of<R: Threads + Wait + Sync, G: Gate, H: SweepGate>(
         return Ok(marks);
     }
     let (marks, lists) = mark_workers(crew.rt, alloc, graph, workers, crew.gate)?;
+    // For the prover: dropped by a call, not in place.
     drop(lists);
     Ok(marks)
 }
 
 fn plan_rows<R: Threads + Wait + Sync, G: Gate, H: SweepGate>(
-    crew: &Crew<'_, R, G, H>,
+    crew: &CollectionCrew<'_, R, G, H>,
     rows: &StoreRows<'_>,
     namespaces: u64,
     back: &BackRows<'_>,
@@ -76,19 +77,21 @@ fn plan_rows<R: Threads + Wait + Sync, G: Gate, H: SweepGate>(
     let alloc = crew.alloc;
     let (book, graph, ignored) = build(crew.rt, alloc, rows, at, crew.workers.count)?;
     let marks = marks_of(crew, &graph)?;
+    // For the prover: dropped by a call, not in place.
     drop(graph);
     let team = Team {
         rt: crew.rt,
         alloc,
         workers: crew.workers.count,
     };
+    // For the prover: the result is opened, not passed on.
     let plan = plan_of(&team, rows, namespaces, back, &book, &marks, ignored, at)?;
     Ok(plan)
 }
 
 // The plan of a collection of rows that are listed, in any order.
 pub(crate) fn plan_listed<R: Threads + Wait + Sync, G: Gate, H: SweepGate>(
-    crew: &Crew<'_, R, G, H>,
+    crew: &CollectionCrew<'_, R, G, H>,
     listed: &ListedRows<'_>,
     namespaces: u64,
     back: &BackRows<'_>,
@@ -102,13 +105,14 @@ pub(crate) fn plan_listed<R: Threads + Wait + Sync, G: Gate, H: SweepGate>(
         plan.blobs.items) }
 {
     let rows = listed.rows();
+    // For the prover: the result is opened, not passed on.
     let plan = plan_rows(crew, &rows, namespaces, back, at)?;
     Ok(plan)
 }
 
 /// The plan of a collection of these records and lists at a moment.
 pub fn plan_store<R: Threads + Wait + Sync, G: Gate, H: SweepGate>(
-    crew: &Crew<'_, R, G, H>,
+    crew: &CollectionCrew<'_, R, G, H>,
     records: &Records,
     back: &BackRows<'_>,
     at: Instant,
@@ -125,6 +129,7 @@ pub fn plan_store<R: Threads + Wait + Sync, G: Gate, H: SweepGate>(
     let leases = records.leases.arrived();
     let namespaces = records.tables.count_ns();
     let listed = ListedRows::new(crew.alloc, &arrived, leases, records.profile)?;
+    // For the prover: the result is opened, not passed on.
     let plan = plan_listed(crew, &listed, namespaces, back, at)?;
     Ok(plan)
 }

@@ -13,10 +13,10 @@ ghost use Rattle.meta_types.specs.Changes.{all_of};
 ghost use Rattle.meta_types.specs.Text.{is_short_name, is_name};
 ghost use Rattle.collection.specs.Stores.{records_in};
 
-use crate::arrived::Asked;
+use crate::arrived::CollectionTask;
 use crate::collect_store::collect_checked;
-use crate::crew::Crew;
-use crate::keeps::Keeps;
+use crate::crew::CollectionCrew;
+use crate::history_mode::HistoryMode;
 use crate::reports::Reports;
 use back_model::{BlobBackend, IngestBackend, SnapBackend};
 use backend_sweep::SweepGate;
@@ -29,7 +29,7 @@ use steal_mark::Gate;
 
 /// What is to be removed, its texts read.
 #[derive(Drop)]
-pub(crate) enum Named {
+pub(crate) enum RemovedRow {
     Image(ShortName, Name),
     Lease(ShortName, Name),
 }
@@ -44,33 +44,33 @@ fn read_names(alloc: Global, named: &RawName) -> Result<(ShortName, Name), Fault
     Ok((ns, name))
 }
 
-fn read_removal(alloc: Global, removal: &Removal) -> Result<Named, Fault>
+fn read_removal(alloc: Global, removal: &Removal) -> Result<RemovedRow, Fault>
     ensures { ReadsTexts result (is_readable removal.now) (named_in removal.now) }
 {
     match removal {
         Removal::Image(image) => {
             let (ns, name) = read_names(alloc, image)?;
-            Ok(Named::Image(ns, name))
+            Ok(RemovedRow::Image(ns, name))
         }
         Removal::Lease(lease) => {
             let (ns, id) = read_names(alloc, lease)?;
-            Ok(Named::Lease(ns, id))
+            Ok(RemovedRow::Lease(ns, id))
         }
     }
 }
 
 // Whether the row to be removed isn't there.
-fn is_missing(records: &Records, named: &Named) -> bool
+fn is_missing(records: &Records, named: &RemovedRow) -> bool
     ensures { result ≡ is_missing (records_in records.now) named.now }
 {
     match named {
-        Named::Image(ns, name) => !records.tables.has_image(ns, name),
-        Named::Lease(ns, id) => !records.leases.has(ns, id),
+        RemovedRow::Image(ns, name) => !records.tables.has_image(ns, name),
+        RemovedRow::Lease(ns, id) => !records.leases.has(ns, id),
     }
 }
 
 // The least fault of a removal with a collection, its texts being allowed; never OutOfMemory.
-fn check_removal(records: &Records, named: &Named) -> Result<(), Fault>
+fn check_removal(records: &Records, named: &RemovedRow) -> Result<(), Fault>
     ensures { OnlyRefuses result (least_of false (is_missing (records_in records.now) named.now)
         false (is_too_large (records_in records.now))) }
 {
@@ -92,9 +92,9 @@ pub fn remove_collect<
     I: IngestBackend,
     G: Gate,
     H: SweepGate,
-    K: Keeps,
+    K: HistoryMode,
 >(
-    crew: &Crew<'_, R, G, H>,
+    crew: &CollectionCrew<'_, R, G, H>,
     state: &mut State<S, B, I>,
     removal: &Removal,
     at: Instant,
@@ -112,10 +112,11 @@ pub fn remove_collect<
 {
     let named = read_removal(crew.alloc, removal)?;
     check_removal(state.records(), &named)?;
-    let asked = Asked {
+    let task = CollectionTask {
         at,
         without: Some(&named),
     };
-    let reports = collect_checked(crew, state, &asked)?;
+    // For the prover: the result is opened, not passed on.
+    let reports = collect_checked(crew, state, &task)?;
     Ok(reports)
 }

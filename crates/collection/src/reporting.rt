@@ -4,13 +4,13 @@
 ghost use Rattle.std.specs.Prelude.{◌≡◌, ◌≤◌, [], length, None, IfOk, false};
 ghost use Rattle.std.specs.Vec.{vec_capacity};
 ghost use Rattle.meta_types.specs.Faults.{Refuses};
-ghost use Rattle.backend_sweep.specs.Fated.{AreFatesOf, names_with, was_removed, has_failed, removed_of, failed_of};
+ghost use Rattle.backend_sweep.specs.ObjectOutcomes.{AreOutcomesOf, names_with, was_removed, has_failed, removed_of, failed_of};
 ghost use Rattle.back_model.specs.Answers.{NeverFails};
 ghost use Rattle.collection.specs.Rooms.{IsRoomFor, HasRoomFor, AreRoomsFor, CanTell};
 ghost use Rattle.collection.specs.Whole.{reported};
 
 use back_model::{BlobBackend, IngestBackend, SnapBackend};
-use backend_sweep::{Fate, Fates};
+use backend_sweep::{Outcome, Outcomes};
 use gc_report::{Objects, Report};
 use meta_types::{Digest, Fault, ShortName};
 use std::alloc::Global;
@@ -40,38 +40,43 @@ impl<T: Drop> Room<T> {
     }
 }
 
-// Moves each name into the list of its fate, and drops what was kept.
-fn deal_into<T: Drop>(names: Vec<T>, fates: &[Fate], removed: &mut Vec<T>, failed: &mut Vec<T>)
-    requires fates { length fates.now ≡ length names.items }
+// Moves each name into the list of its outcome, and drops what was kept.
+fn split_into<T: Drop>(
+    names: Vec<T>,
+    outcomes: &[Outcome],
+    removed: &mut Vec<T>,
+    failed: &mut Vec<T>,
+)
+    requires outcomes { length outcomes.now ≡ length names.items }
     requires removed { (removed.old.items ≡ []) × (length names.items ≤ vec_capacity removed.old) }
     requires failed { (failed.old.items ≡ []) × (length names.items ≤ vec_capacity failed.old) }
-    ensures removed { removed.new.items ≡ names_with was_removed names.items fates.now }
-    ensures failed { failed.new.items ≡ names_with has_failed names.items fates.now }
+    ensures removed { removed.new.items ≡ names_with was_removed names.items outcomes.now }
+    ensures failed { failed.new.items ≡ names_with has_failed names.items outcomes.now }
 {
     let mut i = 0;
     for name in names {
-        let fate = fates[i];
+        let outcome = outcomes[i];
         i += 1;
-        match fate {
-            Fate::Removed => removed.push_reserved(name),
-            Fate::Failed => failed.push_reserved(name),
-            Fate::Kept => drop(name),
+        match outcome {
+            Outcome::Removed => removed.push_reserved(name),
+            Outcome::Failed => failed.push_reserved(name),
+            Outcome::Kept => drop(name),
         }
     }
 }
 
 // What was removed of these names, and what failed. It takes no memory.
-fn deal<T: Drop>(names: Vec<T>, fates: &[Fate], room: Room<T>) -> (Vec<T>, Vec<T>)
-    requires fates { length fates.now ≡ length names.items }
+fn split<T: Drop>(names: Vec<T>, outcomes: &[Outcome], room: Room<T>) -> (Vec<T>, Vec<T>)
+    requires outcomes { length outcomes.now ≡ length names.items }
     requires room { IsRoomFor names.items room }
-    ensures removed { result.0.items ≡ names_with was_removed names.items fates.now }
-    ensures failed { result.1.items ≡ names_with has_failed names.items fates.now }
+    ensures removed { result.0.items ≡ names_with was_removed names.items outcomes.now }
+    ensures failed { result.1.items ≡ names_with has_failed names.items outcomes.now }
 {
     let Room {
         mut removed,
         mut failed,
     } = room;
-    deal_into(names, fates, &mut removed, &mut failed);
+    split_into(names, outcomes, &mut removed, &mut failed);
     (removed, failed)
 }
 
@@ -129,11 +134,11 @@ impl Rooms {
 }
 
 // The objects that were removed, and those that failed. It takes no memory.
-fn dealt(names: Objects, fates: &Fates, rooms: Rooms) -> (Objects, Objects)
-    requires fates { AreFatesOf names fates.now }
+fn split_objects(names: Objects, outcomes: &Outcomes, rooms: Rooms) -> (Objects, Objects)
+    requires outcomes { AreOutcomesOf names outcomes.now }
     requires room { HasRoomFor names rooms }
-    ensures removed { result.0 ≡ removed_of names fates.now }
-    ensures failed { result.1 ≡ failed_of names fates.now }
+    ensures removed { result.0 ≡ removed_of names outcomes.now }
+    ensures failed { result.1 ≡ failed_of names outcomes.now }
 {
     let Objects {
         blobs,
@@ -145,9 +150,9 @@ fn dealt(names: Objects, fates: &Fates, rooms: Rooms) -> (Objects, Objects)
         ingests: ingests_room,
         snapshots: snapshots_room,
     } = rooms;
-    let (blobs, failed_blobs) = deal(blobs, &fates.blobs, blobs_room);
-    let (ingests, failed_ingests) = deal(ingests, &fates.ingests, ingests_room);
-    let (snapshots, failed_snapshots) = deal(snapshots, &fates.snapshots, snapshots_room);
+    let (blobs, failed_blobs) = split(blobs, &outcomes.blobs, blobs_room);
+    let (ingests, failed_ingests) = split(ingests, &outcomes.ingests, ingests_room);
+    let (snapshots, failed_snapshots) = split(snapshots, &outcomes.snapshots, snapshots_room);
     let removed = Objects {
         blobs,
         ingests,
@@ -163,26 +168,30 @@ fn dealt(names: Objects, fates: &Fates, rooms: Rooms) -> (Objects, Objects)
 
 // What the plan names went, and nothing failed, where there is no room for names; else they are
 // dealt. It takes no memory.
-fn told(names: Objects, fates: &Fates, rooms: Option<Rooms>) -> (Objects, Objects)
-    requires fates { AreFatesOf names fates.now }
-    requires room { CanTell names fates.now rooms }
-    ensures removed { result.0 ≡ removed_of names fates.now }
-    ensures failed { result.1 ≡ failed_of names fates.now }
+fn removed_and_failed(
+    names: Objects,
+    outcomes: &Outcomes,
+    rooms: Option<Rooms>,
+) -> (Objects, Objects)
+    requires outcomes { AreOutcomesOf names outcomes.now }
+    requires room { CanTell names outcomes.now rooms }
+    ensures removed { result.0 ≡ removed_of names outcomes.now }
+    ensures failed { result.1 ≡ failed_of names outcomes.now }
 {
     let Some(rooms) = rooms else {
         let none = Objects::new(*names.blobs.allocator());
         return (names, none);
     };
-    let (removed, failed) = dealt(names, fates, rooms);
+    let (removed, failed) = split_objects(names, outcomes, rooms);
     (removed, failed)
 }
 
 /// The report of a collection: that of its dry run, with the objects that were removed and those
 /// that failed. It takes no memory.
-pub(crate) fn report(planned: Report, fates: &Fates, rooms: Option<Rooms>) -> Report
-    requires fates { AreFatesOf planned.backend fates.now }
-    requires room { CanTell planned.backend fates.now rooms }
-    ensures { result ≡ reported planned fates.now }
+pub(crate) fn report(planned: Report, outcomes: &Outcomes, rooms: Option<Rooms>) -> Report
+    requires outcomes { AreOutcomesOf planned.backend outcomes.now }
+    requires room { CanTell planned.backend outcomes.now rooms }
+    ensures { result ≡ reported planned outcomes.now }
 {
     let Report {
         backend: names,
@@ -195,7 +204,7 @@ pub(crate) fn report(planned: Report, fates: &Fates, rooms: Option<Rooms>) -> Re
         removed,
         scanned,
     } = planned;
-    let (backend, failed) = told(names, fates, rooms);
+    let (backend, failed) = removed_and_failed(names, outcomes, rooms);
     Report {
         backend,
         dry: false,

@@ -3,7 +3,7 @@ ghost use Rattle.std.specs.Prelude.{◌≡◌, None, IfOk};
 ghost use Rattle.meta_types.specs.Faults.{Refuses};
 ghost use Rattle.collection.specs.Copies.{AreCopies};
 
-use crate::keeps::{Keeps, WithHistory};
+use crate::history_mode::{HistoryMode, WithHistory};
 use gc_report::Report;
 use meta_types::Fault;
 use std::alloc::Global;
@@ -19,17 +19,17 @@ pub struct Copies {
 
 /// The report of a collection. It has copies where a history is kept, and only there.
 #[derive(Drop)]
-pub struct Reports<K: Keeps> {
+pub struct Reports<K: HistoryMode> {
     pub(crate) caller: Report,
     pub(crate) others: Option<Copies>,
-    pub(crate) keeps: PhantomData<K>,
+    pub(crate) mode: PhantomData<K>,
 }
 
-impl<K: Keeps> Model for Reports<K> {
-    ghost use Rattle.meta_types.specs.Reports.{Report as Said};
+impl<K: HistoryMode> Model for Reports<K> {
+    ghost use Rattle.meta_types.specs.Reports.{Report as ReportValue};
     ghost use Rattle.collection.specs.Copies.{AreCopies};
 
-    ghost Value = { Said };
+    ghost Value = { ReportValue };
 
     ghost view = { λ r. r.caller };
 
@@ -37,7 +37,7 @@ impl<K: Keeps> Model for Reports<K> {
 }
 
 // Two copies, where a history is kept.
-fn copies_of<K: Keeps>(alloc: Global, report: &Report) -> Result<Option<Copies>, Fault>
+fn copies_of<K: HistoryMode>(alloc: Global, report: &Report) -> Result<Option<Copies>, Fault>
     ensures fault { Refuses result None }
     ensures ok { IfOk result (AreCopies K.KEPT report.now) }
 {
@@ -49,7 +49,7 @@ fn copies_of<K: Keeps>(alloc: Global, report: &Report) -> Result<Option<Copies>,
     Ok(Some(Copies { log, list }))
 }
 
-impl<K: Keeps> Reports<K> {
+impl<K: HistoryMode> Reports<K> {
     /// The report, with copies where a history is kept.
     pub(crate) fn of(alloc: Global, report: Report) -> Result<Reports<K>, Fault>
         ensures fault { Refuses result None }
@@ -59,7 +59,7 @@ impl<K: Keeps> Reports<K> {
         Ok(Reports {
             caller: report,
             others,
-            keeps: PhantomData,
+            mode: PhantomData,
         })
     }
 
@@ -70,8 +70,9 @@ impl<K: Keeps> Reports<K> {
         let Reports {
             caller,
             others,
-            keeps: _,
+            mode: _,
         } = self;
+        // For the prover: dropped by a call, not in place.
         drop(others);
         caller
     }
@@ -87,7 +88,7 @@ impl Reports<WithHistory> {
         let Reports {
             caller,
             others,
-            keeps: _,
+            mode: _,
         } = self;
         match others {
             Some(copies) => (caller, copies),

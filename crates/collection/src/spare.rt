@@ -1,15 +1,15 @@
 //! Copies of a report, made before anything is removed, where a history is kept.
 ghost use Rattle.std.specs.Prelude.{◌≡◌, None, IfOk};
 ghost use Rattle.meta_types.specs.Faults.{Refuses};
-ghost use Rattle.backend_sweep.specs.Fated.{AreFatesOf};
+ghost use Rattle.backend_sweep.specs.ObjectOutcomes.{AreOutcomesOf};
 ghost use Rattle.collection.specs.Copies.{IsSpare, AreSpare, CanFill, AreCopies};
 ghost use Rattle.collection.specs.Rooms.{AreRoomsFor, CanTell};
 ghost use Rattle.collection.specs.Whole.{reported};
 
-use crate::keeps::Keeps;
+use crate::history_mode::HistoryMode;
 use crate::reporting::{Rooms, report, rooms_of};
 use crate::reports::{Copies, Reports};
-use backend_sweep::Fates;
+use backend_sweep::Outcomes;
 use gc_report::Report;
 use meta_types::Fault;
 use std::alloc::Global;
@@ -17,51 +17,51 @@ use std::marker::PhantomData;
 use std::mem::drop;
 use table_sweep::Plan;
 
-/// A copy of the plan's report, with room for the fates where a device may fail.
+/// A copy of the plan's report, with room for the outcomes where a device may fail.
 #[derive(Drop)]
-pub(crate) struct Spare {
+pub(crate) struct SpareReport {
     pub(crate) report: Report,
     pub(crate) rooms: Option<Rooms>,
 }
 
-impl Spare {
-    fn of(alloc: Global, plan: &Plan, may_fail: bool) -> Result<Spare, Fault>
+impl SpareReport {
+    fn of(alloc: Global, plan: &Plan, may_fail: bool) -> Result<SpareReport, Fault>
         ensures fault { Refuses result None }
         ensures ok { IfOk result (IsSpare may_fail plan.now.report) }
     {
         let rooms = rooms_of(alloc, plan, may_fail)?;
         let report = plan.report.copy(alloc)?;
-        Ok(Spare { report, rooms })
+        Ok(SpareReport { report, rooms })
     }
 
     // The report of what was swept. It takes no memory.
-    fn swept(self, fates: &Fates) -> Report
-        requires of { AreFatesOf self.report.backend fates.now }
-        requires room { CanTell self.report.backend fates.now self.rooms }
-        ensures { result ≡ reported self.report fates.now }
+    fn swept(self, outcomes: &Outcomes) -> Report
+        requires of { AreOutcomesOf self.report.backend outcomes.now }
+        requires room { CanTell self.report.backend outcomes.now self.rooms }
+        ensures { result ≡ reported self.report outcomes.now }
     {
-        let Spare {
+        let SpareReport {
             report: planned,
             rooms,
         } = self;
-        report(planned, fates, rooms)
+        report(planned, outcomes, rooms)
     }
 }
 
 // Two of them, for log and session, where a history is kept.
-fn spares_of<K: Keeps>(
+fn spares_of<K: HistoryMode>(
     alloc: Global,
     plan: &Plan,
     may_fail: bool,
-) -> Result<Option<(Spare, Spare)>, Fault>
+) -> Result<Option<(SpareReport, SpareReport)>, Fault>
     ensures fault { Refuses result None }
     ensures ok { IfOk result (AreSpare K.KEPT may_fail plan.now.report) }
 {
     if !K::KEPT {
         return Ok(None);
     }
-    let log = Spare::of(alloc, plan, may_fail)?;
-    let list = Spare::of(alloc, plan, may_fail)?;
+    let log = SpareReport::of(alloc, plan, may_fail)?;
+    let list = SpareReport::of(alloc, plan, may_fail)?;
     Ok(Some((log, list)))
 }
 
@@ -69,12 +69,16 @@ fn spares_of<K: Keeps>(
 #[derive(Drop)]
 pub(crate) struct Ready {
     pub(crate) rooms: Option<Rooms>,
-    pub(crate) spares: Option<(Spare, Spare)>,
+    pub(crate) spares: Option<(SpareReport, SpareReport)>,
 }
 
 impl Ready {
     /// For what the plan names.
-    pub(crate) fn of<K: Keeps>(alloc: Global, plan: &Plan, may_fail: bool) -> Result<Ready, Fault>
+    pub(crate) fn of<K: HistoryMode>(
+        alloc: Global,
+        plan: &Plan,
+        may_fail: bool,
+    ) -> Result<Ready, Fault>
         ensures fault { Refuses result None }
         ensures rooms { IfOk result (λ ready. AreRoomsFor may_fail plan.now.report.backend
             ready.rooms) }
@@ -85,6 +89,7 @@ impl Ready {
         match spares_of::<K>(alloc, plan, may_fail) {
             Ok(spares) => Ok(Ready { rooms, spares }),
             Err(fault) => {
+                // For the prover: dropped by a call, not in place.
                 drop(rooms);
                 Err(fault)
             }
@@ -92,50 +97,50 @@ impl Ready {
     }
 }
 
-// Fills each copy by the fates. It takes no memory.
-fn filled<K: Keeps>(
+// Fills each copy by the outcomes. It takes no memory.
+fn filled<K: HistoryMode>(
     planned: &Report,
-    fates: &Fates,
-    spares: Option<(Spare, Spare)>,
+    outcomes: &Outcomes,
+    spares: Option<(SpareReport, SpareReport)>,
 ) -> Option<Copies>
-    requires of { AreFatesOf planned.now.backend fates.now }
-    requires spares { CanFill K.KEPT planned.now fates.now spares }
-    ensures { AreCopies K.KEPT (reported planned.now fates.now) result }
+    requires of { AreOutcomesOf planned.now.backend outcomes.now }
+    requires spares { CanFill K.KEPT planned.now outcomes.now spares }
+    ensures { AreCopies K.KEPT (reported planned.now outcomes.now) result }
 {
     let Some((log, list)) = spares else {
         return None;
     };
-    let log = log.swept(fates);
-    let list = list.swept(fates);
+    let log = log.swept(outcomes);
+    let list = list.swept(outcomes);
     Some(Copies { log, list })
 }
 
 // The report of what was swept, and its copies. It takes no memory.
-fn with_copies<K: Keeps>(
+fn with_copies<K: HistoryMode>(
     planned: Report,
-    fates: &Fates,
+    outcomes: &Outcomes,
     rooms: Option<Rooms>,
-    spares: Option<(Spare, Spare)>,
+    spares: Option<(SpareReport, SpareReport)>,
 ) -> Reports<K>
-    requires of { AreFatesOf planned.backend fates.now }
-    requires room { CanTell planned.backend fates.now rooms }
-    requires spares { CanFill K.KEPT planned fates.now spares }
-    ensures { result ≡ reported planned fates.now }
+    requires of { AreOutcomesOf planned.backend outcomes.now }
+    requires room { CanTell planned.backend outcomes.now rooms }
+    requires spares { CanFill K.KEPT planned outcomes.now spares }
+    ensures { result ≡ reported planned outcomes.now }
 {
-    let others = filled::<K>(&planned, fates, spares);
+    let others = filled::<K>(&planned, outcomes, spares);
     Reports {
-        caller: report(planned, fates, rooms),
+        caller: report(planned, outcomes, rooms),
         others,
-        keeps: PhantomData,
+        mode: PhantomData,
     }
 }
 
 /// The report of a plan that was swept, and its copies. It takes no memory.
-pub(crate) fn reports_of<K: Keeps>(plan: Plan, fates: Fates, ready: Ready) -> Reports<K>
-    requires of { AreFatesOf plan.report.backend fates }
-    requires room { CanTell plan.report.backend fates ready.rooms }
-    requires spares { CanFill K.KEPT plan.report fates ready.spares }
-    ensures { result ≡ reported plan.report fates }
+pub(crate) fn reports_of<K: HistoryMode>(plan: Plan, outcomes: Outcomes, ready: Ready) -> Reports<K>
+    requires of { AreOutcomesOf plan.report.backend outcomes }
+    requires room { CanTell plan.report.backend outcomes ready.rooms }
+    requires spares { CanFill K.KEPT plan.report outcomes ready.spares }
+    ensures { result ≡ reported plan.report outcomes }
 {
     let Plan {
         masks: _,
@@ -143,5 +148,5 @@ pub(crate) fn reports_of<K: Keeps>(plan: Plan, fates: Fates, ready: Ready) -> Re
         report,
     } = plan;
     let Ready { rooms, spares } = ready;
-    with_copies(report, &fates, rooms, spares)
+    with_copies(report, &outcomes, rooms, spares)
 }

@@ -8,7 +8,7 @@ use Rattle.meta_types.specs.Paths.{Thing}
 use Rattle.meta_types.specs.Walks.{end_of}
 use Rattle.mark_core.specs.declared.graph.Graph.{Graph}
 use Rattle.explaining.specs.Searched.{IsSearched}
-use Rattle.explaining.specs.Found.{numbered, thing_at}
+use Rattle.explaining.specs.ThingRows.{numbered, thing_at}
 use Rattle.explaining.specs.Firsts.{chain, listed, first_leading, root_before}
 use Rattle.explaining.specs.ShortestPaths.{IsFirstTo}
 use Rattle.explaining.proofs.FirstPaths.{first_alone, first_to}

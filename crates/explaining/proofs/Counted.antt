@@ -19,7 +19,7 @@ use Rattle.gc_graph.specs.Built.{targets_in, root_places, IsBuilt}
 use Rattle.gc_graph.proofs.References.{name_of}
 use Rattle.gc_graph.proofs.Things.{nodes_are}
 use Rattle.explaining.specs.Explained.{IsSplitGraphOf}
-use Rattle.explaining.specs.Found.{numbered}
+use Rattle.explaining.specs.ThingRows.{numbered}
 use Rattle.explaining.specs.Searched.{HasGraph, IsSearched}
 use Rattle.explaining.proofs.WalkPaths.{start_ends}
 

@@ -9,7 +9,7 @@ use Rattle.meta_types.specs.Explanations.{goes_before, Explains}
 use Rattle.mark_core.specs.declared.graph.Graph.{Graph}
 use Rattle.gc_graph.specs.Targets.{root_things}
 use Rattle.gc_graph.proofs.Things.{HasNone, with_nodes, without_nodes, is_root_thing, split_thing}
-use Rattle.explaining.specs.Found.{numbered, no_thing, thing_at}
+use Rattle.explaining.specs.ThingRows.{numbered, no_thing, thing_at}
 use Rattle.explaining.specs.Searched.{IsSearched}
 use Rattle.explaining.specs.Firsts.{number_before}
 use Rattle.explaining.specs.Ends.{depth_before, nearer, is_end, nearest_below, is_asked_root, first_root}

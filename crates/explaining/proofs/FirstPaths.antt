@@ -22,7 +22,7 @@ use Rattle.gc_graph.proofs.Walks.{targets_at, edge_number, number_edge, at_place
 use Rattle.mark_core.specs.Nearest.{IsDepth}
 use Rattle.mark_core.specs.Firsts.{leads, is_step}
 use Rattle.explaining.specs.Explained.{IsSplitGraphOf}
-use Rattle.explaining.specs.Found.{numbered, no_thing, thing_at}
+use Rattle.explaining.specs.ThingRows.{numbered, no_thing, thing_at}
 use Rattle.explaining.specs.Searched.{IsSearched}
 use Rattle.explaining.specs.ShortestPaths.{IsFirstTo}
 use Rattle.explaining.specs.Firsts.{is_holder, holder_of, number_before, first_leading, chain, or_else, listed, root_before}

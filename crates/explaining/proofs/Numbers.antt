@@ -9,7 +9,7 @@ use Rattle.meta_types.specs.declared.rows.IngestRow.{IngestRow}
 use Rattle.meta_types.specs.declared.rows.SnapRow.{SnapRow}
 use Rattle.gc_graph.specs.declared.rows.StoreRows.{StoreRows}
 use Rattle.gc_graph.specs.Stored.{records_of}
-use Rattle.explaining.specs.Found.{numbered, no_thing, thing_at}
+use Rattle.explaining.specs.ThingRows.{numbered, no_thing, thing_at}
 
 -- the i-th of a list that stands first
 pub in_first : {Row : Type 0} (thing : Row → Thing) (rows : List Row) (rest : List Thing) (i : ℕ)

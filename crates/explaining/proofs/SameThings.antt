@@ -16,7 +16,7 @@ use Rattle.meta_types.specs.declared.explanation.PathStep.{PathStep}
 use Rattle.row_tables.specs.Arrived.{sorted}
 use Rattle.row_tables.proofs.KeysOnce.{same_members}
 use Rattle.row_tables.proofs.Arrivals.{length_sorted}
-use Rattle.explaining.specs.Asked.{AreInOrder}
+use Rattle.explaining.specs.RowLists.{AreInOrder}
 
 path_as : (a b : Records) (at : ℤ) → a.profile ≡ b.profile → ((t : Thing) → Contains (things a) t → Contains (things b) t) → (last : Thing) (path : List Thing) → IsPath a at last path → IsPath b at last path
 path_as a b at p same last [] h = (same last h.0, subst (λ (n : ℕ). IsTrue (is_root n at last)) p h.1)

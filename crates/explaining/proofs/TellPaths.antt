@@ -11,8 +11,8 @@ use Rattle.meta_types.specs.Explanations.{Explains, AreTold, step_of, ExplainsLa
 use Rattle.meta_types.specs.declared.explanation.By.{By}
 use Rattle.meta_types.specs.declared.explanation.By.TheVariants.{Root, Ended}
 use Rattle.meta_types.specs.declared.explanation.PathStep.{PathStep}
-use Rattle.explaining.specs.declared.found.Found.{Found}
-use Rattle.explaining.specs.Found.{thing_of}
+use Rattle.explaining.specs.declared.thing_row.ThingRow.{ThingRow}
+use Rattle.explaining.specs.ThingRows.{thing_of}
 use Rattle.explaining.specs.StepWords.{AreLinked, IsBy}
 use Rattle.explaining.proofs.ReasonEdges.{reason_edge}
 
@@ -85,13 +85,15 @@ none_explains_it records at asked (x ∷ xs) none e = absurd (omega arith)
 
 -- ---- places of found things
 
-pub found_at : (path : List Found) (i : ℕ) (x : Found) (d : Thing) → i < length path → x ≡ get_or path i x → get_or (map thing_of path) i d ≡ thing_of x
+pub found_at : (path : List ThingRow) (i : ℕ) (x : ThingRow) (d : Thing) → i < length path
+    → x ≡ get_or path i x → get_or (map thing_of path) i d ≡ thing_of x
 found_at path i x d lt is = get_or-map thing_of path i x d lt ∙ ap thing_of (sym is)
 
 pub below_next : (i n : ℕ) → i < n → (i + 1 ≡ n → ⊥) → i + 1 < n
 below_next i n lt other = omega arith
 
-module _ (path : List Found) (i : ℕ) (behind here : Found) (lt : i + 1 < length path) (is_behind : behind ≡ get_or path (i + 1) behind) (is_here : here ≡ get_or path i here) where
+module _ (path : List ThingRow) (i : ℕ) (behind here : ThingRow) (lt : i + 1 < length path)
+    (is_behind : behind ≡ get_or path (i + 1) behind) (is_here : here ≡ get_or path i here) where
   behind_is : get_or (map thing_of path) (suc i) (thing_of here) ≡ thing_of behind
   behind_is = ap (λ k. get_or (map thing_of path) k (thing_of here)) (next i) ∙ found_at path (i + 1) behind (thing_of here) lt is_behind
     where
@@ -114,11 +116,13 @@ module _ (path : List Found) (i : ℕ) (behind here : Found) (lt : i + 1 < lengt
   pub told_by : (word by : By) → reason_of (thing_of behind) (thing_of here) ≡ Some by → IsBy word (drop i (map thing_of path)) by
   told_by word by e = by_reason word by (map thing_of path) i (thing_of here) within ((λ j. reason_of (behind_is j) (here_is j)) ∙ e)
 
-pub root_by : (word by : By) (path : List Found) (i : ℕ) → i + 1 ≡ length path → by ≡ word → IsBy word (drop i (map thing_of path)) by
+pub root_by : (word by : By) (path : List ThingRow) (i : ℕ) → i + 1 ≡ length path → by ≡ word
+    → IsBy word (drop i (map thing_of path)) by
 root_by word by path i e h = subst (IsBy word (drop i (map thing_of path))) (sym h) (by_root word (map thing_of path) i (let long = length-map path thing_of in omega arith))
 
 -- a step more
-pub told_round : (profile : ℕ) (word by : By) (path : List Found) (done place : ℕ) (x : Found) (steps after : List PathStep) (step : PathStep)
+pub told_round : (profile : ℕ) (word by : By) (path : List ThingRow) (done place : ℕ) (x : ThingRow)
+    (steps after : List PathStep) (step : PathStep)
     → done < length path → place ≡ length path - 1 - done → x ≡ get_or path place x → IsBy word (drop place (map thing_of path)) by
     → step ≡ step_of profile by (thing_of x) → after ≡ steps ++ step ∷ []
     → AreTold profile word (drop (length path - done) (map thing_of path)) steps
@@ -137,13 +141,14 @@ told_round profile word by path done place x steps after step lt is_place is_x h
 
 -- ---- no thing
 
-pub none_there : (path : List Found) → (length path == 0) ≡ true → length (map thing_of path) ≡ 0
+pub none_there : (path : List ThingRow) → (length path == 0) ≡ true → length (map thing_of path) ≡ 0
 none_there path h = length-map path thing_of ∙ none (length path) h
   where
     none : (n : ℕ) → (n == 0) ≡ true → n ≡ 0
     none n e = grind (arith, nat_tests)
 
-pub some_there : (path : List Found) → (length path == 0) ≡ false → length (map thing_of path) ≡ 0 → ⊥
+pub some_there : (path : List ThingRow) → (length path == 0) ≡ false → length (map thing_of path)
+    ≡ 0 → ⊥
 some_there path h e = both_ways (length path == 0) h (test (length path) (sym (length-map path thing_of) ∙ e))
   where
     test : (n : ℕ) → n ≡ 0 → (n == 0) ≡ true

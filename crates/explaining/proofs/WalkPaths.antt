@@ -67,7 +67,7 @@ module _ (records : Records) (at : ℤ) (book : List Node) (graph : Graph) (own 
 
   target_ends : (a b cost : ℕ) → IsEnd a cost → Contains (targets graph a) b → IsEnd b (cost + 1)
   target_ends a b cost end c =
-      let any : Thing = ingest (record { ns = []; name = []; expected = None; expires = None; number = 0 }) in
+      let any : Thing = ingest (record { ns = []; name = []; expected = None; expires = None; number = 0; extra = [] }) in
       let edge = λ (d : Thing). number_edge records s.built book graph s.numbered s.once s.graph_of (get_or numbered_things a d) b (subst (λ (l : List ℕ). Contains l b) (targets_at records s.built book graph s.numbered s.once s.graph_of a d end.0) c) in
       ((edge any).0, λ d. let p = end.1 d in (get_or numbered_things a d ∷ p.0, (at_place records s.built book graph s.numbered s.once s.graph_of b d (edge any).0, (edge d).1 d, p.1), (let l = p.2 in omega arith)))
 

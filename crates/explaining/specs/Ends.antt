@@ -4,7 +4,7 @@ use Rattle.meta_types.specs.Rows.{Records}
 use Rattle.meta_types.specs.Paths.{Thing, is_root}
 use Rattle.meta_types.specs.Explanations.{goes_before}
 use Rattle.gc_graph.specs.Targets.{root_things}
-use Rattle.explaining.specs.Found.{thing_at}
+use Rattle.explaining.specs.ThingRows.{thing_at}
 use Rattle.explaining.specs.Firsts.{chosen, number_before}
 
 -- of two depths the less goes first, and none goes last; of equals the rest says

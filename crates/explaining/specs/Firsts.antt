@@ -8,7 +8,7 @@ use Rattle.meta_types.specs.Explanations.{goes_before}
 use Rattle.mark_core.specs.declared.graph.Graph.{Graph}
 use Rattle.gc_graph.specs.Targets.{root_things}
 use Rattle.mark_core.specs.Firsts.{leads}
-use Rattle.explaining.specs.Found.{thing_at}
+use Rattle.explaining.specs.ThingRows.{thing_at}
 
 abbrev pub or_else : {X : Type 0} → Option X → Option X → Option X
 or_else None other = other

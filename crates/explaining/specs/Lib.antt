@@ -1,10 +1,10 @@
 pub mod Explained
-pub mod Found
+pub mod ThingRows
 pub mod Reasons
 pub mod Firsts
 pub mod ShortestPaths
 pub mod Ends
-pub mod Asked
+pub mod RowLists
 pub mod StepWords
 pub mod Questions
 pub mod Searched

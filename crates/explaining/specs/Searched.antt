@@ -6,7 +6,7 @@ use Rattle.mark_core.specs.Reach.{IsInRange, node_count}
 use Rattle.mark_core.specs.Nearest.{IsDepth}
 use Rattle.gc_graph.specs.declared.node.Node.{Node}
 use Rattle.gc_graph.specs.Built.{IsBuilt}
-use Rattle.explaining.specs.Found.{numbered}
+use Rattle.explaining.specs.ThingRows.{numbered}
 use Rattle.explaining.specs.Explained.{IsSplitGraphOf}
 
 -- the records, the moment, and how far each number is then from where paths begin

@@ -6,7 +6,7 @@ ghost use Rattle.meta_types.specs.Limits.{is_too_large};
 ghost use Rattle.meta_types.specs.Paths.{things};
 ghost use Rattle.meta_types.specs.Explanations.{is_asked, explain_fault, IsExplanation};
 ghost use Rattle.meta_types.specs.declared.object.Object.TheVariants.{Held};
-ghost use Rattle.explaining.specs.Asked.{records_in, AreInOrder};
+ghost use Rattle.explaining.specs.RowLists.{records_in, AreInOrder};
 
 use crate::asked::Question;
 use crate::explain_rows::explain_rows;
@@ -52,6 +52,7 @@ fn list_rows(alloc: Global, records: &Records) -> Result<ListedRows<'_>, Fault>
 {
     let arrived = records.tables.arrived();
     let leases = records.leases.arrived();
+    // For the prover: the result is opened, not passed on.
     let listed = ListedRows::new(alloc, &arrived, leases, records.profile)?;
     Ok(listed)
 }
@@ -80,6 +81,7 @@ pub fn explain<R: Threads + Sync>(
     let listed = list_rows(alloc, records)?;
     let rows = listed.rows();
     let question = Question { ns, object };
+    // For the prover: the result is opened, not passed on.
     let explanation = explain_rows(rt, alloc, &rows, question, at)?;
     Ok(explanation)
 }

@@ -5,7 +5,7 @@ ghost use Rattle.meta_types.specs.Limits.{is_too_large};
 ghost use Rattle.meta_types.specs.Explanations.{Explains, ExplainsLast, IsExplanation};
 ghost use Rattle.gc_graph.specs.Built.{AreApart};
 ghost use Rattle.gc_graph.specs.Stored.{records_of, IsSmall, AreLent};
-ghost use Rattle.explaining.specs.Found.{thing_of};
+ghost use Rattle.explaining.specs.ThingRows.{thing_of};
 ghost use Rattle.explaining.specs.LastPaths.{AreRising, IsLastOf};
 ghost use Rattle.explaining.specs.Questions.{asked_by};
 ghost use Rattle.explaining.specs.Searched.{HasGraph};
@@ -14,10 +14,10 @@ mod ends;
 
 use crate::asked::Question;
 use crate::explain_rows::ends::past_ends;
-use crate::found::Found;
 use crate::path_search::PathSearch;
 use crate::roots::first_root;
 use crate::telling::steps_of;
+use crate::thing_row::ThingRow;
 use gc_graph::{NodeBook, StoreRows, build};
 use mark_core::Graph;
 use meta_types::{Explanation, Fault, Instant};
@@ -33,7 +33,7 @@ fn first_path<'a>(
     graph: &Graph,
     question: Question<'_>,
     at: Instant,
-) -> Result<Vec<Found<'a>>, Fault>
+) -> Result<Vec<ThingRow<'a>>, Fault>
     requires graph { HasGraph (records_of rows.now) book.now graph.now }
     requires small { IsSmall rows.now }
     ensures fault { Refuses result None }
@@ -46,6 +46,7 @@ fn first_path<'a>(
         return Ok(path);
     }
     let searched = PathSearch::new(alloc, rows, book, graph, at)?;
+    // For the prover: the result is opened, not passed on.
     let path = searched.path(alloc, question)?;
     Ok(path)
 }
@@ -59,7 +60,7 @@ fn last_path<'a>(
     graph: &Graph,
     question: Question<'_>,
     ends: &[i128],
-) -> Result<Vec<Found<'a>>, Fault>
+) -> Result<Vec<ThingRow<'a>>, Fault>
     requires graph { HasGraph (records_of rows.now) book.now graph.now }
     requires small { IsSmall rows.now }
     requires order { AreRising ends.now }
@@ -91,7 +92,7 @@ fn ended_path<'a>(
     graph: &Graph,
     question: Question<'_>,
     at: Instant,
-) -> Result<Vec<Found<'a>>, Fault>
+) -> Result<Vec<ThingRow<'a>>, Fault>
     requires graph { HasGraph (records_of rows.now) book.now graph.now }
     requires small { IsSmall rows.now }
     requires none { Explains (records_of rows.now) at.0 (asked_by question) [] }
@@ -100,11 +101,12 @@ fn ended_path<'a>(
         (asked_by question.entry) (map thing_of path.items)) }
 {
     let ends = past_ends(alloc, rows, at)?;
+    // For the prover: the result is opened, not passed on.
     let path = last_path(alloc, rows, book, graph, question, &ends)?;
     Ok(path)
 }
 
-fn has_none(path: &Vec<Found<'_>>) -> bool
+fn has_none(path: &Vec<ThingRow<'_>>) -> bool
     ensures { result ≡ (length path.now.items == 0) }
 {
     path.is_empty()

@@ -5,7 +5,7 @@ ghost use Rattle.meta_types.specs.Faults.{Refuses};
 ghost use Rattle.mark_core.specs.Reach.{IsInRange, node_count};
 ghost use Rattle.gc_graph.specs.Stored.{records_of};
 ghost use Rattle.mark_core.specs.Firsts.{is_step, leads};
-ghost use Rattle.explaining.specs.Found.{numbered};
+ghost use Rattle.explaining.specs.ThingRows.{numbered};
 ghost use Rattle.explaining.specs.Firsts.{chosen, number_before, first_leading, AreWithin};
 
 use crate::order::goes_before;

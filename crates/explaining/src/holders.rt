@@ -5,17 +5,17 @@ ghost use Rattle.meta_types.specs.Paths.{image, container, lease};
 ghost use Rattle.meta_types.specs.Reasons.{reason_of};
 ghost use Rattle.meta_types.specs.Explanations.{goes_before};
 ghost use Rattle.gc_graph.specs.Stored.{records_of};
-ghost use Rattle.explaining.specs.Found.{thing_of};
+ghost use Rattle.explaining.specs.ThingRows.{thing_of};
 ghost use Rattle.explaining.specs.Firsts.{chosen, holder_among, holder_of};
 
-use crate::found::Found;
 use crate::order::goes_before;
 use crate::reasons::reason;
+use crate::thing_row::ThingRow;
 use gc_graph::{StoreRows, image_stays, lease_stays};
 use meta_types::{Fault, Instant};
 use std::alloc::Global;
 
-fn references(alloc: Global, from: Found<'_>, to: Found<'_>) -> Result<bool, Fault>
+fn references(alloc: Global, from: ThingRow<'_>, to: ThingRow<'_>) -> Result<bool, Fault>
     ensures fault { Refuses result None }
     ensures ok { IfOk result (λ b. b ≡ is_some (reason_of (thing_of from.entry) (thing_of to.entry))) }
 {
@@ -23,7 +23,11 @@ fn references(alloc: Global, from: Found<'_>, to: Found<'_>) -> Result<bool, Fau
 }
 
 // Of two things the one that goes first, where the new one fits.
-pub(crate) fn chosen<'a>(fits: bool, new: Found<'a>, best: Option<Found<'a>>) -> Option<Found<'a>>
+pub(crate) fn chosen<'a>(
+    fits: bool,
+    new: ThingRow<'a>,
+    best: Option<ThingRow<'a>>,
+) -> Option<ThingRow<'a>>
     ensures { option_map thing_of result
         ≡ chosen goes_before fits (thing_of new.entry) (option_map thing_of best.entry) }
 {
@@ -39,7 +43,12 @@ pub(crate) fn chosen<'a>(fits: bool, new: Found<'a>, best: Option<Found<'a>>) ->
     }
 }
 
-fn holds(alloc: Global, is_root: bool, thing: Found<'_>, held: Found<'_>) -> Result<bool, Fault>
+fn holds(
+    alloc: Global,
+    is_root: bool,
+    thing: ThingRow<'_>,
+    held: ThingRow<'_>,
+) -> Result<bool, Fault>
     ensures fault { Refuses result None }
     ensures ok { IfOk result (λ b. b
         ≡ (is_root && is_some (reason_of (thing_of thing.entry) (thing_of held.entry)))) }
@@ -55,9 +64,9 @@ fn first_image<'a>(
     alloc: Global,
     rows: &StoreRows<'a>,
     at: Instant,
-    held: Found<'_>,
-    best: Option<Found<'a>>,
-) -> Result<Option<Found<'a>>, Fault>
+    held: ThingRow<'_>,
+    best: Option<ThingRow<'a>>,
+) -> Result<Option<ThingRow<'a>>, Fault>
     ensures fault { Refuses result None }
     ensures ok { IfOk result (λ found. option_map thing_of found
         ≡ holder_among rows.now.profile at.0 (thing_of held.entry) (option_map thing_of best.entry)
@@ -68,10 +77,10 @@ fn first_image<'a>(
         let fits = holds(
             alloc,
             image_stays(row, rows.profile, at),
-            Found::Image(*row),
+            ThingRow::Image(*row),
             held,
         )?;
-        first = chosen(fits, Found::Image(*row), first);
+        first = chosen(fits, ThingRow::Image(*row), first);
     }
     Ok(first)
 }
@@ -80,9 +89,9 @@ fn first_container<'a>(
     alloc: Global,
     rows: &StoreRows<'a>,
     at: Instant,
-    held: Found<'_>,
-    best: Option<Found<'a>>,
-) -> Result<Option<Found<'a>>, Fault>
+    held: ThingRow<'_>,
+    best: Option<ThingRow<'a>>,
+) -> Result<Option<ThingRow<'a>>, Fault>
     ensures fault { Refuses result None }
     ensures ok { IfOk result (λ found. option_map thing_of found
         ≡ holder_among rows.now.profile at.0 (thing_of held.entry) (option_map thing_of best.entry)
@@ -92,8 +101,8 @@ fn first_container<'a>(
     let _at = at;
     let mut first = best;
     for row in rows.containers {
-        let fits = holds(alloc, true, Found::Container(*row), held)?;
-        first = chosen(fits, Found::Container(*row), first);
+        let fits = holds(alloc, true, ThingRow::Container(*row), held)?;
+        first = chosen(fits, ThingRow::Container(*row), first);
     }
     Ok(first)
 }
@@ -102,9 +111,9 @@ fn first_lease<'a>(
     alloc: Global,
     rows: &StoreRows<'a>,
     at: Instant,
-    held: Found<'_>,
-    best: Option<Found<'a>>,
-) -> Result<Option<Found<'a>>, Fault>
+    held: ThingRow<'_>,
+    best: Option<ThingRow<'a>>,
+) -> Result<Option<ThingRow<'a>>, Fault>
     ensures fault { Refuses result None }
     ensures ok { IfOk result (λ found. option_map thing_of found
         ≡ holder_among rows.now.profile at.0 (thing_of held.entry) (option_map thing_of best.entry)
@@ -112,8 +121,8 @@ fn first_lease<'a>(
 {
     let mut first = best;
     for row in rows.leases {
-        let fits = holds(alloc, lease_stays(row, at), Found::Lease(*row), held)?;
-        first = chosen(fits, Found::Lease(*row), first);
+        let fits = holds(alloc, lease_stays(row, at), ThingRow::Lease(*row), held)?;
+        first = chosen(fits, ThingRow::Lease(*row), first);
     }
     Ok(first)
 }
@@ -123,14 +132,15 @@ pub(crate) fn holder_of<'a>(
     alloc: Global,
     rows: &StoreRows<'a>,
     at: Instant,
-    held: Found<'_>,
-) -> Result<Option<Found<'a>>, Fault>
+    held: ThingRow<'_>,
+) -> Result<Option<ThingRow<'a>>, Fault>
     ensures fault { Refuses result None }
     ensures ok { IfOk result (λ found. option_map thing_of found
         ≡ holder_of (records_of rows.now) at.0 (thing_of held.entry)) }
 {
     let images = first_image(alloc, rows, at, held, None)?;
     let both = first_container(alloc, rows, at, held, images)?;
+    // For the prover: the result is opened, not passed on.
     let all = first_lease(alloc, rows, at, held, both)?;
     Ok(all)
 }

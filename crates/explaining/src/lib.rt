@@ -5,7 +5,6 @@ mod answer;
 mod asked;
 mod explain_rows;
 mod firsts;
-mod found;
 mod holders;
 pub mod laws;
 mod nearest;
@@ -14,6 +13,7 @@ mod path_search;
 mod reasons;
 mod roots;
 mod telling;
+mod thing_row;
 mod things;
 
 pub use answer::explain;

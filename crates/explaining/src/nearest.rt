@@ -1,7 +1,7 @@
 //! Of all numbers that are asked for, the one that a shortest path leads to.
 ghost use Rattle.std.specs.Prelude.{◌≡◌, ◌<◌, ◌&&◌, ℕ, length, get_or, Some, None, IfSome, is_some};
 ghost use Rattle.gc_graph.specs.Stored.{records_of};
-ghost use Rattle.explaining.specs.Found.{thing_of, numbered, thing_at};
+ghost use Rattle.explaining.specs.ThingRows.{thing_of, numbered, thing_at};
 ghost use Rattle.explaining.specs.Firsts.{chosen, number_before};
 ghost use Rattle.explaining.specs.Ends.{depth_before, nearer, is_end, nearest_below};
 ghost use Rattle.explaining.specs.Questions.{asked_by};

@@ -2,50 +2,50 @@
 ghost use Rattle.std.specs.Prelude.{◌≡◌, ◌∷◌, []};
 ghost use Rattle.meta_types.specs.Keys.{Key, is_before};
 ghost use Rattle.meta_types.specs.Explanations.{kind_place, group_of, name_of, mode_place, goes_before};
-ghost use Rattle.explaining.specs.Found.{thing_of};
+ghost use Rattle.explaining.specs.ThingRows.{thing_of};
 
-use crate::found::{Found, namespace_of};
+use crate::thing_row::{ThingRow, namespace_of};
 use meta_types::{Digest, Mode};
 use std::cmp::Ordering;
 
-fn kind_place(thing: Found<'_>) -> u8
+fn kind_place(thing: ThingRow<'_>) -> u8
     ensures { result ≡ kind_place (thing_of thing.entry) }
 {
     match thing {
-        Found::Image(_) => 0,
-        Found::Container(_) => 1,
-        Found::Lease(_) => 2,
-        Found::Ingest(_) => 3,
-        Found::Content(_, _) => 4,
-        Found::Snapshot(_, _) => 5,
+        ThingRow::Image(_) => 0,
+        ThingRow::Container(_) => 1,
+        ThingRow::Lease(_) => 2,
+        ThingRow::Ingest(_) => 3,
+        ThingRow::Content(_, _) => 4,
+        ThingRow::Snapshot(_, _) => 5,
     }
 }
 
-fn group_of<'a>(thing: Found<'a>) -> &'a str
+fn group_of<'a>(thing: ThingRow<'a>) -> &'a str
     ensures { result.now ≡ group_of (thing_of thing.entry) }
 {
     match thing {
-        Found::Image(_) => "",
-        Found::Container(_) => "",
-        Found::Lease(_) => "",
-        Found::Ingest(_) => "",
-        Found::Content(_, _) => "",
-        Found::Snapshot(_, row) => row.key.snapshotter.text(),
+        ThingRow::Image(_) => "",
+        ThingRow::Container(_) => "",
+        ThingRow::Lease(_) => "",
+        ThingRow::Ingest(_) => "",
+        ThingRow::Content(_, _) => "",
+        ThingRow::Snapshot(_, row) => row.key.snapshotter.text(),
     }
 }
 
-fn mode_place(thing: Found<'_>) -> u8
+fn mode_place(thing: ThingRow<'_>) -> u8
     ensures { result ≡ mode_place (thing_of thing.entry) }
 {
     match thing {
-        Found::Image(_) => 0,
-        Found::Container(_) => 0,
-        Found::Lease(_) => 0,
-        Found::Ingest(_) => 0,
-        Found::Content(Mode::Full, _) => 0,
-        Found::Content(Mode::Flat, _) => 1,
-        Found::Snapshot(Mode::Full, _) => 0,
-        Found::Snapshot(Mode::Flat, _) => 1,
+        ThingRow::Image(_) => 0,
+        ThingRow::Container(_) => 0,
+        ThingRow::Lease(_) => 0,
+        ThingRow::Ingest(_) => 0,
+        ThingRow::Content(Mode::Full, _) => 0,
+        ThingRow::Content(Mode::Flat, _) => 1,
+        ThingRow::Snapshot(Mode::Full, _) => 0,
+        ThingRow::Snapshot(Mode::Flat, _) => 1,
     }
 }
 
@@ -61,30 +61,30 @@ fn text_before(a: &str, b: &str, rest: bool) -> bool
 }
 
 // The same where the second text is the name of a thing.
-fn before_name(a: &str, b: Found<'_>, rest: bool) -> bool
+fn before_name(a: &str, b: ThingRow<'_>, rest: bool) -> bool
     ensures { (x y : Key) → rest ≡ is_before x y
         → result ≡ is_before (a.now ∷ x) (name_of (thing_of b.entry) ∷ y) }
 {
     match b {
-        Found::Image(row) => text_before(a, row.name.text(), rest),
-        Found::Container(row) => text_before(a, row.name.text(), rest),
-        Found::Lease(row) => text_before(a, row.id().text(), rest),
-        Found::Ingest(row) => text_before(a, row.name.text(), rest),
-        Found::Content(_, row) => {
+        ThingRow::Image(row) => text_before(a, row.name.text(), rest),
+        ThingRow::Container(row) => text_before(a, row.name.text(), rest),
+        ThingRow::Lease(row) => text_before(a, row.id().text(), rest),
+        ThingRow::Ingest(row) => text_before(a, row.name.text(), rest),
+        ThingRow::Content(_, row) => {
             let text = row.digest.text();
             text_before(a, text.as_str(), rest)
         }
-        Found::Snapshot(_, row) => text_before(a, row.key.name.text(), rest),
+        ThingRow::Snapshot(_, row) => text_before(a, row.key.name.text(), rest),
     }
 }
 
 // The same where the first one is a digest: two are compared as they are kept.
-fn digest_before(a: &Digest, b: Found<'_>, rest: bool) -> bool
+fn digest_before(a: &Digest, b: ThingRow<'_>, rest: bool) -> bool
     ensures { (x y : Key) → rest ≡ is_before x y
         → result ≡ is_before (a.now ∷ x) (name_of (thing_of b.entry) ∷ y) }
 {
     match b {
-        Found::Content(_, row) => match a.cmp(&row.digest) {
+        ThingRow::Content(_, row) => match a.cmp(&row.digest) {
             Ordering::Less => true,
             Ordering::Equal => rest,
             Ordering::Greater => false,
@@ -97,17 +97,17 @@ fn digest_before(a: &Digest, b: Found<'_>, rest: bool) -> bool
 }
 
 // The same of the names of two things.
-fn name_before(a: Found<'_>, b: Found<'_>, rest: bool) -> bool
+fn name_before(a: ThingRow<'_>, b: ThingRow<'_>, rest: bool) -> bool
     ensures { (x y : Key) → rest ≡ is_before x y
         → result ≡ is_before (name_of (thing_of a.entry) ∷ x) (name_of (thing_of b.entry) ∷ y) }
 {
     match a {
-        Found::Image(row) => before_name(row.name.text(), b, rest),
-        Found::Container(row) => before_name(row.name.text(), b, rest),
-        Found::Lease(row) => before_name(row.id().text(), b, rest),
-        Found::Ingest(row) => before_name(row.name.text(), b, rest),
-        Found::Content(_, row) => digest_before(&row.digest, b, rest),
-        Found::Snapshot(_, row) => before_name(row.key.name.text(), b, rest),
+        ThingRow::Image(row) => before_name(row.name.text(), b, rest),
+        ThingRow::Container(row) => before_name(row.name.text(), b, rest),
+        ThingRow::Lease(row) => before_name(row.id().text(), b, rest),
+        ThingRow::Ingest(row) => before_name(row.name.text(), b, rest),
+        ThingRow::Content(_, row) => digest_before(&row.digest, b, rest),
+        ThingRow::Snapshot(_, row) => before_name(row.key.name.text(), b, rest),
     }
 }
 
@@ -124,7 +124,7 @@ fn place_before(a: u8, b: u8, rest: bool) -> bool
 }
 
 // Whether the first thing goes before the second: by kinds, then by keys.
-pub(crate) fn goes_before(a: Found<'_>, b: Found<'_>) -> bool
+pub(crate) fn goes_before(a: ThingRow<'_>, b: ThingRow<'_>) -> bool
     ensures { result ≡ goes_before (thing_of a.entry) (thing_of b.entry) }
 {
     let modes = place_before(mode_place(a), mode_place(b), false);

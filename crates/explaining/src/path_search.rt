@@ -5,7 +5,7 @@ ghost use Rattle.meta_types.specs.Faults.{Refuses};
 ghost use Rattle.meta_types.specs.Explanations.{Explains};
 ghost use Rattle.meta_types.specs.Walks.{end_of};
 ghost use Rattle.gc_graph.specs.Stored.{records_of, IsSmall};
-ghost use Rattle.explaining.specs.Found.{thing_of, numbered, thing_at};
+ghost use Rattle.explaining.specs.ThingRows.{thing_of, numbered, thing_at};
 ghost use Rattle.explaining.specs.Firsts.{chain, listed, AreWithin, root_before};
 ghost use Rattle.explaining.specs.Ends.{first_root};
 ghost use Rattle.explaining.specs.Questions.{asked_by};
@@ -14,9 +14,9 @@ ghost use Rattle.explaining.specs.ShortestPaths.{IsFirstTo};
 
 use crate::asked::Question;
 use crate::firsts::first_before;
-use crate::found::Found;
 use crate::holders::holder_of;
 use crate::nearest::nearest;
+use crate::thing_row::ThingRow;
 use crate::things::thing_at;
 use gc_graph::{NodeBook, StoreRows, find_starts};
 use mark_core::{Graph, depths};
@@ -31,7 +31,7 @@ fn things_back<'a>(
     before: &[Option<u32>],
     number: u32,
     steps: u32,
-) -> Result<(Vec<Found<'a>>, u32), Fault>
+) -> Result<(Vec<ThingRow<'a>>, u32), Fault>
     requires number { number < length before.now }
     requires numbers { length before.now ≡ length (numbered (records_of rows.now)) }
     requires within { AreWithin (length before.now) before.now }
@@ -63,7 +63,7 @@ fn root_before<'a>(
     at: Instant,
     before: &[Option<u32>],
     number: u32,
-) -> Result<Option<Found<'a>>, Fault>
+) -> Result<Option<ThingRow<'a>>, Fault>
     requires number { number < length before.now }
     requires numbers { length before.now ≡ length (numbered (records_of rows.now)) }
     requires within { AreWithin (length before.now) before.now }
@@ -88,7 +88,10 @@ fn steps_before(depth: u32) -> u32
 }
 
 // A path with its root at the end, where there is one.
-fn with_root<'a>(path: Vec<Found<'a>>, root: Option<Found<'a>>) -> Result<Vec<Found<'a>>, Fault>
+fn with_root<'a>(
+    path: Vec<ThingRow<'a>>,
+    root: Option<ThingRow<'a>>,
+) -> Result<Vec<ThingRow<'a>>, Fault>
     ensures fault { Refuses result None }
     ensures ok { IfOk result (λ all. map thing_of all.items
         ≡ map thing_of path.entry.items ++ listed (option_map thing_of root.entry)) }
@@ -152,7 +155,7 @@ impl<'s, 'a> PathSearch<'s, 'a> {
     }
 
     // Of all shortest paths to a number at this depth the first, from the last thing back.
-    fn path_to(&self, alloc: Global, number: u32, depth: u32) -> Result<Vec<Found<'a>>, Fault>
+    fn path_to(&self, alloc: Global, number: u32, depth: u32) -> Result<Vec<ThingRow<'a>>, Fault>
         requires { get_or self.now.depths number None ≡ Some depth }
         ensures fault { Refuses result None }
         ensures ok { IfOk result (λ path. IsFirstTo self.now.records self.now.at
@@ -164,6 +167,7 @@ impl<'s, 'a> PathSearch<'s, 'a> {
             return Ok(path);
         }
         let root = root_before(alloc, self.rows, self.at, &before, last)?;
+        // For the prover: the result is opened, not passed on.
         let whole = with_root(path, root)?;
         Ok(whole)
     }
@@ -174,7 +178,7 @@ impl<'s, 'a> PathSearch<'s, 'a> {
         &self,
         alloc: Global,
         question: Question<'_>,
-    ) -> Result<Vec<Found<'a>>, Fault>
+    ) -> Result<Vec<ThingRow<'a>>, Fault>
         ensures fault { Refuses result None }
         ensures ok { IfOk result (λ path. None ≡ first_root self.now.records self.now.at
             (asked_by question.entry) → Explains self.now.records self.now.at
@@ -186,6 +190,7 @@ impl<'s, 'a> PathSearch<'s, 'a> {
         let Some(depth) = self.depths[number as usize] else {
             return Ok(Vec::new(alloc));
         };
+        // For the prover: the result is opened, not passed on.
         let path = self.path_to(alloc, number, depth)?;
         Ok(path)
     }

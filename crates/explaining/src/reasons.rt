@@ -5,11 +5,11 @@ ghost use Rattle.std.specs.Option.{option_map_or};
 ghost use Rattle.meta_types.specs.Faults.{Refuses};
 ghost use Rattle.meta_types.specs.Paths.{is_content, is_snapshot, is_resource, is_parent, lease_mode};
 ghost use Rattle.meta_types.specs.declared.resource.Mode.TheVariants.{Full};
-ghost use Rattle.explaining.specs.Found.{thing_of};
+ghost use Rattle.explaining.specs.ThingRows.{thing_of};
 ghost use Rattle.meta_types.specs.Reasons.{is_ref, label_reason, reason_in, reason_of};
 ghost use Rattle.explaining.specs.Reasons.{by_of};
 
-use crate::found::{Found, is_content, is_resource, is_snapshot, namespace_of};
+use crate::thing_row::{ThingRow, is_content, is_resource, is_snapshot, namespace_of};
 use gc_graph::lease_mode;
 use gc_labels::{content_ref, snapshot_ref};
 use lease_book::Lease;
@@ -35,12 +35,12 @@ fn is_text(text: &str, digest: &Digest) -> bool
 }
 
 // Whether a label references a thing.
-fn is_ref(key: &str, value: &str, thing: Found<'_>) -> bool
+fn is_ref(key: &str, value: &str, thing: ThingRow<'_>) -> bool
     ensures { result ≡ is_ref (key.now, value.now) (thing_of thing.entry) }
 {
     match thing {
-        Found::Content(Mode::Full, row) => content_ref(key) && is_text(value, &row.digest),
-        Found::Snapshot(Mode::Full, row) => match snapshot_ref(key) {
+        ThingRow::Content(Mode::Full, row) => content_ref(key) && is_text(value, &row.digest),
+        ThingRow::Snapshot(Mode::Full, row) => match snapshot_ref(key) {
             Some(s) => s == row.key.snapshotter.text() && value == row.key.name.text(),
             None => false,
         },
@@ -49,7 +49,7 @@ fn is_ref(key: &str, value: &str, thing: Found<'_>) -> bool
 }
 
 // The first label that references a thing.
-fn label_reason<'a>(labels: &'a Labels, thing: Found<'_>) -> Option<Why<'a>>
+fn label_reason<'a>(labels: &'a Labels, thing: ThingRow<'_>) -> Option<Why<'a>>
     ensures { option_map by_of result ≡ label_reason labels.now (thing_of thing.entry) }
 {
     let entries = labels.entries();
@@ -61,7 +61,7 @@ fn label_reason<'a>(labels: &'a Labels, thing: Found<'_>) -> Option<Why<'a>>
     None
 }
 
-fn is_held(resources: &[&Resource], mode: Mode, thing: Found<'_>) -> bool
+fn is_held(resources: &[&Resource], mode: Mode, thing: ThingRow<'_>) -> bool
     ensures { result ≡ list_any (λ held. is_resource held mode (thing_of thing.entry))
         (map (λ resource. resource.now) resources.now) }
 {
@@ -73,7 +73,7 @@ fn is_held(resources: &[&Resource], mode: Mode, thing: Found<'_>) -> bool
     false
 }
 
-fn holds(alloc: Global, row: &Lease, thing: Found<'_>) -> Result<bool, Fault>
+fn holds(alloc: Global, row: &Lease, thing: ThingRow<'_>) -> Result<bool, Fault>
     ensures fault { Refuses result None }
     ensures ok { IfOk result (λ b. b ≡ list_any
         (λ held. is_resource held (lease_mode row.now) (thing_of thing.entry)) row.now.resources) }
@@ -82,7 +82,7 @@ fn holds(alloc: Global, row: &Lease, thing: Found<'_>) -> Result<bool, Fault>
     Ok(is_held(&resources, lease_mode(row), thing))
 }
 
-fn mounts(row: &ContainerRow, thing: Found<'_>) -> bool
+fn mounts(row: &ContainerRow, thing: ThingRow<'_>) -> bool
     ensures { result ≡ option_map_or (λ key. is_snapshot key.0 key.1 Full (thing_of thing.entry))
         row.now.snapshot false }
 {
@@ -94,7 +94,7 @@ fn mounts(row: &ContainerRow, thing: Found<'_>) -> bool
     }
 }
 
-fn expects(row: &IngestRow, thing: Found<'_>) -> bool
+fn expects(row: &IngestRow, thing: ThingRow<'_>) -> bool
     ensures { result ≡ option_map_or (λ digest. is_content digest Full (thing_of thing.entry))
         row.now.expected false }
 {
@@ -104,7 +104,7 @@ fn expects(row: &IngestRow, thing: Found<'_>) -> bool
     }
 }
 
-fn is_parent(row: &SnapRow, mode: Mode, thing: Found<'_>) -> bool
+fn is_parent(row: &SnapRow, mode: Mode, thing: ThingRow<'_>) -> bool
     ensures { result ≡ is_parent row.now mode (thing_of thing.entry) }
 {
     match &row.parent {
@@ -114,50 +114,54 @@ fn is_parent(row: &SnapRow, mode: Mode, thing: Found<'_>) -> bool
 }
 
 // By what a thing references another, where their namespace is the same.
-fn reason_in<'a>(alloc: Global, from: Found<'a>, to: Found<'_>) -> Result<Option<Why<'a>>, Fault>
+fn reason_in<'a>(
+    alloc: Global,
+    from: ThingRow<'a>,
+    to: ThingRow<'_>,
+) -> Result<Option<Why<'a>>, Fault>
     ensures fault { Refuses result None }
     ensures ok { IfOk result (λ why. option_map by_of why
         ≡ reason_in (thing_of from.entry) (thing_of to.entry)) }
 {
     let why = match from {
-        Found::Image(row) => {
+        ThingRow::Image(row) => {
             if is_content(&row.target, Mode::Full, to) {
                 Some(Why::Target)
             } else {
                 label_reason(&row.labels, to)
             }
         }
-        Found::Container(row) => {
+        ThingRow::Container(row) => {
             if mounts(row, to) {
                 Some(Why::Snapshot)
             } else {
                 label_reason(&row.labels, to)
             }
         }
-        Found::Lease(row) => {
+        ThingRow::Lease(row) => {
             if holds(alloc, row, to)? {
                 Some(Why::Resource)
             } else {
                 None
             }
         }
-        Found::Ingest(row) => {
+        ThingRow::Ingest(row) => {
             if expects(row, to) {
                 Some(Why::Expected)
             } else {
                 None
             }
         }
-        Found::Content(Mode::Full, row) => label_reason(&row.labels, to),
-        Found::Content(Mode::Flat, _) => None,
-        Found::Snapshot(Mode::Full, row) => {
+        ThingRow::Content(Mode::Full, row) => label_reason(&row.labels, to),
+        ThingRow::Content(Mode::Flat, _) => None,
+        ThingRow::Snapshot(Mode::Full, row) => {
             if is_parent(row, Mode::Full, to) {
                 Some(Why::Parent)
             } else {
                 label_reason(&row.labels, to)
             }
         }
-        Found::Snapshot(Mode::Flat, row) => {
+        ThingRow::Snapshot(Mode::Flat, row) => {
             if is_parent(row, Mode::Flat, to) {
                 Some(Why::Parent)
             } else {
@@ -171,8 +175,8 @@ fn reason_in<'a>(alloc: Global, from: Found<'a>, to: Found<'_>) -> Result<Option
 /// By what a thing references another; none where it doesn't.
 pub(crate) fn reason<'a>(
     alloc: Global,
-    from: Found<'a>,
-    to: Found<'_>,
+    from: ThingRow<'a>,
+    to: ThingRow<'_>,
 ) -> Result<Option<Why<'a>>, Fault>
     ensures fault { Refuses result None }
     ensures ok { IfOk result (λ why. option_map by_of why

@@ -5,15 +5,15 @@ ghost use Rattle.meta_types.specs.Labels.{value_of};
 ghost use Rattle.meta_types.specs.CollectorLabels.{expire_key};
 ghost use Rattle.meta_types.specs.EndTexts.{end_text};
 ghost use Rattle.meta_types.specs.Explanations.{object_in, mode_of, expire_of, step_of, AreTold};
-ghost use Rattle.explaining.specs.Found.{thing_of};
+ghost use Rattle.explaining.specs.ThingRows.{thing_of};
 ghost use Rattle.explaining.specs.Reasons.{by_of};
 ghost use Rattle.explaining.specs.StepWords.{AreLinked, root_word, IsBy};
 
 mod end_text;
 
-use crate::found::Found;
 use crate::reasons::{Why, reason};
 use crate::telling::end_text::end_text;
+use crate::thing_row::ThingRow;
 use meta_types::{By, Fault, IngestRow, Labels, Mode, Object, PathStep, RawText, Resource};
 use std::alloc::Global;
 
@@ -42,17 +42,17 @@ fn by_of(alloc: Global, why: Why<'_>) -> Result<By, Fault>
     }
 }
 
-fn object_in(thing: Found<'_>) -> Result<Object, Fault>
+fn object_in(thing: ThingRow<'_>) -> Result<Object, Fault>
     ensures fault { Refuses result None }
     ensures ok { IfOk result (λ object. object ≡ object_in (thing_of thing.entry)) }
 {
     match thing {
-        Found::Image(row) => Ok(Object::Image(row.name.copy()?)),
-        Found::Container(row) => Ok(Object::Container(row.name.copy()?)),
-        Found::Lease(row) => Ok(Object::Lease(row.id().copy()?)),
-        Found::Ingest(row) => Ok(Object::Held(Resource::Ingest(row.name.copy()?))),
-        Found::Content(_, row) => Ok(Object::Held(Resource::Content(row.digest.copy()?))),
-        Found::Snapshot(_, row) => {
+        ThingRow::Image(row) => Ok(Object::Image(row.name.copy()?)),
+        ThingRow::Container(row) => Ok(Object::Container(row.name.copy()?)),
+        ThingRow::Lease(row) => Ok(Object::Lease(row.id().copy()?)),
+        ThingRow::Ingest(row) => Ok(Object::Held(Resource::Ingest(row.name.copy()?))),
+        ThingRow::Content(_, row) => Ok(Object::Held(Resource::Content(row.digest.copy()?))),
+        ThingRow::Snapshot(_, row) => {
             let snapshotter = row.key.snapshotter.copy()?;
             let name = row.key.name.copy()?;
             Ok(Object::Held(Resource::Snapshot(snapshotter, name)))
@@ -60,12 +60,12 @@ fn object_in(thing: Found<'_>) -> Result<Object, Fault>
     }
 }
 
-fn mode_of(thing: Found<'_>) -> Option<Mode>
+fn mode_of(thing: ThingRow<'_>) -> Option<Mode>
     ensures { result ≡ mode_of (thing_of thing.entry) }
 {
     match thing {
-        Found::Content(mode, _) => Some(mode),
-        Found::Snapshot(mode, _) => Some(mode),
+        ThingRow::Content(mode, _) => Some(mode),
+        ThingRow::Snapshot(mode, _) => Some(mode),
         _ => None,
     }
 }
@@ -94,26 +94,26 @@ fn end_of(alloc: Global, row: &IngestRow) -> Result<Option<RawText<'static>>, Fa
 fn expire_of(
     alloc: Global,
     profile: u8,
-    thing: Found<'_>,
+    thing: ThingRow<'_>,
 ) -> Result<Option<RawText<'static>>, Fault>
     ensures fault { Refuses result None }
     ensures ok { IfOk result (λ text. text ≡ expire_of profile (thing_of thing.entry)) }
 {
     match thing {
-        Found::Image(row) => {
+        ThingRow::Image(row) => {
             if profile == 2 {
                 expire_in(alloc, &row.labels)
             } else {
                 Ok(None)
             }
         }
-        Found::Lease(row) => expire_in(alloc, row.labels()),
-        Found::Ingest(row) => end_of(alloc, row),
+        ThingRow::Lease(row) => expire_in(alloc, row.labels()),
+        ThingRow::Ingest(row) => end_of(alloc, row),
         _ => Ok(None),
     }
 }
 
-fn step_of(alloc: Global, profile: u8, by: By, thing: Found<'_>) -> Result<PathStep, Fault>
+fn step_of(alloc: Global, profile: u8, by: By, thing: ThingRow<'_>) -> Result<PathStep, Fault>
     ensures fault { Refuses result None }
     ensures ok { IfOk result (λ step. step ≡ step_of profile by (thing_of thing.entry)) }
 {
@@ -134,7 +134,7 @@ fn root_word(ended: bool) -> By
 }
 
 // The reason of the thing at a place of a path, whose root stands last.
-fn by_at(alloc: Global, ended: bool, path: &[Found<'_>], place: usize) -> Result<By, Fault>
+fn by_at(alloc: Global, ended: bool, path: &[ThingRow<'_>], place: usize) -> Result<By, Fault>
     requires place { place < length path.now }
     requires linked { AreLinked (map thing_of path.now) }
     ensures fault { Refuses result None }
@@ -146,6 +146,7 @@ fn by_at(alloc: Global, ended: bool, path: &[Found<'_>], place: usize) -> Result
     }
     match reason(alloc, path[behind], path[place])? {
         Some(why) => {
+            // For the prover: the result is opened, not passed on.
             let by = by_of(alloc, why)?;
             Ok(by)
         }
@@ -158,7 +159,7 @@ pub(crate) fn steps_of(
     alloc: Global,
     profile: u8,
     ended: bool,
-    path: &[Found<'_>],
+    path: &[ThingRow<'_>],
 ) -> Result<Vec<PathStep>, Fault>
     requires { AreLinked (map thing_of path.now) }
     ensures fault { Refuses result None }

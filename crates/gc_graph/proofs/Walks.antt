@@ -85,7 +85,7 @@ module _ (records : Records) where
 
     target_ends : (a b : ℕ) → IsEnd a → Contains (targets graph a) b → IsEnd b
     target_ends a b end c =
-        let any : Thing = ingest (record { ns = []; name = []; expected = None; expires = None; number = 0 }) in
+        let any : Thing = ingest (record { ns = []; name = []; expected = None; expires = None; number = 0; extra = [] }) in
         let edge = λ (d : Thing). number_edge (get_or numbered_things a d) b (subst (λ (l : List ℕ). Contains l b) (targets_at a d end.0) c) in
         ((edge any).0, λ d. (get_or numbered_things a d ∷ (end.1 d).0, (at_place b d (edge any).0, (edge d).1 d, (end.1 d).1)))
 

@@ -3,7 +3,7 @@ ghost use Rattle.std.specs.Prelude.{◌≡◌};
 ghost use Rattle.meta_types.specs.Impacts.{impact_of, objects_less, rows_less};
 ghost use Rattle.gc_report.specs.Impacts.{impact_rows_data, impact_data};
 
-use crate::less::less;
+use crate::difference::difference;
 use crate::objects::Objects;
 use crate::report::Report;
 use crate::rows::Removed;
@@ -75,24 +75,24 @@ impl WriteJson for Impact {
 }
 
 // The objects without the others.
-fn objects_less(objects: Objects, other: Objects) -> Objects
+fn objects_difference(objects: Objects, other: Objects) -> Objects
     ensures { result ≡ objects_less objects other }
 {
     Objects {
-        blobs: less(objects.blobs, other.blobs),
-        ingests: less(objects.ingests, other.ingests),
-        snapshots: less(objects.snapshots, other.snapshots),
+        blobs: difference(objects.blobs, other.blobs),
+        ingests: difference(objects.ingests, other.ingests),
+        snapshots: difference(objects.snapshots, other.snapshots),
     }
 }
 
 // The rows without the others.
-fn rows_less(rows: Removed, other: Removed) -> ImpactRows
+fn rows_difference(rows: Removed, other: Removed) -> ImpactRows
     ensures { result ≡ rows_less rows other }
 {
     ImpactRows {
-        content: less(rows.content, other.content),
-        ingests: less(rows.ingests, other.ingests),
-        snapshots: less(rows.snapshots, other.snapshots),
+        content: difference(rows.content, other.content),
+        ingests: difference(rows.ingests, other.ingests),
+        snapshots: difference(rows.snapshots, other.snapshots),
     }
 }
 
@@ -102,8 +102,8 @@ impl Impact {
         ensures { result ≡ impact_of now then }
     {
         Impact {
-            backend: objects_less(then.backend, now.backend),
-            removed: rows_less(then.removed, now.removed),
+            backend: objects_difference(then.backend, now.backend),
+            removed: rows_difference(then.removed, now.removed),
         }
     }
 }

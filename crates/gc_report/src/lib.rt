@@ -2,8 +2,8 @@
 #![tactic(auto)]
 
 mod copies;
+mod difference;
 mod impact;
-mod less;
 mod objects;
 mod report;
 mod rows;

@@ -2,7 +2,7 @@
 use Rattle.std.proofs.Common.{◌≡◌}
 use Rattle.meta_types.specs.Rows.{Records}
 use Rattle.request_core.specs.declared.state.Records.{Records as Kept}
-use Rattle.explaining.specs.Asked.{records_in}
+use Rattle.explaining.specs.RowLists.{records_in}
 
 -- records are one where their parts are
 pub same_records : (kept : Kept) (records : Records) → kept.tables ≡ records.tables

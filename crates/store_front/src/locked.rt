@@ -7,7 +7,7 @@ ghost use Rattle.meta_types.specs.declared.fault.Fault.TheVariants.{FailedPrecon
 
 use crate::event::entry::Entry;
 use crate::history::base::Base;
-use crate::keeps::{Keeps, WithHistory, WithoutHistory};
+use crate::history_mode::{HistoryMode, WithHistory, WithoutHistory};
 use crate::session::Session;
 use back_model::{
     BackLists, BlobBackend, IngestBackend, MemBackend, MemBlobs, MemIngests, SnapBackend,
@@ -30,7 +30,7 @@ pub struct Locked<
     S: SnapBackend = MemBackend,
     B: BlobBackend = MemBlobs,
     I: IngestBackend = MemIngests,
-    K: Keeps = WithHistory,
+    K: HistoryMode = WithHistory,
 > {
     pub(crate) state: State<S, B, I>,
     pub(crate) base: Base,
@@ -44,7 +44,7 @@ pub struct Locked<
 /// The locked value over models in memory.
 pub type MemLocked<L, K> = Locked<L, MemBackend, MemBlobs, MemIngests, K>;
 
-impl<L: Ledger, S: SnapBackend, B: BlobBackend, I: IngestBackend, K: Keeps> Model
+impl<L: Ledger, S: SnapBackend, B: BlobBackend, I: IngestBackend, K: HistoryMode> Model
     for Locked<L, S, B, I, K> {
     ghost use Rattle.std.specs.Prelude.{◌≡◌, ◌≤◌, ◌+◌, IsTrue};
     ghost use Rattle.std.specs.Vec.{vec_len};
@@ -143,7 +143,13 @@ impl<L: Ledger, S: SnapBackend, B: BlobBackend, I: IngestBackend> Locked<
     }
 }
 
-impl<L: Ledger, S: SnapBackend, B: BlobBackend, I: IngestBackend, K: Keeps> Locked<L, S, B, I, K> {
+impl<L: Ledger, S: SnapBackend, B: BlobBackend, I: IngestBackend, K: HistoryMode> Locked<
+    L,
+    S,
+    B,
+    I,
+    K,
+> {
     /// A new session, refused where as many are open as may be. It takes no memory.
     pub fn session(&mut self, alloc: Global) -> Result<Session<L>, Fault>
         ensures ok { IfOk result (λ session. session

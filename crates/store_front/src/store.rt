@@ -16,7 +16,7 @@ ghost use Rattle.store_front.specs.Finish.{IsHistory, AreOfThese, CutFails, Fini
 ghost use Rattle.store_front.specs.Parts.{IsPart, part};
 
 use crate::history::base::History;
-use crate::keeps::{Keeps, WithHistory, WithoutHistory};
+use crate::history_mode::{HistoryMode, WithHistory, WithoutHistory};
 use crate::locked::Locked;
 use crate::session::Session;
 use back_model::{BlobBackend, IngestBackend, MemBackend, MemBlobs, MemIngests, SnapBackend};
@@ -37,7 +37,7 @@ pub struct Store<
     S: SnapBackend = MemBackend,
     B: BlobBackend = MemBlobs,
     I: IngestBackend = MemIngests,
-    K: Keeps = WithHistory,
+    K: HistoryMode = WithHistory,
 > {
     pub(crate) inner: Mutex<Locked<L, S, B, I, K>>,
 }
@@ -84,7 +84,13 @@ impl<L: Ledger, S: SnapBackend, B: BlobBackend, I: IngestBackend> Store<
     }
 }
 
-impl<L: Ledger, S: SnapBackend, B: BlobBackend, I: IngestBackend, K: Keeps> Store<L, S, B, I, K> {
+impl<L: Ledger, S: SnapBackend, B: BlobBackend, I: IngestBackend, K: HistoryMode> Store<
+    L,
+    S,
+    B,
+    I,
+    K,
+> {
     /// A new session, refused where as many are open as may be.
     pub fn session(&self, rt: &impl Wait, alloc: Global) -> Result<Session<L>, Fault>
         ensures ok { IfOk result (λ s. s.list ≡ []) }
@@ -114,6 +120,7 @@ impl<L: Ledger, S: SnapBackend, B: BlobBackend, I: IngestBackend, K: Keeps> Stor
     {
         let mut guard = self.inner.lock(rt);
         let locked = &mut *guard;
+        // For the prover: the session is one of this store.
         locked.admit(session);
         locked.collect(rt, alloc, session, at, dry, workers, gate, sweep_gate)
     }
@@ -138,6 +145,7 @@ impl<L: Ledger, S: SnapBackend, B: BlobBackend, I: IngestBackend> Store<L, S, B,
     {
         let mut guard = self.inner.lock(rt);
         let locked = &mut *guard;
+        // For the prover: the session is one of this store.
         locked.admit(session);
         locked.apply(alloc, session, request)
     }
@@ -163,6 +171,7 @@ impl<L: Ledger, S: SnapBackend, B: BlobBackend, I: IngestBackend> Store<L, S, B,
     {
         let mut guard = self.inner.lock(rt);
         let locked = &mut *guard;
+        // For the prover: the session is one of this store.
         locked.admit(session);
         locked.remove_collect(rt, alloc, session, removal, at, workers, gate, sweep_gate)
     }

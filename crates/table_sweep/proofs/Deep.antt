@@ -9,7 +9,7 @@ use Rattle.meta_types.specs.Rows.{BackSnap}
 use Rattle.meta_types.specs.Keys.{put_in_order, in_order}
 use Rattle.meta_types.specs.Backends.{is_named, ancestors, depth_of, goes_before, object_name}
 use Rattle.meta_types.proofs.Filtered.{filter_mapped}
-use Rattle.table_sweep.specs.Depths.{Listed, snap_of, above_of, depth_in, key_of, is_first, key_name}
+use Rattle.table_sweep.specs.Depths.{Listed, snap_of, parent_in, depth_in, key_of, is_first, key_name}
 
 -- ---- depths
 
@@ -26,7 +26,9 @@ find_listed snapshotter number (s ∷ snapshots) = go (bytes_eq s.0 snapshotter 
     go true e = refl
     go false e = e
 
-above_listed : (snapshots : List Listed) (s : Text) (n : ℕ) (parent : Option ℕ) → option_and_then (λ number. find (is_named (s, number)) (map snap_of snapshots)) parent ≡ with_record (above_of snapshots (s, n, parent))
+above_listed : (snapshots : List Listed) (s : Text) (n : ℕ) (parent : Option ℕ)
+    → option_and_then (λ number. find (is_named (s, number)) (map snap_of snapshots)) parent
+    ≡ with_record (parent_in snapshots (s, n, parent))
 above_listed snapshots s n None = refl
 above_listed snapshots s n (Some number) = find_listed s number snapshots
 
@@ -34,7 +36,7 @@ depth_steps : (most : ℕ) (snapshots : List Listed) (snap : Listed) → length 
 depth_steps zero snapshots snap = refl
 depth_steps (suc most) snapshots snap =
     ap (λ o. length (option_map_or (λ above. above ∷ ancestors most (map snap_of snapshots) above) o [])) (above_listed snapshots snap.0 snap.1 snap.2)
-    ∙ go (above_of snapshots snap) (λ above. depth_steps most snapshots above)
+    ∙ go (parent_in snapshots snap) (λ above. depth_steps most snapshots above)
   where
     go : (o : Option Listed) → ((above : Listed) → length (ancestors most (map snap_of snapshots) (snap_of above)) ≡ depth_in most snapshots above)
         → length (option_map_or (λ above. above ∷ ancestors most (map snap_of snapshots) above) (with_record o) []) ≡ option_map_or (λ above. suc (depth_in most snapshots above)) o zero

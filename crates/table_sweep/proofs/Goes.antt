@@ -15,7 +15,7 @@ use Rattle.meta_types.specs.Keys.{in_order}
 use Rattle.meta_types.specs.Backends.{no_objects, object_name, owns_snapshot, blob_stays, ingest_object_stays, snapshot_object_stays, is_ancestor_of_one, goes_before}
 use Rattle.gc_graph.proofs.RootPlaces.{held_names}
 use Rattle.table_sweep.specs.Depths.{Listed, snap_of, key_of, is_first, key_name}
-use Rattle.table_sweep.specs.Owned.{owns_blob, begun_goes, snap_goes}
+use Rattle.table_sweep.specs.Owned.{owns_blob, is_begun_removed, is_snap_removed}
 use Rattle.table_sweep.proofs.Deep.{names_in_order}
 
 or_nothing : (a b : Bool) → b ≡ false → (a || b) ≡ a
@@ -38,28 +38,37 @@ module _ (tables : Tables) where
       (λ digest. ap not (ap (λ (l : List ContentRow). owns_blob l digest) is ∙ sym (or_nothing (owns_blob tables.content digest) false refl))) blobs
 
   module _ (owned : List ℕ) (all : IsPermutation (map (λ (row : IngestRow). row.number) tables.ingests) owned) where
-    begun_goes_is : (number : ℕ) → begun_goes owned number ≡ not (ingest_object_stays tables no_objects number)
+    begun_goes_is : (number : ℕ) → is_begun_removed owned number
+        ≡ not (ingest_object_stays tables no_objects number)
     begun_goes_is number =
         ap not (sym (list_any-IsPermutation (λ other. other == number) (map (λ (row : IngestRow). row.number) tables.ingests) owned all)
         ∙ any_numbered number tables.ingests ∙ sym (or_nothing (list_any (λ (row : IngestRow). row.number == number) tables.ingests) false refl))
 
-    pub ingests_are : (numbers : List ℕ) → flat_map (λ number. if begun_goes owned number then number ∷ [] else []) numbers ≡ filter (λ number. not (ingest_object_stays tables no_objects number)) numbers
+    pub ingests_are : (numbers : List ℕ) → flat_map (λ number. if is_begun_removed owned number then
+        number ∷ [] else []) numbers ≡ filter (λ number. not
+        (ingest_object_stays tables no_objects number)) numbers
     ingests_are numbers =
-        held_names (begun_goes owned) (λ number. number) numbers ∙ map-id (filter (begun_goes owned) numbers)
-        ∙ filter_agree (begun_goes owned) (λ number. not (ingest_object_stays tables no_objects number)) begun_goes_is numbers
+        held_names (is_begun_removed owned) (λ number. number) numbers
+        ∙ map-id (filter (is_begun_removed owned) numbers)
+        ∙ filter_agree (is_begun_removed owned) (λ number. not
+        (ingest_object_stays tables no_objects number)) begun_goes_is numbers
 
   module _ (owners : List SnapRow) (all : IsPermutation tables.snapshots owners) where
     snap_stays_is : (snapshots : List BackSnap) (snap : BackSnap) → snapshot_object_stays tables snapshots no_objects snap ≡ owns_snapshot tables snap
     snap_stays_is snapshots snap = or_nothing (owns_snapshot tables snap || false) (is_ancestor_of_one snapshots [] snap) (none_any snapshots) ∙ or_nothing (owns_snapshot tables snap) false refl
 
-    snap_goes_is : (snapshots : List Listed) (s : Listed) → snap_goes owners s ≡ not (snapshot_object_stays tables (map snap_of snapshots) no_objects (snap_of s))
+    snap_goes_is : (snapshots : List Listed) (s : Listed) → is_snap_removed owners s
+        ≡ not (snapshot_object_stays tables (map snap_of snapshots) no_objects (snap_of s))
     snap_goes_is snapshots s =
         ap not (sym (list_any-IsPermutation (λ (row : SnapRow). bytes_eq row.key.snapshotter s.0 && row.number == s.1) tables.snapshots owners all)
         ∙ sym (snap_stays_is (map snap_of snapshots) (snap_of s)))
 
-    pub snapshots_are : (snapshots : List Listed) → map key_name (in_order is_first (flat_map (λ s. if snap_goes owners s then key_of snapshots s ∷ [] else []) snapshots))
+    pub snapshots_are : (snapshots : List Listed) → map key_name (in_order is_first (flat_map
+        (λ s. if is_snap_removed owners s then key_of snapshots s ∷ [] else []) snapshots))
         ≡ map object_name (in_order (goes_before (map snap_of snapshots)) (filter (λ snap. not (snapshot_object_stays tables (map snap_of snapshots) no_objects snap)) (map snap_of snapshots)))
     snapshots_are snapshots =
         let goes : BackSnap → Bool = λ snap. not (snapshot_object_stays tables (map snap_of snapshots) no_objects snap) in
-        ap (λ keys. map key_name (in_order is_first keys)) (held_names (snap_goes owners) (key_of snapshots) snapshots ∙ ap (map (key_of snapshots)) (filter_agree (snap_goes owners) (λ s. goes (snap_of s)) (snap_goes_is snapshots) snapshots))
+        ap (λ keys. map key_name (in_order is_first keys)) (held_names (is_snap_removed owners)
+        (key_of snapshots) snapshots ∙ ap (map (key_of snapshots)) (filter_agree
+        (is_snap_removed owners) (λ s. goes (snap_of s)) (snap_goes_is snapshots) snapshots))
         ∙ names_in_order snapshots goes

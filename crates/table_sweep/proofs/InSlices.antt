@@ -7,7 +7,7 @@ use Rattle.std.proofs.lemmas.List.Folds.{length-flat_map-take}
 use Rattle.object_tables.specs.Calls.{kept}
 use Rattle.gc_graph.proofs.BookNumbers.{take_next}
 use Rattle.table_sweep.specs.Masks.{gone}
-use Rattle.table_sweep.proofs.Gone.{names_step}
+use Rattle.table_sweep.proofs.RemovedNames.{names_step}
 use Rattle.table_sweep.proofs.Owning.{kept_step}
 
 take-add : {X : Type 0} (m n : ℕ) (xs : List X) → take (m + n) xs ≡ take m xs ++ take n (drop m xs)

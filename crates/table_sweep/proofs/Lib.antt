@@ -1,7 +1,7 @@
 pub mod Numbered
 pub mod MasksFilter
 pub mod Swept
-pub mod Gone
+pub mod RemovedNames
 pub mod Counted
 pub mod Owning
 pub mod InSlices

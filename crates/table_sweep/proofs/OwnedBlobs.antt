@@ -23,7 +23,7 @@ use Rattle.row_tables.proofs.KeysOnce.{kept_apart}
 use Rattle.table_sweep.specs.Masks.{gone}
 use Rattle.table_sweep.specs.Owned.{owns_blob}
 use Rattle.table_sweep.proofs.InSlices.{kept_now}
-use Rattle.table_sweep.proofs.Gone.{names_step}
+use Rattle.table_sweep.proofs.RemovedNames.{names_step}
 use Rattle.table_sweep.proofs.MasksFilter.{gone_is}
 
 -- ---- one mark

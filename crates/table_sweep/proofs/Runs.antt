@@ -14,7 +14,7 @@ use Rattle.std.proofs.lemmas.Map.Lookups.{exact_bytes, exact_unsigned}
 use Rattle.std.proofs.lemmas.Option.{slice_get-get_or, get_or_from_slice_get}
 use Rattle.meta_types.specs.Text.{Text, text_cmp}
 use Rattle.table_sweep.specs.Depths.{Listed}
-use Rattle.table_sweep.specs.SnapshotPlaces.{has_name, name_of, above_place, AreListed, IsRun, IsRunOf, HasNumber}
+use Rattle.table_sweep.specs.SnapshotPlaces.{has_name, name_of, parent_place, AreListed, IsRun, IsRunOf, HasNumber}
 use Rattle.table_sweep.proofs.Halved.{far, near}
 
 -- ---- texts in order
@@ -140,8 +140,8 @@ module _ (xs : List Listed) where
   -- where the parent is of the one that is read
   pub read_above : (at : ℕ) (x s : Listed) (o : Option ℕ) → x ≡ get_or xs at x
       → slice_get xs at ≡ Some s
-      → o ≡ above_place xs x → o ≡ above_place xs s
-  read_above at x s o read is e = e ∙ ap (above_place xs) (read_is at x s read is)
+      → o ≡ parent_place xs x → o ≡ parent_place xs s
+  read_above at x s o read is e = e ∙ ap (parent_place xs) (read_is at x s read is)
 
   pub is_run : (start end : ℕ) (t : Text) → IsRunOf xs t start end → IsRun xs start end
   is_run start end t run i j d low lt low' lt' = run i d low lt ∙ sym (run j d low' lt')

@@ -15,7 +15,7 @@ use Rattle.meta_types.specs.Text.{Text, text_cmp}
 use Rattle.meta_types.specs.declared.rows.SnapRow.{SnapRow}
 use Rattle.meta_types.proofs.OrderThen.{then_total}
 use Rattle.table_sweep.specs.Depths.{Listed}
-use Rattle.table_sweep.specs.Owned.{object_of, object_cmp, name_of, snap_goes}
+use Rattle.table_sweep.specs.Owned.{object_of, object_cmp, name_of, is_snap_removed}
 
 module _ {X : Type 0} (ord : X → Ordering) where
   abbrev hits : X → Bool
@@ -98,7 +98,7 @@ is_tied Greater e = absurd cc
 pub any_at : (rows : List (Bor SnapRow)) (s : Listed) (i : ℕ) (row : Bor SnapRow) → i < length rows
     → ((d : Bor SnapRow) → row ≡ slice_index_or rows i d)
     → (bytes_eq row.now.key.snapshotter s.0 && row.now.number == s.1) ≡ true
-    → snap_goes (map (λ (row : Bor SnapRow). row.now) rows) s ≡ false
+    → is_snap_removed (map (λ (row : Bor SnapRow). row.now) rows) s ≡ false
 any_at rows s i row lt is t =
     let ord : Bor SnapRow → Ordering = λ row. object_cmp (object_of row.now) (name_of s) in
     ap not (sym (any_own rows s)

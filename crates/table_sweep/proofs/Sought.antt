@@ -8,8 +8,8 @@ use Rattle.std.proofs.lemmas.List.{get_or-set_same, get_or-set_other, length-map
 use Rattle.std.proofs.lemmas.List.FromFn.{get_or-map-range_with_len, length-range_with_len}
 use Rattle.std.proofs.lemmas.List.Quantifiers.{position-Some}
 use Rattle.std.proofs.lemmas.Option.{slice_get-get_or, slice_get_within}
-use Rattle.table_sweep.specs.Depths.{Listed, above_of, depth_in}
-use Rattle.table_sweep.specs.SnapshotPlaces.{has_name, name_of, above_from, above_place, deep, depths_to, AreSought, AreDepths, LeadUp}
+use Rattle.table_sweep.specs.Depths.{Listed, parent_in, depth_in}
+use Rattle.table_sweep.specs.SnapshotPlaces.{has_name, name_of, parent_from, parent_place, deep, depths_to, AreSought, AreDepths, LeadUp}
 use Rattle.table_sweep.proofs.FirstPlace.{AreTied}
 use Rattle.table_sweep.proofs.Steps.{above_tied, deep_is}
 
@@ -50,7 +50,7 @@ mark_before needed place k lt e =
 -- ---- one place more
 
 -- a parent's place is one of the list's
-pub above_within : (xs : List Listed) (s : Listed) → IfSome (above_place xs s) (λ place. place <
+pub above_within : (xs : List Listed) (s : Listed) → IfSome (parent_place xs s) (λ place. place <
     length xs)
 above_within xs s = go s.2
   where
@@ -66,7 +66,7 @@ above_within xs s = go s.2
 
 -- what is known of the one that stands at a place
 pub at_place : (xs : List Listed) (at : ℕ) (above : Option ℕ) → at < length xs
-    → ((s : Listed) → slice_get xs at ≡ Some s → above ≡ above_place xs s)
+    → ((s : Listed) → slice_get xs at ≡ Some s → above ≡ parent_place xs s)
     → IfSome above (λ place. place < length xs)
 at_place xs at above lt is =
     let d : Listed = ([], 0, None) in
@@ -74,17 +74,17 @@ at_place xs at above lt is =
     (slice_get-get_or xs at d lt)))
     (above_within xs (get_or xs at d))
 
-module _ (xs : List Listed) (at : ℕ) (aboves : List (Option ℕ)) (needed : List Bool) where
-  pub sought_more : (new : List Bool) (above : Option ℕ) → at < length aboves
-      → ((s : Listed) → slice_get xs at ≡ Some s → above ≡ above_place xs s)
+module _ (xs : List Listed) (at : ℕ) (parents : List (Option ℕ)) (needed : List Bool) where
+  pub sought_more : (new : List Bool) (above : Option ℕ) → at < length parents
+      → ((s : Listed) → slice_get xs at ≡ Some s → above ≡ parent_place xs s)
       → ((k : ℕ) → get_or needed k false ≡ true → get_or new k false ≡ true)
       → IfSome above (λ place. get_or new place false ≡ true)
       → ((k : ℕ) → at ≤ k → get_or new k false ≡ true → get_or needed k false ≡ true)
-      → AreSought xs (at + 1) aboves needed → AreSought xs at (set aboves at above) new
+      → AreSought xs (at + 1) parents needed → AreSought xs at (set parents at above) new
   sought_more new above lt is grows marked same sought place s low need e = elim (cases_lt at
       place) [
         | inl under ↦ (let before = sought place s (omega (arith, under)) (same place low need) e in (
-          get_or-set_other aboves at place above None (λ (alike : place ≡ at). omega (
+          get_or-set_other parents at place above None (λ (alike : place ≡ at). omega (
             arith,
             under,
             alike,
@@ -92,16 +92,16 @@ module _ (xs : List Listed) (at : ℕ) (aboves : List (Option ℕ)) (needed : Li
           λ next h. grows next (before.1 next h),
         ))
         | inr over ↦ (let here : place ≡ at = omega (arith, low, over) in
-            let own : above ≡ above_place xs s = is s (ap (slice_get xs) (sym here) ∙ e) in (
-              ap (λ n. get_or (set aboves at above) n None) here
-                  ∙ get_or-set_same aboves at above None lt ∙ own,
+            let own : above ≡ parent_place xs s = is s (ap (slice_get xs) (sym here) ∙ e) in (
+              ap (λ n. get_or (set parents at above) n None) here
+                  ∙ get_or-set_same parents at above None lt ∙ own,
               λ next h. subst (λ (o : Option ℕ). IfSome o (λ place. get_or new place false ≡ true)) (own
                   ∙ h) marked,
             ))
       ]
 
-  pub none_more : get_or needed at false ≡ false → AreSought xs (at + 1) aboves needed
-      → AreSought xs at aboves needed
+  pub none_more : get_or needed at false ≡ false → AreSought xs (at + 1) parents needed
+      → AreSought xs at parents needed
   none_more not_needed sought place s low need e = elim (cases_lt at place) [
     | inl under ↦ sought place s (omega (arith, under)) need e
     | inr over ↦ (let here : place ≡ at = omega (arith, low, over) in
@@ -112,50 +112,52 @@ module _ (xs : List Listed) (at : ℕ) (aboves : List (Option ℕ)) (needed : Li
       both : (b : Bool) → b ≡ false → b ≡ true → ⊥
       both b f t = (let no : false ≡ true = sym f ∙ t in absurd cc)
 
-pub sought_none : (xs : List Listed) (aboves : List (Option ℕ)) (needed : List Bool)
-    → AreSought xs (length xs) aboves needed
-sought_none xs aboves needed place s low need e = absurd (let lt = slice_get_within xs place s e in
+pub sought_none : (xs : List Listed) (parents : List (Option ℕ)) (needed : List Bool)
+    → AreSought xs (length xs) parents needed
+sought_none xs parents needed place s low need e = absurd (let lt = slice_get_within xs place s e in
     omega (arith, low, lt))
 
 -- the places are gone over from the last one on
-pub sought_on : (xs : List Listed) (done : ℕ) (aboves aboves' : List (Option ℕ)) (needed needed' :
+pub sought_on : (xs : List Listed) (done : ℕ) (parents aboves' : List (Option ℕ)) (needed needed' :
     List Bool) → done < length xs
-    → (AreSought xs (length xs - 1 - done + 1) aboves needed
+    → (AreSought xs (length xs - 1 - done + 1) parents needed
     → AreSought xs (length xs - 1 - done) aboves' needed')
-    → AreSought xs (length xs - done) aboves needed → AreSought xs (length xs - (done + 1)) aboves'
+    → AreSought xs (length xs - done) parents needed → AreSought xs (length xs - (done + 1)) aboves'
     needed'
-sought_on xs done aboves aboves' needed needed' lt step sought =
+sought_on xs done parents aboves' needed needed' lt step sought =
     let before : length xs - done ≡ length xs - 1 - done + 1 = omega (arith, lt) in
     let after : length xs - 1 - done ≡ length xs - (done + 1) = omega (arith, lt) in
     subst (λ (n : ℕ). AreSought xs n aboves' needed') after (step (subst (λ (n : ℕ). AreSought xs n
-    aboves needed) before sought))
+    parents needed) before sought))
 
 -- ---- depths
 
-above_is : (aboves : List (Option ℕ)) (place : ℕ) → above_from aboves place ≡ get_or aboves place
+above_is : (parents : List (Option ℕ)) (place : ℕ) → parent_from parents place
+    ≡ get_or parents place
     None
 above_is [] place = refl
-above_is (above ∷ aboves) zero = refl
-above_is (above ∷ aboves) (suc place) = above_is aboves place
+above_is (above ∷ parents) zero = refl
+above_is (above ∷ parents) (suc place) = above_is parents place
 
-module _ (xs : List Listed) (aboves : List (Option ℕ)) (needed : List Bool) (sought : AreSought xs
-    0 aboves needed) where
+module _ (xs : List Listed) (parents : List (Option ℕ)) (needed : List Bool) (sought : AreSought xs
+    0 parents needed) where
   needed_lead : (most place : ℕ) (s : Listed) → get_or needed place false ≡ true
       → slice_get xs place ≡ Some s
-      → deep most aboves place ≡ depth_in most xs s
+      → deep most parents place ≡ depth_in most xs s
   needed_lead zero place s need e = refl
   needed_lead (suc most) place s need e =
       let here = sought place s (omega arith) need e in
-      ap (λ o. option_map_or (λ above. suc (deep most aboves above)) o zero) (above_is aboves place
+      ap (λ o. option_map_or (λ above. suc (deep most parents above)) o zero)
+      (above_is parents place
       ∙ here.0)
-      ∙ go (above_place xs s) (above_of xs s) (above_tied xs s) here.1
+      ∙ go (parent_place xs s) (parent_in xs s) (above_tied xs s) here.1
       (λ next above marked is. needed_lead most next above marked is)
     where
       go : (o : Option ℕ) (w : Option Listed) → AreTied xs o w → ((next : ℕ) → o ≡ Some next
           → get_or needed next false ≡ true)
           → ((next : ℕ) (above : Listed) → get_or needed next false ≡ true
-          → slice_get xs next ≡ Some above → deep most aboves next ≡ depth_in most xs above)
-          → option_map_or (λ next. suc (deep most aboves next)) o zero ≡ option_map_or (λ above.
+          → slice_get xs next ≡ Some above → deep most parents next ≡ depth_in most xs above)
+          → option_map_or (λ next. suc (deep most parents next)) o zero ≡ option_map_or (λ above.
           suc (depth_in most xs above)) w zero
       go None None t marked h = refl
       go (Some next) (Some above) t marked h = ap suc (h next above (marked next refl) t)
@@ -163,57 +165,60 @@ module _ (xs : List Listed) (aboves : List (Option ℕ)) (needed : List Bool) (s
       go (Some next) None t marked h = absurd t
 
   pub lead_up : (goes : List Bool) → ((k : ℕ) → get_or goes k false ≡ true
-      → get_or needed k false ≡ true) → LeadUp xs goes aboves
+      → get_or needed k false ≡ true) → LeadUp xs goes parents
   lead_up goes all most place s go e = needed_lead most place s (all place go) e
 
 -- once all have been gone over
-pub all_sought : (xs : List Listed) (goes : List Bool) (done : ℕ) (aboves : List (Option ℕ))
+pub all_sought : (xs : List Listed) (goes : List Bool) (done : ℕ) (parents : List (Option ℕ))
     (needed : List Bool) → length xs ≤ done
-    → AreSought xs (length xs - done) aboves needed → ((k : ℕ) → get_or goes k false ≡ true
+    → AreSought xs (length xs - done) parents needed → ((k : ℕ) → get_or goes k false ≡ true
     → get_or needed k false ≡ true)
-    → LeadUp xs goes aboves
-all_sought xs goes done aboves needed le sought all =
+    → LeadUp xs goes parents
+all_sought xs goes done parents needed le sought all =
     let none : length xs - done ≡ 0 = omega (arith, le) in
-    lead_up xs aboves needed (subst (λ (n : ℕ). AreSought xs n aboves needed) none sought) goes all
+    lead_up xs parents needed (subst (λ (n : ℕ). AreSought xs n parents needed) none sought) goes
+    all
 
 -- one parent more
 pub above_more : (xs : List Listed) (at : ℕ) (above : Option ℕ) (now new : List (Option ℕ))
     → at < length xs
-    → ((s : Listed) → slice_get xs at ≡ Some s → above ≡ above_place xs s)
-    → now ≡ map (above_place xs) (take at xs)
-    → new ≡ now ++ above ∷ [] → new ≡ map (above_place xs) (take (at + 1) xs)
+    → ((s : Listed) → slice_get xs at ≡ Some s → above ≡ parent_place xs s)
+    → now ≡ map (parent_place xs) (take at xs)
+    → new ≡ now ++ above ∷ [] → new ≡ map (parent_place xs) (take (at + 1) xs)
 above_more xs at above now new lt is are step =
     let d : Listed = ([], 0, None) in
     step ∙ (λ i. are i ++ is (get_or xs at d) (slice_get-get_or xs at d lt) i ∷ [])
-    ∙ sym (ap (map (above_place xs)) (take_more xs at d lt)
-    ∙ map-append (above_place xs) (take at xs) (get_or xs at d ∷ []))
+    ∙ sym (ap (map (parent_place xs)) (take_more xs at d lt)
+    ∙ map-append (parent_place xs) (take at xs) (get_or xs at d ∷ []))
 
 -- the parents of all lead up
-pub all_lead : (xs : List Listed) (goes : List Bool) → LeadUp xs goes (map (above_place xs) xs)
+pub all_lead : (xs : List Listed) (goes : List Bool) → LeadUp xs goes (map (parent_place xs) xs)
 all_lead xs goes most place s go e = deep_is xs most place s e
 
 -- what leads up gives depths
-pub depths_are : (xs : List Listed) (goes : List Bool) (aboves : List (Option ℕ))
-    → length aboves ≡ length xs
-    → LeadUp xs goes aboves → AreDepths xs goes (depths_to aboves (length aboves))
-depths_are xs goes aboves count lead place s go e =
-    let n = length aboves in
+pub depths_are : (xs : List Listed) (goes : List Bool) (parents : List (Option ℕ))
+    → length parents ≡ length xs
+    → LeadUp xs goes parents → AreDepths xs goes (depths_to parents (length parents))
+depths_are xs goes parents count lead place s go e =
+    let n = length parents in
     let lt : place < n = (let within = slice_get_within xs place s e in omega (
       arith,
       count,
       within,
     )) in
-    let long : length (depths_to aboves n) ≡ n = length-map (range_with_len 0 n) (deep n aboves)
+    let long : length (depths_to parents n) ≡ n = length-map (range_with_len 0 n) (deep n parents)
     ∙ length-range_with_len 0 n in
     let first : 0 + place ≡ place = omega arith in
-    slice_get-get_or (depths_to aboves n) place 0 (omega (arith, long, lt))
-    ∙ ap Some (get_or-map-range_with_len (deep n aboves) 0 n place place 0 lt first
+    slice_get-get_or (depths_to parents n) place 0 (omega (arith, long, lt))
+    ∙ ap Some (get_or-map-range_with_len (deep n parents) 0 n place place 0 lt first
     ∙ lead n place s go e ∙ ap (λ k. depth_in k xs s) count)
 
-pub depths_count : (aboves : List (Option ℕ)) → length (depths_to aboves (length aboves)) ≡ length
-    aboves
-depths_count aboves = length-map (range_with_len 0 (length aboves)) (deep (length aboves) aboves)
-    ∙ length-range_with_len 0 (length aboves)
+pub depths_count : (parents : List (Option ℕ)) → length (depths_to parents (length parents))
+    ≡ length
+    parents
+depths_count parents = length-map (range_with_len 0 (length parents)) (deep
+    (length parents) parents)
+    ∙ length-range_with_len 0 (length parents)
 
 -- ---- whether any goes
 

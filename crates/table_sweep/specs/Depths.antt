@@ -17,13 +17,15 @@ abbrev pub snap_of : Listed → BackSnap
 snap_of s = record { snapshotter = s.0; number = s.1; parent = s.2 }
 
 -- the snapshot's parent among these (containerd snapshots service, parents)
-abbrev pub above_of : List Listed → Listed → Option Listed
-above_of snapshots snap = option_and_then (λ number. find (λ s. bytes_eq s.0 snap.0 && s.1 == number) snapshots) snap.2
+abbrev pub parent_in : List Listed → Listed → Option Listed
+parent_in snapshots snap = option_and_then (λ number. find
+    (λ s. bytes_eq s.0 snap.0 && s.1 == number) snapshots) snap.2
 
 -- how many ancestors it has; past `most` of them it counts no further
 abbrev pub depth_in : ℕ → List Listed → Listed → ℕ
 depth_in zero snapshots snap = zero
-depth_in (suc most) snapshots snap = option_map_or (λ above. suc (depth_in most snapshots above)) (above_of snapshots snap) zero
+depth_in (suc most) snapshots snap = option_map_or (λ above. suc (depth_in most snapshots above))
+    (parent_in snapshots snap) zero
 
 -- a snapshot with its depth, which order it among the removed ones
 abbrev pub key_at : Listed → ℕ → Key

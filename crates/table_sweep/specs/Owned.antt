@@ -28,9 +28,10 @@ object_cmp a b = ordering_then (nat_cmp a.1 b.1) (text_cmp a.0 b.0)
 -- ---- the removed objects: no row that stays owns them
 
 -- an ingest's object
-abbrev pub begun_goes : List ℕ → ℕ → Bool
-begun_goes owned number = not (list_any (λ other. other == number) owned)
+abbrev pub is_begun_removed : List ℕ → ℕ → Bool
+is_begun_removed owned number = not (list_any (λ other. other == number) owned)
 
 -- a snapshot's object
-abbrev pub snap_goes : List SnapRow → Listed → Bool
-snap_goes owners s = not (list_any (λ row. bytes_eq row.key.snapshotter s.0 && row.number == s.1) owners)
+abbrev pub is_snap_removed : List SnapRow → Listed → Bool
+is_snap_removed owners s = not (list_any (λ row. bytes_eq row.key.snapshotter s.0 && row.number ==
+    s.1) owners)

@@ -29,8 +29,9 @@ abbrev pub AreListed : List Listed → Type 0
 AreListed snapshots = (k : ℕ) (d : Listed) → k + 1 < length snapshots → stands_before (slice_index_or snapshots k d) (slice_index_or snapshots (k + 1) d) ≡ true
 
 -- the place of the snapshot's parent in the list (containerd snapshots service, parents)
-abbrev pub above_place : List Listed → Listed → Option ℕ
-above_place snapshots snap = option_and_then (λ number. position (has_name (name_of snap number)) snapshots) snap.2
+abbrev pub parent_place : List Listed → Listed → Option ℕ
+parent_place snapshots snap = option_and_then (λ number. position (has_name
+    (name_of snap number)) snapshots) snap.2
 
 -- those from `start` up to `end` are the snapshotter's
 abbrev pub IsRunOf : List Listed → Text → ℕ → ℕ → Type 0
@@ -46,25 +47,29 @@ HasNumber snapshots start end number place = (start ≤ place) × (place < end) 
 
 -- of those from `at` on that are needed, the parents' places are known, and these are needed too
 abbrev pub AreSought : List Listed → ℕ → List (Option ℕ) → List Bool → Type 0
-AreSought snapshots at aboves needed = (place : ℕ) (s : Listed) → at ≤ place → get_or needed place false ≡ true → slice_get snapshots place ≡ Some s
-    → (get_or aboves place None ≡ above_place snapshots s) × ((above : ℕ) → above_place snapshots s ≡ Some above → get_or needed above false ≡ true)
+AreSought snapshots at parents needed = (place : ℕ) (s : Listed) → at ≤ place
+    → get_or needed place false ≡ true → slice_get snapshots place ≡ Some s
+    → (get_or parents place None ≡ parent_place snapshots s) × ((above : ℕ)
+    → parent_place snapshots s ≡ Some above → get_or needed above false ≡ true)
 
 -- the place above a place, by the list of these
-abbrev pub above_from : List (Option ℕ) → ℕ → Option ℕ
-above_from aboves place = option_and_then (λ above. above) (slice_get aboves place)
+abbrev pub parent_from : List (Option ℕ) → ℕ → Option ℕ
+parent_from parents place = option_and_then (λ above. above) (slice_get parents place)
 
 -- how many places are above a place; past `most` of them it counts no further
 abbrev pub deep : ℕ → List (Option ℕ) → ℕ → ℕ
-deep zero aboves place = zero
-deep (suc most) aboves place = option_map_or (λ above. suc (deep most aboves above)) (above_from aboves place) zero
+deep zero parents place = zero
+deep (suc most) parents place = option_map_or (λ above. suc (deep most parents above))
+    (parent_from parents place) zero
 
 -- how many are above each of the first places
 abbrev pub depths_to : List (Option ℕ) → ℕ → List ℕ
-depths_to aboves count = map (deep (length aboves) aboves) (range_with_len 0 count)
+depths_to parents count = map (deep (length parents) parents) (range_with_len 0 count)
 
 -- above each snapshot that goes are as many places as it has ancestors
 abbrev pub LeadUp : List Listed → List Bool → List (Option ℕ) → Type 0
-LeadUp snapshots goes aboves = (most place : ℕ) (s : Listed) → get_or goes place false ≡ true → slice_get snapshots place ≡ Some s → deep most aboves place ≡ depth_in most snapshots s
+LeadUp snapshots goes parents = (most place : ℕ) (s : Listed) → get_or goes place false ≡ true
+    → slice_get snapshots place ≡ Some s → deep most parents place ≡ depth_in most snapshots s
 
 -- each snapshot that goes has its depth here
 abbrev pub AreDepths : List Listed → List Bool → List ℕ → Type 0

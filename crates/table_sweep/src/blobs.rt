@@ -11,8 +11,8 @@ ghost use Rattle.table_sweep.specs.BlobMarks.{AreBlobMarks};
 ghost use Rattle.table_sweep.specs.Masks.{gone};
 ghost use Rattle.table_sweep.specs.Owned.{owns_blob};
 
-use crate::masks::count_gone;
-use crate::near::{Near, nearly_in_order, push_all_near};
+use crate::masks::count_removed;
+use crate::prefix_order::{Prefixed, in_prefix_order, push_all_prefixed};
 use meta_types::{ContentRow, Digest, Fault};
 use row_tables::{RowTable, Slices};
 use std::alloc::Global;
@@ -156,7 +156,10 @@ fn unowned_as_arrived(
 }
 
 // The digests, as they are listed.
-fn copies_as_listed(digests: Vec<Digest>, near: &[Near<'_, Digest>]) -> Result<Vec<Digest>, Fault>
+fn copies_as_listed(
+    digests: Vec<Digest>,
+    near: &[Prefixed<'_, Digest>],
+) -> Result<Vec<Digest>, Fault>
     requires { digests.items ≡ [] }
     ensures fault { Refuses result None }
     ensures ok { IfOk result (λ copies. copies.items ≡ map (λ one. one.row.now) near.now) }
@@ -173,14 +176,14 @@ fn near_unowned<'a>(
     alloc: Global,
     blobs: &'a [Digest],
     owned: &[bool],
-) -> Result<Vec<Near<'a, Digest>>, Fault>
+) -> Result<Vec<Prefixed<'a, Digest>>, Fault>
     requires { length owned.now ≡ length blobs.now }
     ensures fault { Refuses result None }
     ensures ok { IfOk result (λ near. map (λ one. one.row.now) near.items
         ≡ gone owned.now blobs.now) }
 {
-    let mut near = Vec::with_capacity(alloc, count_gone(owned))?;
-    push_all_near(blobs, owned, &mut near)?;
+    let mut near = Vec::with_capacity(alloc, count_removed(owned))?;
+    push_all_prefixed(blobs, owned, &mut near)?;
     Ok(near)
 }
 
@@ -190,12 +193,13 @@ fn unowned(alloc: Global, blobs: &[Digest], owned: &[bool]) -> Result<Vec<Digest
     ensures fault { Refuses result None }
     ensures ok { IfOk result (λ gone_ones. IsPermutation (gone owned.now blobs.now) gone_ones.items) }
 {
-    let digests = Vec::with_capacity(alloc, count_gone(owned))?;
+    let digests = Vec::with_capacity(alloc, count_removed(owned))?;
     let Ok(near) = near_unowned(alloc, blobs, owned) else {
         let digests = unowned_as_arrived(digests, blobs, owned)?;
         return Ok(digests);
     };
-    let near = nearly_in_order(near);
+    let near = in_prefix_order(near);
+    // For the prover: the result is opened, not passed on.
     let digests = copies_as_listed(digests, &near)?;
     Ok(digests)
 }
@@ -217,7 +221,7 @@ fn digests_in_order(digests: Vec<Digest>) -> Result<Vec<Digest>, Fault>
 
 // The blobs that no row that stays owns, and a mark for each place of one that stays. Only what goes
 // is sorted.
-pub(crate) fn blobs_gone(
+pub(crate) fn removed_blobs(
     alloc: Global,
     rows: &Slices<'_, ContentRow>,
     mask: &[bool],

@@ -4,9 +4,9 @@ ghost use Rattle.std.specs.List.Sorted.{IsPermutation};
 ghost use Rattle.meta_types.specs.Faults.{Refuses};
 ghost use Rattle.meta_types.specs.Keys.{in_order};
 ghost use Rattle.table_sweep.specs.Depths.{is_first, key_cmp, key_name};
-ghost use Rattle.table_sweep.specs.SnapshotPlaces.{above_from, deep, depths_to, AreDepths};
+ghost use Rattle.table_sweep.specs.SnapshotPlaces.{parent_from, deep, depths_to, AreDepths};
 
-use crate::places::aboves_of;
+use crate::places::parents_of;
 use meta_types::{Fault, ShortName};
 use std::alloc::Global;
 use std::cmp::Ordering;
@@ -22,11 +22,11 @@ pub(crate) struct Key {
     pub(crate) number: u64,
 }
 
-fn above_at(aboves: &[Option<usize>], place: usize) -> Option<usize>
-    ensures { result ≡ above_from aboves.now place }
+fn parent_at(parents: &[Option<usize>], place: usize) -> Option<usize>
+    ensures { result ≡ parent_from parents.now place }
 {
-    match aboves.get(place) {
-        Some(above) => *above,
+    match parents.get(place) {
+        Some(parent) => *parent,
         None => None,
     }
 }
@@ -39,18 +39,18 @@ fn known_at(depths: &[usize], place: usize) -> Option<usize>
 
 // How many ancestors there are of a place, the depths of all places before it being known. Where
 // parents are listed before their children it is one step.
-fn depth_at(aboves: &[Option<usize>], depths: &[usize], place: usize) -> usize
-    requires { depths.now ≡ depths_to aboves.now place }
-    ensures { result ≡ deep (length aboves.now) aboves.now place }
+fn depth_at(parents: &[Option<usize>], depths: &[usize], place: usize) -> usize
+    requires { depths.now ≡ depths_to parents.now place }
+    ensures { result ≡ deep (length parents.now) parents.now place }
 {
-    let most = aboves.len();
+    let most = parents.len();
     let mut at = place;
     for depth in 0..most {
         if let Some(known) = known_at(depths, at) {
             return depth + known.min(most - depth);
         }
-        match above_at(aboves, at) {
-            Some(above) => at = above,
+        match parent_at(parents, at) {
+            Some(parent) => at = parent,
             None => return depth,
         }
     }
@@ -58,13 +58,13 @@ fn depth_at(aboves: &[Option<usize>], depths: &[usize], place: usize) -> usize
 }
 
 // How many ancestors there are of each place.
-fn depths_in(alloc: Global, aboves: &[Option<usize>]) -> Result<Vec<usize>, Fault>
+fn depths_in(alloc: Global, parents: &[Option<usize>]) -> Result<Vec<usize>, Fault>
     ensures fault { Refuses result None }
-    ensures ok { IfOk result (λ depths. depths.items ≡ depths_to aboves.now (length aboves.now)) }
+    ensures ok { IfOk result (λ depths. depths.items ≡ depths_to parents.now (length parents.now)) }
 {
-    let mut depths = Vec::with_capacity(alloc, aboves.len())?;
-    for place in 0..aboves.len() {
-        let depth = depth_at(aboves, &depths, place);
+    let mut depths = Vec::with_capacity(alloc, parents.len())?;
+    for place in 0..parents.len() {
+        let depth = depth_at(parents, &depths, place);
         depths.push(depth)?;
     }
     Ok(depths)
@@ -82,8 +82,9 @@ pub(crate) fn depths_of(
     ensures count { IfOk result (λ depths. length depths.items ≡ length snapshots.now) }
     ensures ok { IfOk result (λ depths. AreDepths snapshots.now goes.now depths.items) }
 {
-    let aboves = aboves_of(alloc, snapshots, goes)?;
-    let depths = depths_in(alloc, &aboves)?;
+    let parents = parents_of(alloc, snapshots, goes)?;
+    // For the prover: the result is opened, not passed on.
+    let depths = depths_in(alloc, &parents)?;
     Ok(depths)
 }
 

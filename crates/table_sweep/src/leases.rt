@@ -3,7 +3,7 @@ ghost use Rattle.std.specs.Prelude.{◌≡◌, ◌++◌, ◌∷◌, [], map, len
 ghost use Rattle.meta_types.specs.Faults.{Refuses};
 ghost use Rattle.table_sweep.specs.Masks.{gone};
 
-use crate::masks::count_gone;
+use crate::masks::count_removed;
 use lease_book::Lease;
 use meta_types::{Fault, Name, ShortName};
 use std::alloc::Global;
@@ -29,7 +29,7 @@ pub(crate) fn lease_names(
     ensures ok { IfOk result (λ names. names.items
         ≡ map (λ row. (row.now.ns, row.now.id)) (gone mask.now rows.now)) }
 {
-    let mut names = Vec::with_capacity(alloc, count_gone(mask))?;
+    let mut names = Vec::with_capacity(alloc, count_removed(mask))?;
     for (i, row) in rows.iter().enumerate() {
         push_lease(row, mask[i], &mut names)?;
     }

@@ -30,7 +30,7 @@ pub(crate) fn count_left(mask: &[bool]) -> usize {
 }
 
 // How many rows go.
-pub(crate) fn count_gone(mask: &[bool]) -> usize {
+pub(crate) fn count_removed(mask: &[bool]) -> usize {
     mask.iter().filter(|stays| !**stays).count()
 }
 

@@ -9,8 +9,8 @@ ghost use Rattle.table_sweep.specs.Stays.{FitRows, gone_names};
 ghost use Rattle.table_sweep.specs.InKeyOrder.{name_key, snapshot_name_key, names_in_key_order};
 
 use crate::leases::lease_names;
-use crate::masks::{Masks, count_gone};
-use crate::near::{Near, nearly_sorted};
+use crate::masks::{Masks, count_removed};
+use crate::prefix_order::{Prefixed, sorted_by_prefix};
 use crate::sorting::{digests_in_order, names_in_order, snapshots_in_order};
 use gc_graph::StoreRows;
 use gc_report::Removed;
@@ -39,7 +39,7 @@ fn image_names(
     ensures ok { IfOk result (λ names. names.items
         ≡ map (λ row. (row.now.ns, row.now.name)) (gone mask.now rows.now)) }
 {
-    let mut names = Vec::with_capacity(alloc, count_gone(mask))?;
+    let mut names = Vec::with_capacity(alloc, count_removed(mask))?;
     for (i, row) in rows.iter().enumerate() {
         push_image(row, mask[i], &mut names)?;
     }
@@ -88,7 +88,7 @@ fn ingest_names(
     ensures ok { IfOk result (λ names. names.items
         ≡ map (λ row. (row.ns, row.name)) (gone mask.now rows.now)) }
 {
-    let mut names = Vec::with_capacity(alloc, count_gone(mask))?;
+    let mut names = Vec::with_capacity(alloc, count_removed(mask))?;
     let mut rest = mask;
     let slices = rows.as_slices();
     for slice in slices {
@@ -157,7 +157,7 @@ fn content_as_arrived(
 // The names of content, as it is listed.
 fn content_as_listed(
     names: Vec<(ShortName, Digest)>,
-    near: &[Near<'_, ContentRow>],
+    near: &[Prefixed<'_, ContentRow>],
 ) -> Result<Vec<(ShortName, Digest)>, Fault>
     requires { names.items ≡ [] }
     ensures fault { Refuses result None }
@@ -183,17 +183,17 @@ fn content_names(
     ensures ok { IfOk result (λ names. IsPermutation
         (map (λ row. (row.ns, row.digest)) (gone mask.now rows.now)) names.items) }
 {
-    let names = Vec::with_capacity(alloc, count_gone(mask))?;
-    let Ok(near) = nearly_sorted(alloc, rows, mask) else {
+    let names = Vec::with_capacity(alloc, count_removed(mask))?;
+    let Ok(near) = sorted_by_prefix(alloc, rows, mask) else {
         let names = content_as_arrived(names, rows, mask)?;
         return Ok(names);
     };
-    let names = content_as_listed(names, &near)?;
+    let names = content_as_listed(names, &near)?; // for the prover: opened
     Ok(names)
 }
 
 // The names of content that goes, in key order.
-fn content_gone(
+fn removed_content(
     alloc: Global,
     rows: &Slices<'_, ContentRow>,
     mask: &[bool],
@@ -204,7 +204,7 @@ fn content_gone(
         (map (λ row. (row.ns, row.digest)) (gone mask.now rows.now))) }
 {
     let names = content_names(alloc, rows, mask)?;
-    let names = digests_in_order(names)?;
+    let names = digests_in_order(names)?; // for the prover: opened
     Ok(names)
 }
 
@@ -269,7 +269,7 @@ fn snapshots_as_arrived(
 // The names of snapshots, as they are listed.
 fn snapshots_as_listed(
     names: Vec<(ShortName, ShortName, Name)>,
-    near: &[Near<'_, SnapRow>],
+    near: &[Prefixed<'_, SnapRow>],
 ) -> Result<Vec<(ShortName, ShortName, Name)>, Fault>
     requires { names.items ≡ [] }
     ensures fault { Refuses result None }
@@ -301,17 +301,17 @@ fn snapshot_names(
         (map (λ row. (row.key.ns, row.key.snapshotter, row.key.name))
         (gone mask.now rows.now)) names.items) }
 {
-    let names = Vec::with_capacity(alloc, count_gone(mask))?;
-    let Ok(near) = nearly_sorted(alloc, rows, mask) else {
+    let names = Vec::with_capacity(alloc, count_removed(mask))?;
+    let Ok(near) = sorted_by_prefix(alloc, rows, mask) else {
         let names = snapshots_as_arrived(names, rows, mask)?;
         return Ok(names);
     };
-    let names = snapshots_as_listed(names, &near)?;
+    let names = snapshots_as_listed(names, &near)?; // for the prover: opened
     Ok(names)
 }
 
 // The names of snapshots that go, in key order.
-fn snapshots_gone(
+fn removed_snapshots(
     alloc: Global,
     rows: &Slices<'_, SnapRow>,
     mask: &[bool],
@@ -323,7 +323,7 @@ fn snapshots_gone(
         (gone mask.now rows.now))) }
 {
     let names = snapshot_names(alloc, rows, mask)?;
-    let names = snapshots_in_order(names)?;
+    let names = snapshots_in_order(names)?; // for the prover: opened
     Ok(names)
 }
 
@@ -338,14 +338,14 @@ pub(crate) fn removed_of(
     ensures ok { IfOk result (λ r. r
         ≡ names_in_key_order (gone_names (records_of rows.now) masks.now)) }
 {
-    let content = content_gone(alloc, rows.content, &masks.content)?;
+    let content = removed_content(alloc, rows.content, &masks.content)?;
     let images = image_names(alloc, rows.images, &masks.images)?;
     let images = names_in_order(images)?;
     let ingests = ingest_names(alloc, rows.ingests, &masks.ingests)?;
     let ingests = names_in_order(ingests)?;
     let leases = lease_names(alloc, rows.leases, &masks.leases)?;
     let leases = names_in_order(leases)?;
-    let snapshots = snapshots_gone(alloc, rows.snapshots, &masks.snapshots)?;
+    let snapshots = removed_snapshots(alloc, rows.snapshots, &masks.snapshots)?;
     Ok(Removed {
         content,
         images,

@@ -9,15 +9,15 @@ ghost use Rattle.table_sweep.specs.BlobMarks.{AreBlobMarks};
 ghost use Rattle.table_sweep.specs.Stays.{FitRows};
 ghost use Rattle.table_sweep.specs.Depths.{key_at, key_of};
 ghost use Rattle.table_sweep.specs.SnapshotPlaces.{AreDepths};
-ghost use Rattle.table_sweep.specs.Owned.{object_of, object_cmp, begun_goes, snap_goes};
+ghost use Rattle.table_sweep.specs.Owned.{object_of, object_cmp, is_begun_removed, is_snap_removed};
 ghost use Rattle.std.specs.List.Sorted.{IsSorted};
 ghost use Rattle.std.specs.Ordering.{nat_cmp};
 ghost use Rattle.table_sweep.specs.Backed.{lists_of, left_by};
 
-use crate::blobs::blobs_gone;
+use crate::blobs::removed_blobs;
 use crate::depths::{BackSnap, Key, depths_of, in_order, names_of};
 use crate::masks::{Masks, count_left};
-use crate::owners::{begun_goes, begun_owners, snaps_go, snapshot_owners};
+use crate::owners::{begun_owners, is_begun_removed, snaps_go, snapshot_owners};
 use crate::places::has_any;
 use gc_graph::StoreRows;
 use gc_report::Objects;
@@ -38,9 +38,9 @@ fn push_ingest(owned: &[u64], number: u64, numbers: &mut Vec<u64>) -> Result<(),
     requires { IsSorted nat_cmp owned.now }
     ensures fault { Refuses result None }
     ensures ok { OnOk result (numbers.new.items ≡ numbers.old.items
-        ++ (if begun_goes owned.now number then number ∷ [] else [])) }
+        ++ (if is_begun_removed owned.now number then number ∷ [] else [])) }
 {
-    if begun_goes(owned, number) {
+    if is_begun_removed(owned, number) {
         numbers.push(number)?;
     }
     Ok(())
@@ -52,18 +52,18 @@ fn count_ingests(owned: &[u64], numbers: &[u64]) -> usize
 {
     let mut count: usize = 0;
     for number in numbers {
-        if begun_goes(owned, *number) {
+        if is_begun_removed(owned, *number) {
             count = count.saturating_add(1);
         }
     }
     count
 }
 
-fn ingests_gone(alloc: Global, owned: &[u64], numbers: &[u64]) -> Result<Vec<u64>, Fault>
+fn removed_ingests(alloc: Global, owned: &[u64], numbers: &[u64]) -> Result<Vec<u64>, Fault>
     requires { IsSorted nat_cmp owned.now }
     ensures fault { Refuses result None }
     ensures ok { IfOk result (λ v. v.items ≡ flat_map
-        (λ number. if begun_goes owned.now number then number ∷ [] else []) numbers.now) }
+        (λ number. if is_begun_removed owned.now number then number ∷ [] else []) numbers.now) }
 {
     let mut gone = Vec::with_capacity(alloc, count_ingests(owned, numbers))?;
     for number in numbers {
@@ -119,17 +119,24 @@ fn keys_among(alloc: Global, goes: &[bool], snapshots: &[BackSnap]) -> Result<Ve
         return Ok(Vec::new(alloc));
     }
     let depths = depths_of(alloc, snapshots, goes)?;
+    // For the prover: the result is opened, not passed on.
     let keys = keys_in(alloc, goes, snapshots, &depths)?;
     Ok(keys)
 }
 
-fn keys_gone(alloc: Global, owners: &[&SnapRow], snapshots: &[BackSnap]) -> Result<Vec<Key>, Fault>
+fn removed_keys(
+    alloc: Global,
+    owners: &[&SnapRow],
+    snapshots: &[BackSnap],
+) -> Result<Vec<Key>, Fault>
     requires { IsSorted (λ a b. object_cmp (object_of a.now) (object_of b.now)) owners.now }
     ensures fault { Refuses result None }
     ensures ok { IfOk result (λ v. v.items ≡ flat_map
-        (λ s. if snap_goes (map (λ owner. owner.now) owners.now) s then key_of snapshots.now s ∷ [] else []) snapshots.now) }
+        (λ s. if is_snap_removed (map (λ owner. owner.now) owners.now) s then key_of snapshots.now s
+        ∷ [] else []) snapshots.now) }
 {
     let goes = snaps_go(alloc, owners, snapshots)?;
+    // For the prover: the result is opened, not passed on.
     let keys = keys_among(alloc, &goes, snapshots)?;
     Ok(keys)
 }
@@ -147,11 +154,11 @@ pub(crate) fn objects_of(
         (left_by (records_of rows.now) masks.now) no_objects (lists_of back.now)) }
     ensures blobs { IfOk result (λ made. AreBlobMarks made.0.blobs back.now.blobs.now made.1.items) }
 {
-    let (blobs, marks) = blobs_gone(alloc, rows.content, &masks.content, back.blobs)?;
+    let (blobs, marks) = removed_blobs(alloc, rows.content, &masks.content, back.blobs)?;
     let owned = begun_owners(alloc, rows.ingests, &masks.ingests)?;
-    let ingests = ingests_gone(alloc, &owned, back.ingests)?;
+    let ingests = removed_ingests(alloc, &owned, back.ingests)?;
     let owners = snapshot_owners(alloc, rows.snapshots, &masks.snapshots)?;
-    let keys = keys_gone(alloc, &owners, back.snapshots)?;
+    let keys = removed_keys(alloc, &owners, back.snapshots)?;
     let keys = in_order(keys)?;
     let snapshots = names_of(alloc, &keys)?;
     let objects = Objects {

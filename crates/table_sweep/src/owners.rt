@@ -5,7 +5,7 @@ ghost use Rattle.std.specs.List.Sorted.{IsSorted, IsPermutation};
 ghost use Rattle.std.specs.Ordering.{nat_cmp};
 ghost use Rattle.meta_types.specs.Faults.{Refuses};
 ghost use Rattle.object_tables.specs.Calls.{kept};
-ghost use Rattle.table_sweep.specs.Owned.{object_of, object_cmp, name_of, begun_goes, snap_goes};
+ghost use Rattle.table_sweep.specs.Owned.{object_of, object_cmp, name_of, is_begun_removed, is_snap_removed};
 
 use crate::depths::BackSnap;
 use crate::masks::count_left;
@@ -73,9 +73,9 @@ pub(crate) fn begun_owners(
 }
 
 // No row among the owners has the number.
-pub(crate) fn begun_goes(owned: &[u64], number: u64) -> bool
+pub(crate) fn is_begun_removed(owned: &[u64], number: u64) -> bool
     requires { IsSorted nat_cmp owned.now }
-    ensures { result ≡ begun_goes owned.now number }
+    ensures { result ≡ is_begun_removed owned.now number }
 {
     owned.binary_search(&number).is_err()
 }
@@ -171,7 +171,7 @@ fn compare_name(row: &SnapRow, snap: &BackSnap) -> Ordering
 // The place of the owner that has the snapshot's name, or where one would stand.
 fn owner_place(owners: &[&SnapRow], snap: &BackSnap) -> Result<usize, usize>
     requires { IsSorted (λ a b. object_cmp (object_of a.now) (object_of b.now)) owners.now }
-    ensures { is_err result ≡ snap_goes (map (λ owner. owner.now) owners.now) snap.now }
+    ensures { is_err result ≡ is_snap_removed (map (λ owner. owner.now) owners.now) snap.now }
 {
     owners.binary_search_by(
         |row: &&SnapRow| -> Ordering
@@ -189,7 +189,8 @@ fn is_own(row: &SnapRow, snap: &BackSnap) -> bool
 
 // Whether the owner at a place has the snapshot's name.
 fn owns_at(owners: &[&SnapRow], place: usize, snap: &BackSnap) -> bool
-    ensures { result ≡ true → snap_goes (map (λ owner. owner.now) owners.now) snap.now ≡ false }
+    ensures { result ≡ true → is_snap_removed (map (λ owner. owner.now) owners.now) snap.now
+        ≡ false }
 {
     match owners.get(place) {
         Some(row) => is_own(row, snap),
@@ -203,7 +204,8 @@ const TRIES: usize = 4;
 
 // The place of the owner that has the snapshot's name, if it is one of the next.
 fn near_owner(owners: &[&SnapRow], next: usize, snap: &BackSnap) -> Option<usize>
-    ensures { IfSome result (λ _. snap_goes (map (λ owner. owner.now) owners.now) snap.now ≡ false) }
+    ensures { IfSome result (λ _. is_snap_removed (map (λ owner. owner.now) owners.now) snap.now
+        ≡ false) }
 {
     for at in next..next.saturating_add(TRIES) {
         if owns_at(owners, at, snap) {
@@ -215,9 +217,9 @@ fn near_owner(owners: &[&SnapRow], next: usize, snap: &BackSnap) -> Option<usize
 
 // No row among the owners has the snapshot's name. Most snapshots are listed as their owners stand:
 // so the owners behind the last one that was found are tried first.
-fn snap_goes(owners: &[&SnapRow], next: &mut usize, snap: &BackSnap) -> bool
+fn is_snap_removed(owners: &[&SnapRow], next: &mut usize, snap: &BackSnap) -> bool
     requires { IsSorted (λ a b. object_cmp (object_of a.now) (object_of b.now)) owners.now }
-    ensures { result ≡ snap_goes (map (λ owner. owner.now) owners.now) snap.now }
+    ensures { result ≡ is_snap_removed (map (λ owner. owner.now) owners.now) snap.now }
 {
     if let Some(place) = near_owner(owners, *next, snap) {
         *next = place.saturating_add(1);
@@ -244,12 +246,12 @@ pub(crate) fn snaps_go(
     requires { IsSorted (λ a b. object_cmp (object_of a.now) (object_of b.now)) owners.now }
     ensures fault { Refuses result None }
     ensures ok { IfOk result (λ goes. goes.items
-        ≡ map (snap_goes (map (λ owner. owner.now) owners.now)) snapshots.now) }
+        ≡ map (is_snap_removed (map (λ owner. owner.now) owners.now)) snapshots.now) }
 {
     let mut goes = Vec::with_capacity(alloc, snapshots.len())?;
     let mut next = 0;
     for snap in snapshots {
-        goes.push(snap_goes(owners, &mut next, snap))?;
+        goes.push(is_snap_removed(owners, &mut next, snap))?;
     }
     Ok(goes)
 }

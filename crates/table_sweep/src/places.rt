@@ -5,7 +5,7 @@ ghost use Rattle.std.specs.Ordering.{is_lt, is_gt, nat_cmp};
 ghost use Rattle.meta_types.specs.Faults.{Refuses};
 ghost use Rattle.meta_types.specs.Text.{text_cmp};
 ghost use Rattle.table_sweep.specs.Depths.{Listed};
-ghost use Rattle.table_sweep.specs.SnapshotPlaces.{has_name, name_of, name_cmp, stands_before, AreListed, above_place, IsRun, IsRunOf, HasNumber, AreSought, LeadUp};
+ghost use Rattle.table_sweep.specs.SnapshotPlaces.{has_name, name_of, name_cmp, stands_before, AreListed, parent_place, IsRun, IsRunOf, HasNumber, AreSought, LeadUp};
 
 use crate::depths::BackSnap;
 use meta_types::{Fault, ShortName};
@@ -64,7 +64,7 @@ fn first_place(snapshots: &[BackSnap], snapshotter: &ShortName, number: u64) -> 
 
 // The places of one snapshotter's snapshots: they stand together, by number.
 #[derive(Clone, Copy)]
-struct Run {
+struct ShardRun {
     start: usize,
     end: usize,
 }
@@ -108,24 +108,24 @@ fn run_end(snapshots: &[BackSnap], snapshotter: &ShortName) -> usize
     )
 }
 
-fn run_of(snapshots: &[BackSnap], snapshotter: &ShortName) -> Run
+fn run_of(snapshots: &[BackSnap], snapshotter: &ShortName) -> ShardRun
     requires { AreListed snapshots.now }
     ensures end { result.end ≤ length snapshots.now }
     ensures run { IsRunOf snapshots.now snapshotter.now result.start result.end }
 {
     let start = run_start(snapshots, snapshotter);
     let end = run_end(snapshots, snapshotter);
-    Run { start, end }
+    ShardRun { start, end }
 }
 
-fn is_in(run: Run, place: usize) -> bool
+fn is_in(run: ShardRun, place: usize) -> bool
     ensures { result ≡ true → (run.start ≤ place) × (place < run.end) }
 {
     run.start <= place && place < run.end
 }
 
 // The run of the snapshot at a place. Most are of the last one's.
-fn run_at(snapshots: &[BackSnap], last: Run, at: usize) -> Run
+fn run_at(snapshots: &[BackSnap], last: ShardRun, at: usize) -> ShardRun
     requires listed { AreListed snapshots.now }
     requires at { at < length snapshots.now }
     requires end { last.end ≤ length snapshots.now }
@@ -142,7 +142,7 @@ fn run_at(snapshots: &[BackSnap], last: Run, at: usize) -> Run
 }
 
 // Whether a place is of the run, and the snapshot there has the number.
-fn has_number(snapshots: &[BackSnap], run: Run, place: usize, number: u64) -> bool
+fn has_number(snapshots: &[BackSnap], run: ShardRun, place: usize, number: u64) -> bool
     requires { run.end ≤ length snapshots.now }
     ensures { result ≡ true → HasNumber snapshots.now run.start run.end number place }
 {
@@ -151,7 +151,7 @@ fn has_number(snapshots: &[BackSnap], run: Run, place: usize, number: u64) -> bo
 
 // The part of a run where the parent of the one at `at` can stand: from each snapshot to the next
 // numbers rise by one at least.
-fn part_of(snapshots: &[BackSnap], run: Run, at: usize, number: u64) -> Run
+fn part_of(snapshots: &[BackSnap], run: ShardRun, at: usize, number: u64) -> ShardRun
     requires { run.end ≤ length snapshots.now }
     ensures start { run.start ≤ result.start }
     ensures end { result.end ≤ run.end }
@@ -163,14 +163,14 @@ fn part_of(snapshots: &[BackSnap], run: Run, at: usize, number: u64) -> Run
     let before = number.saturating_sub(snapshots[run.start].1) as usize;
     let low = at.saturating_sub(behind);
     let high = run.start.saturating_add(before).saturating_add(1);
-    Run {
+    ShardRun {
         start: low.max(run.start),
         end: high.min(run.end),
     }
 }
 
 // The place of a number in a run, by halving.
-fn place_in(snapshots: &[BackSnap], run: Run, number: u64) -> Option<usize>
+fn place_in(snapshots: &[BackSnap], run: ShardRun, number: u64) -> Option<usize>
     requires { run.end ≤ length snapshots.now }
     ensures { IfSome result (λ place. HasNumber snapshots.now run.start run.end number place) }
 {
@@ -190,7 +190,7 @@ fn place_in(snapshots: &[BackSnap], run: Run, number: u64) -> Option<usize>
 // numbers alone are compared. What is in no run is sought by its whole name.
 fn listed_place(
     snapshots: &[BackSnap],
-    run: Run,
+    run: ShardRun,
     at: usize,
     snapshotter: &ShortName,
     number: u64,
@@ -215,7 +215,7 @@ fn listed_place(
 fn place(
     snapshots: &[BackSnap],
     listed: bool,
-    run: &mut Run,
+    run: &mut ShardRun,
     at: usize,
     number: u64,
 ) -> Option<usize>
@@ -238,15 +238,15 @@ fn place(
 
 // The place of the parent of the snapshot at `at`. Many stand behind their parents: so the place
 // before is tried first.
-fn above(snapshots: &[BackSnap], listed: bool, run: &mut Run, at: usize) -> Option<usize>
+fn parent(snapshots: &[BackSnap], listed: bool, run: &mut ShardRun, at: usize) -> Option<usize>
     requires listed { listed ≡ true → AreListed snapshots.now }
     requires at { at < length snapshots.now }
     requires end { run.old.end ≤ length snapshots.now }
     requires run { IsRun snapshots.now run.old.start run.old.end }
     ensures end { run.new.end ≤ length snapshots.now }
     ensures run { IsRun snapshots.now run.new.start run.new.end }
-    ensures above { (s : Listed) → slice_get snapshots.now at ≡ Some s
-        → result ≡ above_place snapshots.now s }
+    ensures parent { (s : Listed) → slice_get snapshots.now at ≡ Some s
+        → result ≡ parent_place snapshots.now s }
 {
     let snap = &snapshots[at];
     match snap.2 {
@@ -256,22 +256,22 @@ fn above(snapshots: &[BackSnap], listed: bool, run: &mut Run, at: usize) -> Opti
 }
 
 // For each snapshot the place of its parent, where it has one that is listed.
-fn all_aboves(
+fn all_parents(
     alloc: Global,
     snapshots: &[BackSnap],
     listed: bool,
 ) -> Result<Vec<Option<usize>>, Fault>
     requires { listed ≡ true → AreListed snapshots.now }
     ensures fault { Refuses result None }
-    ensures ok { IfOk result (λ aboves. aboves.items
-        ≡ map (above_place snapshots.now) snapshots.now) }
+    ensures ok { IfOk result (λ parents. parents.items
+        ≡ map (parent_place snapshots.now) snapshots.now) }
 {
-    let mut run = Run { start: 0, end: 0 };
-    let mut aboves = Vec::with_capacity(alloc, snapshots.len())?;
+    let mut run = ShardRun { start: 0, end: 0 };
+    let mut parents = Vec::with_capacity(alloc, snapshots.len())?;
     for at in 0..snapshots.len() {
-        aboves.push(above(snapshots, listed, &mut run, at))?;
+        parents.push(parent(snapshots, listed, &mut run, at))?;
     }
-    Ok(aboves)
+    Ok(parents)
 }
 
 fn is_needed(needed: &Vec<bool>, place: usize) -> bool
@@ -299,16 +299,16 @@ fn mark(needed: &mut Vec<bool>, at: usize, place: usize) -> bool
 }
 
 // Marks the place of a parent.
-fn need(needed: &mut Vec<bool>, at: usize, above: Option<usize>) -> bool
-    requires { IfSome above (λ place. place < length needed.old.items) }
+fn mark_parent(needed: &mut Vec<bool>, at: usize, parent: Option<usize>) -> bool
+    requires { IfSome parent (λ place. place < length needed.old.items) }
     ensures count { length needed.new.items ≡ length needed.old.items }
     ensures grows { (k : ℕ) → get_or needed.old.items k false ≡ true
         → get_or needed.new.items k false ≡ true }
-    ensures there { IfSome above (λ place. get_or needed.new.items place false ≡ true) }
+    ensures there { IfSome parent (λ place. get_or needed.new.items place false ≡ true) }
     ensures late { result ≡ false → (k : ℕ) → at ≤ k → get_or needed.new.items k false ≡ true
         → get_or needed.old.items k false ≡ true }
 {
-    match above {
+    match parent {
         Some(place) => mark(needed, at, place),
         None => false,
     }
@@ -316,40 +316,40 @@ fn need(needed: &mut Vec<bool>, at: usize, above: Option<usize>) -> bool
 
 // Seeks the parent of the snapshot at `at`, if that is needed, and marks it. Tells whether it comes
 // too late.
-fn seek(
+fn seek_parent(
     snapshots: &[BackSnap],
     listed: bool,
-    run: &mut Run,
+    run: &mut ShardRun,
     at: usize,
-    aboves: &mut Vec<Option<usize>>,
+    parents: &mut Vec<Option<usize>>,
     needed: &mut Vec<bool>,
 ) -> bool
     requires listed { listed ≡ true → AreListed snapshots.now }
     requires at { at < length snapshots.now }
     requires end { run.old.end ≤ length snapshots.now }
     requires run { IsRun snapshots.now run.old.start run.old.end }
-    requires aboves { length aboves.old.items ≡ length snapshots.now }
+    requires parents { length parents.old.items ≡ length snapshots.now }
     requires needed { length needed.old.items ≡ length snapshots.now }
     ensures end { run.new.end ≤ length snapshots.now }
     ensures run { IsRun snapshots.now run.new.start run.new.end }
-    ensures aboves { length aboves.new.items ≡ length aboves.old.items }
+    ensures parents { length parents.new.items ≡ length parents.old.items }
     ensures needed { length needed.new.items ≡ length needed.old.items }
     ensures grows { (k : ℕ) → get_or needed.old.items k false ≡ true
         → get_or needed.new.items k false ≡ true }
     ensures sought { result ≡ false
-        → AreSought snapshots.now (at + 1) aboves.old.items needed.old.items
-        → AreSought snapshots.now at aboves.new.items needed.new.items }
+        → AreSought snapshots.now (at + 1) parents.old.items needed.old.items
+        → AreSought snapshots.now at parents.new.items needed.new.items }
 {
     if !is_needed(needed, at) {
         return false;
     }
-    let above = above(snapshots, listed, run, at);
-    aboves[at] = above;
-    need(needed, at, above)
+    let parent = parent(snapshots, listed, run, at);
+    parents[at] = parent;
+    mark_parent(needed, at, parent)
 }
 
 // From those that go upward the places of parents, where all stand before their children.
-fn aboves_upward(
+fn parents_upward(
     alloc: Global,
     snapshots: &[BackSnap],
     listed: bool,
@@ -359,21 +359,21 @@ fn aboves_upward(
     requires goes { length goes.now ≡ length snapshots.now }
     ensures fault { Refuses result None }
     ensures count { IfOk result (λ found. IfSome found
-        (λ aboves. length aboves.items ≡ length snapshots.now)) }
+        (λ parents. length parents.items ≡ length snapshots.now)) }
     ensures ok { IfOk result (λ found. IfSome found
-        (λ aboves. LeadUp snapshots.now goes.now aboves.items)) }
+        (λ parents. LeadUp snapshots.now goes.now parents.items)) }
 {
-    let mut run = Run { start: 0, end: 0 };
+    let mut run = ShardRun { start: 0, end: 0 };
     let mut needed = goes.to_vec(alloc)?;
-    let mut aboves = Vec::with_capacity(alloc, snapshots.len())?;
-    aboves.resize(snapshots.len(), None)?;
+    let mut parents = Vec::with_capacity(alloc, snapshots.len())?;
+    parents.resize(snapshots.len(), None)?;
     for done in 0..snapshots.len() {
         let at = snapshots.len() - 1 - done;
-        if seek(snapshots, listed, &mut run, at, &mut aboves, &mut needed) {
+        if seek_parent(snapshots, listed, &mut run, at, &mut parents, &mut needed) {
             return Ok(None);
         }
     }
-    Ok(Some(aboves))
+    Ok(Some(parents))
 }
 
 // Whether any goes.
@@ -385,20 +385,20 @@ pub(crate) fn has_any(goes: &[bool]) -> bool
 
 // The places of parents, such that those that go have as many above them as they have ancestors.
 // Where a parent stands behind its child, those of all are sought.
-pub(crate) fn aboves_of(
+pub(crate) fn parents_of(
     alloc: Global,
     snapshots: &[BackSnap],
     goes: &[bool],
 ) -> Result<Vec<Option<usize>>, Fault>
     requires { length goes.now ≡ length snapshots.now }
     ensures fault { Refuses result None }
-    ensures count { IfOk result (λ aboves. length aboves.items ≡ length snapshots.now) }
-    ensures ok { IfOk result (λ aboves. LeadUp snapshots.now goes.now aboves.items) }
+    ensures count { IfOk result (λ parents. length parents.items ≡ length snapshots.now) }
+    ensures ok { IfOk result (λ parents. LeadUp snapshots.now goes.now parents.items) }
 {
     let listed = has_any(goes) && are_listed(snapshots);
-    if let Some(aboves) = aboves_upward(alloc, snapshots, listed, goes)? {
-        return Ok(aboves);
+    if let Some(parents) = parents_upward(alloc, snapshots, listed, goes)? {
+        return Ok(parents);
     }
-    let aboves = all_aboves(alloc, snapshots, listed)?;
-    Ok(aboves)
+    let parents = all_parents(alloc, snapshots, listed)?; // for the prover: opened
+    Ok(parents)
 }

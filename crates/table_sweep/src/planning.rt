@@ -14,8 +14,8 @@ ghost use Rattle.table_sweep.specs.Plans.{dry_report_of};
 use crate::counts::{count_marked, kept_of};
 use crate::masks::{Masks, masks_of};
 use crate::objects::BackRows;
+use crate::parallel::{Removals, Team, removals_of};
 use crate::sorting::names_in_order;
-use crate::together::{Gone, Team, gone_of};
 use gc_graph::{Ignored, NodeBook, StoreRows};
 use gc_report::{Objects, Report};
 use mark_core::Marks;
@@ -72,7 +72,7 @@ pub fn plan_of<R: Threads + Sync>(
         plan.blobs.items) }
 {
     let masks = masks_of(team.alloc, rows, book, marks, at)?;
-    let gone = gone_of(team, rows, &masks, back)?;
+    let gone = removals_of(team, rows, &masks, back)?;
     let kept = kept_of(rows, &masks, namespaces);
     let scanned = count_marked(marks, count_nodes(rows)) as u64;
     let Ignored {
@@ -81,7 +81,7 @@ pub fn plan_of<R: Threads + Sync>(
     } = ignored;
     let ignored = names_in_order(ignored)?;
     let ignored_images = names_in_order(ignored_images)?;
-    let Gone {
+    let Removals {
         removed,
         backend,
         blobs,

@@ -105,6 +105,7 @@ impl<'a> ListedRows<'a> {
         ensures ok { IfOk result (λ others. others.items
             ≡ map (is_other image_key (ns.now ∷ name.now ∷ [])) self.now.tables.images) }
     {
+        // For the prover: the result is opened, not passed on.
         let others = others_of_images(alloc, &self.images, ns, name)?;
         Ok(others)
     }
@@ -116,6 +117,7 @@ impl<'a> ListedRows<'a> {
         ensures ok { IfOk result (λ others. others.items
             ≡ map (is_other lease_key (ns.now ∷ id.now ∷ [])) self.now.leases) }
     {
+        // For the prover: the result is opened, not passed on.
         let others = others_of_leases(alloc, &self.leases, ns, id)?;
         Ok(others)
     }

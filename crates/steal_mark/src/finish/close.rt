@@ -31,6 +31,7 @@ pub fn close(deque: &mut Deque, rows: &mut [Vec<ThiefPass>], graph: &Graph, dequ
         };
         let ThiefPass { stealer, pass } = other;
         deque.absorb::<SplitPass>(pass);
+        // For the prover: dropped by a call, not in place.
         drop(stealer);
     }
 }

@@ -51,6 +51,7 @@ impl<L: Ledger, S: SnapBackend, B: BlobBackend, I: IngestBackend> Locked<L, S, B
             share,
         } = session;
         if make_room(log, list).is_err() {
+            // For the prover: dropped by a call, not in place.
             drop(request);
             return Err(Fault::OutOfMemory);
         }

@@ -5,10 +5,10 @@ ghost use Rattle.collection.specs.Refused.{CollectFails};
 ghost use Rattle.store_front.specs.KeptAnswers.{kept_if, kept_report, Takes, log_after, list_after, report_failures};
 ghost use Rattle.meta_types.specs.Sound.{IsSound};
 
-use crate::calls::asked::Asked;
+use crate::calls::call_resources::CallResources;
 use crate::event::pairs::Events;
 use crate::event::room::{keep_report, make_room, report_alone, report_rooms};
-use crate::keeps::Keeps;
+use crate::history_mode::HistoryMode;
 use crate::locked::Locked;
 use crate::session::Session;
 use back_model::{BlobBackend, IngestBackend, SnapBackend};
@@ -31,22 +31,23 @@ pub(crate) fn run_collect<
     I: IngestBackend,
     G: Gate,
     H: SweepGate,
-    K: Keeps,
+    K: HistoryMode,
 >(
-    asked: &Asked<'_, R, G, H>,
+    resources: &CallResources<'_, R, G, H>,
     state: &mut State<S, B, I>,
     at: Instant,
     dry: bool,
 ) -> Result<Reports<K>, Fault>
     requires { IsSound state.old.state }
-    ensures step { Takes state.old.state (collect at.0 dry asked.now.workers) (kept_report result)
+    ensures step { Takes state.old.state (collect at.0 dry resources.now.workers)
+        (kept_report result)
         state.new.state }
     ensures fault { IfErr result (λ f. CollectFails f
-        (collect_fault state.old.state.records asked.now.workers)) }
+        (collect_fault state.old.state.records resources.now.workers)) }
     ensures failures { state.new.failures ≡ state.old.failures + report_failures result }
     ensures sound { IsSound state.new.state }
 {
-    let Some(crew) = asked.crew() else {
+    let Some(crew) = resources.crew() else {
         return Err(Fault::InvalidArgument);
     };
     if dry {
@@ -63,28 +64,35 @@ pub(crate) fn run_removal<
     I: IngestBackend,
     G: Gate,
     H: SweepGate,
-    K: Keeps,
+    K: HistoryMode,
 >(
-    asked: &Asked<'_, R, G, H>,
+    resources: &CallResources<'_, R, G, H>,
     state: &mut State<S, B, I>,
     removal: &Removal,
     at: Instant,
 ) -> Result<Reports<K>, Fault>
     requires { IsSound state.old.state }
     ensures step { Takes state.old.state
-        (remove_collect removal.now at.0 asked.now.workers) (kept_report result) state.new.state }
+        (remove_collect removal.now at.0 resources.now.workers)
+        (kept_report result) state.new.state }
     ensures fault { IfErr result (λ f. CollectFails f
-        (remove_collect_fault state.old.state removal.now asked.now.workers)) }
+        (remove_collect_fault state.old.state removal.now resources.now.workers)) }
     ensures failures { state.new.failures ≡ state.old.failures + report_failures result }
     ensures sound { IsSound state.new.state }
 {
-    let Some(crew) = asked.crew() else {
+    let Some(crew) = resources.crew() else {
         return Err(Fault::InvalidArgument);
     };
     collection::remove_collect(&crew, state, removal, at)
 }
 
-impl<L: Ledger, S: SnapBackend, B: BlobBackend, I: IngestBackend, K: Keeps> Locked<L, S, B, I, K> {
+impl<L: Ledger, S: SnapBackend, B: BlobBackend, I: IngestBackend, K: HistoryMode> Locked<
+    L,
+    S,
+    B,
+    I,
+    K,
+> {
     /// Collects with this number of workers, or with `dry` only reports the removals. It is an
     /// entry unless memory ran out or a thread couldn't be started. From the first removal on
     /// nothing is refused.
@@ -120,7 +128,7 @@ impl<L: Ledger, S: SnapBackend, B: BlobBackend, I: IngestBackend, K: Keeps> Lock
             book,
             ..
         } = self;
-        let asked = Asked {
+        let resources = CallResources {
             rt,
             alloc,
             workers,
@@ -128,7 +136,7 @@ impl<L: Ledger, S: SnapBackend, B: BlobBackend, I: IngestBackend, K: Keeps> Lock
             sweep_gate,
         };
         if !K::KEPT {
-            let reports = run_collect(&asked, state, at, dry);
+            let reports = run_collect(&resources, state, at, dry);
             return report_alone(reports);
         }
         let Session {
@@ -143,7 +151,7 @@ impl<L: Ledger, S: SnapBackend, B: BlobBackend, I: IngestBackend, K: Keeps> Lock
         let Ok(rooms) = report_rooms(alloc) else {
             return Err(Fault::OutOfMemory);
         };
-        let reports = run_collect(&asked, state, at, dry);
+        let reports = run_collect(&resources, state, at, dry);
         keep_report(log, list, book, share, *number, events, rooms, reports)
     }
 }
@@ -183,7 +191,7 @@ impl<L: Ledger, S: SnapBackend, B: BlobBackend, I: IngestBackend> Locked<L, S, B
             book,
             ..
         } = self;
-        let asked = Asked {
+        let resources = CallResources {
             rt,
             alloc,
             workers,
@@ -205,7 +213,7 @@ impl<L: Ledger, S: SnapBackend, B: BlobBackend, I: IngestBackend> Locked<L, S, B
             return Err(Fault::OutOfMemory);
         };
         let removal = shared.get();
-        let reports = run_removal(&asked, state, removal, at);
+        let reports = run_removal(&resources, state, removal, at);
         keep_report(log, list, book, share, *number, events, rooms, reports)
     }
 }

@@ -8,7 +8,7 @@ ghost use Rattle.store_front.specs.Questions.{CopyFails, AnswersOf};
 
 use crate::calls::plan_copy::Copied;
 use crate::history::base::History;
-use crate::keeps::Keeps;
+use crate::history_mode::HistoryMode;
 use crate::locked::Locked;
 use crate::session::Session;
 use crate::store::Store;
@@ -26,7 +26,13 @@ pub struct Explained {
     pub cut: History,
 }
 
-impl<L: Ledger, S: SnapBackend, B: BlobBackend, I: IngestBackend, K: Keeps> Locked<L, S, B, I, K> {
+impl<L: Ledger, S: SnapBackend, B: BlobBackend, I: IngestBackend, K: HistoryMode> Locked<
+    L,
+    S,
+    B,
+    I,
+    K,
+> {
     /// What keeps a row at a moment, or kept it until its root ended. The store stays as it is.
     pub fn explain<R: Threads + Sync>(
         &self,

@@ -15,7 +15,7 @@ use crate::session::Session;
 use crate::store::Store;
 use back_model::{BlobBackend, IngestBackend, SnapBackend};
 use backend_sweep::OpenSweepGate;
-use collection::Crew;
+use collection::CollectionCrew;
 use gc_report::Report;
 use meta_types::{Fault, Instant, Workers};
 use std::alloc::Global;
@@ -27,7 +27,7 @@ use steal_mark::Gate;
 
 /// What a collection would report, and the history of the store that it was planned on.
 #[derive(Drop)]
-pub struct Planned {
+pub struct PlannedCopy {
     pub report: Report,
     pub cut: History,
 }
@@ -67,7 +67,7 @@ impl<L: Ledger, S: SnapBackend, B: BlobBackend, I: IngestBackend> Store<L, S, B,
         at: Instant,
         workers: usize,
         gate: &G,
-    ) -> Result<Planned, Fault>
+    ) -> Result<PlannedCopy, Fault>
         ensures own { IfOk result (λ p. IsPart p.cut.log session.now) }
         ensures planned { IfOk result (λ p. (state : Kept) × IsLegal p.cut.base p.cut.log state
             × Plans state at.0 p.report) }
@@ -78,7 +78,7 @@ impl<L: Ledger, S: SnapBackend, B: BlobBackend, I: IngestBackend> Store<L, S, B,
             return Err(Fault::InvalidArgument);
         };
         let Copied { cut, now } = self.inner.lock(rt).copies(alloc, session)?;
-        let crew = Crew {
+        let crew = CollectionCrew {
             rt,
             alloc,
             workers,
@@ -86,14 +86,16 @@ impl<L: Ledger, S: SnapBackend, B: BlobBackend, I: IngestBackend> Store<L, S, B,
             sweep_gate: &OpenSweepGate,
         };
         let made = collection::dry_report(&crew, &now.records, &now.lists, at);
+        // For the prover: dropped by a call, not in place.
         drop(now);
         let report = match made {
             Ok(report) => report,
             Err(fault) => {
+                // For the prover: dropped by a call, not in place.
                 drop(cut);
                 return Err(fault);
             }
         };
-        Ok(Planned { report, cut })
+        Ok(PlannedCopy { report, cut })
     }
 }

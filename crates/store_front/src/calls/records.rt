@@ -1,13 +1,19 @@
 //! The records of a store, and how many blobs it holds.
 ghost use Rattle.std.specs.Prelude.{◌≡◌};
 
-use crate::keeps::Keeps;
+use crate::history_mode::HistoryMode;
 use crate::locked::Locked;
 use back_model::{BlobBackend, IngestBackend, SnapBackend};
 use request_core::Records;
 use std::sync::ledger::Ledger;
 
-impl<L: Ledger, S: SnapBackend, B: BlobBackend, I: IngestBackend, K: Keeps> Locked<L, S, B, I, K> {
+impl<L: Ledger, S: SnapBackend, B: BlobBackend, I: IngestBackend, K: HistoryMode> Locked<
+    L,
+    S,
+    B,
+    I,
+    K,
+> {
     /// The records of the store.
     pub fn records(&self) -> &Records
         ensures tables { result.now.tables ≡ self.now.store.state.records.tables }

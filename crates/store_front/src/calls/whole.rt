@@ -3,7 +3,7 @@ ghost use Rattle.std.specs.Prelude.{◌≡◌};
 ghost use Rattle.meta_types.specs.Sound.{IsSound};
 ghost use Rattle.store_front.specs.NextNumber.{raised};
 
-use crate::keeps::{Keeps, WithoutHistory};
+use crate::history_mode::{HistoryMode, WithoutHistory};
 use crate::locked::Locked;
 use back_model::{BlobBackend, IngestBackend, SnapBackend};
 use request_core::State;
@@ -27,7 +27,13 @@ fn raise_soundly<S: SnapBackend, B: BlobBackend, I: IngestBackend>(
     raise(state, number);
 }
 
-impl<L: Ledger, S: SnapBackend, B: BlobBackend, I: IngestBackend, K: Keeps> Locked<L, S, B, I, K> {
+impl<L: Ledger, S: SnapBackend, B: BlobBackend, I: IngestBackend, K: HistoryMode> Locked<
+    L,
+    S,
+    B,
+    I,
+    K,
+> {
     /// The store.
     pub fn state(&self) -> &State<S, B, I>
         ensures { result.now ≡ self.now.store }

@@ -17,9 +17,9 @@ pub struct KeptReport {
 
 impl Model for KeptReport {
     ghost use Rattle.std.specs.Box.{box_value};
-    ghost use Rattle.meta_types.specs.Reports.{Report as Said};
+    ghost use Rattle.meta_types.specs.Reports.{Report as ReportValue};
 
-    ghost Value = { Said };
+    ghost Value = { ReportValue };
 
     ghost view = { λ r. box_value r.one };
 }

@@ -80,10 +80,10 @@ pub(crate) struct Answers {
 
 impl Model for Answers {
     ghost use Rattle.std.specs.Prelude.{◌≡◌};
-    ghost use Rattle.meta_types.specs.Steps.{Answer as Said};
+    ghost use Rattle.meta_types.specs.Steps.{Answer as AnswerValue};
     ghost use Rattle.store_front.specs.Entries.{answer_of};
 
-    ghost Value = { Said };
+    ghost Value = { AnswerValue };
 
     ghost view = { λ a. answer_of a.log };
 

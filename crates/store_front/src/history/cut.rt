@@ -49,6 +49,7 @@ impl<L: Ledger, S: SnapBackend, B: BlobBackend, I: IngestBackend> Locked<L, S, B
     {
         let checked = check_sessions(alloc, self.opened, &sessions, &self.log);
         if let Err(fault) = checked {
+            // For the prover: dropped by a call, not in place.
             drop(self);
             return Err(fault);
         }

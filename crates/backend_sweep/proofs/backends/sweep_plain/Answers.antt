@@ -1,5 +1,5 @@
 use Rattle.std.proofs.Common.{sym, ap, subst}
-use Rattle.backend_sweep.specs.Fated.{AllFates}
+use Rattle.backend_sweep.specs.ObjectOutcomes.{AllOutcomes}
 use Rattle.backend_sweep.specs.Shards.{is_number}
 use Rattle.backend_sweep.specs.Singles.{AreHeldOnce}
 use Rattle.backend_sweep.specs.Tasks.{MaySweepBlobs}
@@ -35,23 +35,27 @@ pub put_back-requires-clause-apart : goal.put_back-requires-clause-apart
 put_back-requires-clause-apart g c κs within =
     news_apart g.S.SnapBackend.contents g.S.SnapBackend.fails c.args.backends.now.shards _ _ c.args.plan.now.report.backend (may_sweep _ _ c.requires.planned) c.in_ok-task.ensures.order c.in_ok-task.task c.in_ok-task.ensures.jobs c.sweep_in_turn.new.self c.sweep_in_turn.ensures
 
--- all is swept, as the fates say
+-- all is swept, as the outcomes say
 pub returns-clause-ok : goal.returns-clause-ok
 returns-clause-ok g c =
     let taken = c.in_ok-task.ensures.ok in
     let put = c.put_back.ensures.shards in
-    let last : AllFates = c.put_back.new.fates in
+    let last : AllOutcomes = c.put_back.new.outcomes in
     swept_by g.S.SnapBackend.contents g.S.SnapBackend.fails g.B.BlobBackend.contents g.B.BlobBackend.fails g.I.IngestBackend.contents g.I.IngestBackend.fails c.args.backends.now.shards c.args.backends.now.blobs c.take.new.backends.blobs c.sweep_singles.new.backends.blobs c.put_back.new.backends.blobs
     c.args.backends.now.ingests c.take.new.backends.ingests c.sweep_singles.new.backends.ingests c.put_back.new.backends.ingests c.args.plan.now.report.backend
-    (may_sweep _ _ c.requires.planned) c.in_ok-task.ensures.order c.in_ok-task.task c.in_ok-task.ensures.jobs c.sweep_in_turn.new.self c.sweep_in_turn.ensures c.sweep_singles.new.fates last c.put_back.ensures.set
+    (may_sweep _ _ c.requires.planned) c.in_ok-task.ensures.order c.in_ok-task.task
+    c.in_ok-task.ensures.jobs c.sweep_in_turn.new.self c.sweep_in_turn.ensures
+    c.sweep_singles.new.outcomes last c.put_back.ensures.set
     (ap (λ b. b.blobs) taken) (ap (λ b. b.blobs) put) (ap (λ b. b.ingests) taken) (ap (λ b. b.ingests) put) c.sweep_singles.ensures.blobs c.sweep_singles.ensures.ingests c.put_back.new.backends.shards (ap (λ b. b.shards) put)
 
 pub returns-clause-count : goal.returns-clause-count
 returns-clause-count g c =
     let taken = c.in_ok-task.ensures.ok in
     let put = c.put_back.ensures.shards in
-    let last : AllFates = c.put_back.new.fates in
+    let last : AllOutcomes = c.put_back.new.outcomes in
     count_by g.S.SnapBackend.contents g.S.SnapBackend.fails g.B.BlobBackend.contents g.B.BlobBackend.fails g.I.IngestBackend.contents g.I.IngestBackend.fails c.args.backends.now.shards c.args.backends.now.blobs c.take.new.backends.blobs c.sweep_singles.new.backends.blobs c.put_back.new.backends.blobs
     c.args.backends.now.ingests c.take.new.backends.ingests c.sweep_singles.new.backends.ingests c.put_back.new.backends.ingests c.args.plan.now.report.backend
-    (may_sweep _ _ c.requires.planned) c.in_ok-task.ensures.order c.in_ok-task.task c.in_ok-task.ensures.jobs c.sweep_in_turn.new.self c.sweep_in_turn.ensures c.sweep_singles.new.fates last c.put_back.ensures.set
+    (may_sweep _ _ c.requires.planned) c.in_ok-task.ensures.order c.in_ok-task.task
+    c.in_ok-task.ensures.jobs c.sweep_in_turn.new.self c.sweep_in_turn.ensures
+    c.sweep_singles.new.outcomes last c.put_back.ensures.set
     (ap (λ b. b.blobs) taken) (ap (λ b. b.blobs) put) (ap (λ b. b.ingests) taken) (ap (λ b. b.ingests) put) c.sweep_singles.ensures.blobs c.sweep_singles.ensures.ingests c.put_back.new.backends.shards (ap (λ b. b.shards) put)

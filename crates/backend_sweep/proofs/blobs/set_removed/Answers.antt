@@ -1,6 +1,6 @@
 use Rattle.std.proofs.Common.{rules, ◌≡◌, ◌<◌, [], length, refl, slice_index_or}
-use Rattle.backend_sweep.specs.declared.fates.Fate.TheVariants as F
-use Rattle.backend_sweep.proofs.Fated.{any_default, set_more}
+use Rattle.backend_sweep.specs.declared.outcomes.Outcome.TheVariants as F
+use Rattle.backend_sweep.proofs.ObjectOutcomes.{any_default, set_more}
 use Rattle.backend_sweep.proofs.blobs.set_removed.Goals as goal
 
 -- one more went
@@ -11,6 +11,7 @@ loop-i-preserved c =
     let n = slice_index_or names c.loop-i.i [] in
     let here : c.loop-i.i < length names = search rules in
     record {
-      set = set_more (λ name. F.Removed) names c.loop-i.fates c.loop-i.i n F.Removed i.set (any_default names c.loop-i.i [] n here) here i.same refl;
+      set = set_more (λ name. F.Removed) names c.loop-i.outcomes c.loop-i.i n F.Removed i.set
+          (any_default names c.loop-i.i [] n here) here i.same refl;
       same = search rules;
     }

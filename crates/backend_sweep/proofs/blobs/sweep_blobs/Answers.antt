@@ -14,11 +14,12 @@ retain-requires g c =
 -- in one pass all went that are named
 pub returns-then-retain-clause-swept : goal.returns-then-retain-clause-swept
 returns-then-retain-clause-swept g c =
-    all_went bytes_eq c.args.names.now _ _ c.set_removed.new.fates _ _ c.set_removed.ensures
+    all_went bytes_eq c.args.names.now _ _ c.set_removed.new.outcomes _ _ c.set_removed.ensures
     (c.retain.ensures.kept c.if-retain.true (is_unnamed c.args.names.now) c.requires.marks) c.retain.ensures.fails
 
-pub returns-then-retain-clause-fates : goal.returns-then-retain-clause-fates
-returns-then-retain-clause-fates g c = ap length c.set_removed.ensures ∙ length-map c.args.names.now _
+pub returns-then-retain-clause-outcomes : goal.returns-then-retain-clause-outcomes
+returns-then-retain-clause-outcomes g c = ap length c.set_removed.ensures
+    ∙ length-map c.args.names.now _
 
 -- where nothing was changed, each is still there
 pub remove_each-requires-clause-names : goal.remove_each-requires-clause-names

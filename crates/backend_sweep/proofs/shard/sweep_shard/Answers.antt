@@ -2,8 +2,8 @@ use Rattle.std.proofs.Common.{◌≡◌, ◌+◌, ◌<◌, ℕ, length, List, ta
 use Rattle.std.specs.Prelude.{Option}
 use Rattle.std.proofs.lemmas.List.{take_more}
 use Rattle.back_model.specs.Snaps.{Snaps, parent_of}
-use Rattle.backend_sweep.specs.declared.fates.Fate.{Fate}
-use Rattle.backend_sweep.specs.declared.fates.Fate.TheVariants as R
+use Rattle.backend_sweep.specs.declared.outcomes.Outcome.{Outcome}
+use Rattle.backend_sweep.specs.declared.outcomes.Outcome.TheVariants as R
 use Rattle.backend_sweep.specs.Shards.{has}
 use Rattle.backend_sweep.specs.Sweep.{Childfirst, Sweeps, Swept, Tries, put_of}
 use Rattle.backend_sweep.proofs.Blocking.{Blocks}
@@ -25,12 +25,15 @@ try_remove-became-requires-clause-children g c κs within none child h =
     no_child_left list (take i list) (drop (i + 1) list) (get_or list i 0) _ _ _ _ c.loop-number.swept (at list i _ _ _ _ c.loop-number.swept c.loop-number-test.true c.requires.list c.loop-number.invariant.swept) c.loop-number.invariant.blocks
     (sym c.is_parent-is_above.ensures ∙ none) child h
 
-room_of : (r : Swept) (n : ℕ) (parent : Option ℕ) (what : Fate) → (put_of r n parent what).room ≡ r.room - 1
+room_of : (r : Swept) (n : ℕ) (parent : Option ℕ) (what : Outcome) → (put_of r n parent what).room
+    ≡ r.room - 1
 room_of r n parent R.Removed = refl
 room_of r n parent R.Failed = refl
 room_of r n parent R.Kept = refl
 
-module _ (list : List ℕ) (i : ℕ) (m0 m now : Snaps) (f0 f after : ℕ) (r r' : Swept) (parent : Option ℕ) (above : Bool) (what : Fate) (here : i < length list) (first : Childfirst list m0) (so_far : Sweeps (take i list) m0 m f0 f r)
+module _ (list : List ℕ) (i : ℕ) (m0 m now : Snaps) (f0 f after : ℕ) (r r' : Swept)
+    (parent : Option ℕ) (above : Bool) (what : Outcome) (here : i < length list)
+    (first : Childfirst list m0) (so_far : Sweeps (take i list) m0 m f0 f r)
     (blocks : Blocks m0 r) (is_above : above ≡ has r.parents (get_or list i 0)) (t : Tries what above (get_or list i 0) m now f after) (is : r' ≡ put_of r (get_or list i 0) parent what) where
   next_swept : Sweeps (take (i + 1) list) m0 now f0 after r'
   next_swept =

@@ -6,7 +6,7 @@ use Rattle.back_model.specs.Shown.{shown}
 use Rattle.backend_sweep.specs.ShardPlans.{IsReady}
 use Rattle.backend_sweep.specs.Tasks.{SweepsJob}
 use Rattle.backend_sweep.specs.declared.shard_task.ShardJob.{ShardJob}
-use Rattle.backend_sweep.proofs.Fated.{any_default}
+use Rattle.backend_sweep.proofs.ObjectOutcomes.{any_default}
 use Rattle.backend_sweep.proofs.shard_task.sweep_jobs_in_turn.Goals as goal
 
 -- the next shard is as it was

@@ -18,9 +18,9 @@ pub sweep_all-requires-clause-planned : goal.sweep_all-requires-clause-planned
 sweep_all-requires-clause-planned g c κs within =
     let old = c.args.backends.now in
     let lists : BackLists = held g.B.BlobBackend.contents g.I.IngestBackend.contents old in
-    let named = option_copied c.args.asked.now.without in
+    let named = option_copied c.args.task.now.without in
     planned_less (in_order c.args.arrived.now) (arrived_in c.args.arrived.now) named lists
-    c.args.asked.now.at.0 c.in_ok-planned.planned refl c.requires.sound c.in_ok-planned.ensures.ok
+    c.args.task.now.at.0 c.in_ok-planned.planned refl c.requires.sound c.in_ok-planned.ensures.ok
 
 -- a sweep that is refused leaves rows and backends as they were
 pub returns-in-Err-sweep_all-clause-arrived_err : goal.returns-in-Err-sweep_all-clause-arrived_err
@@ -50,17 +50,17 @@ pub sweep_all-requires-clause-rows : goal.sweep_all-requires-clause-rows
 sweep_all-requires-clause-rows g c κs within =
     let old = c.args.backends.now in
     let lists : BackLists = held g.B.BlobBackend.contents g.I.IngestBackend.contents old in
-    let named = option_copied c.args.asked.now.without in
-    rows_fit (arrived_in c.args.arrived.now) named lists c.args.asked.now.at.0
+    let named = option_copied c.args.task.now.without in
+    rows_fit (arrived_in c.args.arrived.now) named lists c.args.task.now.at.0
     c.in_ok-planned.planned c.in_ok-planned.ensures.ok
 
 pub sweep_all-requires-clause-numbered : goal.sweep_all-requires-clause-numbered
 sweep_all-requires-clause-numbered g c κs within =
     let old = c.args.backends.now in
     let lists : BackLists = held g.B.BlobBackend.contents g.I.IngestBackend.contents old in
-    let named = option_copied c.args.asked.now.without in
+    let named = option_copied c.args.task.now.without in
     rows_numbered (in_order c.args.arrived.now) (arrived_in c.args.arrived.now) named lists
-    c.args.asked.now.at.0 c.in_ok-planned.planned refl c.requires.sound c.in_ok-planned.ensures.ok
+    c.args.task.now.at.0 c.in_ok-planned.planned refl c.requires.sound c.in_ok-planned.ensures.ok
 
 -- the plan, both sweeps and the report are a collection
 pub returns-clause-ok : goal.returns-clause-ok
@@ -68,11 +68,11 @@ returns-clause-ok g c =
     let arrived = c.args.arrived.now in
     let old = c.args.backends.now in
     let lists : BackLists = held g.B.BlobBackend.contents g.I.IngestBackend.contents old in
-    let named = option_copied c.args.asked.now.without in
+    let named = option_copied c.args.task.now.without in
     let new = c.sweep_all.new in
     let back : BackLists = held g.B.BlobBackend.contents g.I.IngestBackend.contents new.backends
     in
-    let at = c.args.asked.now.at.0 in
+    let at = c.args.task.now.at.0 in
     let state : State = record {
       records = less (records_in (in_order arrived)) named;
       backends = lists;
@@ -87,7 +87,8 @@ returns-clause-ok g c =
     (record { records = left; backends = back }))
     (sym c.reports_of.ensures)
     (swept_less (in_order arrived) (arrived_in arrived) named lists at c.in_ok-planned.planned refl
-    c.requires.sound c.in_ok-planned.ensures.ok c.in-Ok-sweep_all.fates new.tables new.leases back
+    c.requires.sound c.in_ok-planned.ensures.ok c.in-Ok-sweep_all.outcomes new.tables new.leases
+    back
     c.in-Ok-sweep_all.ensures.tables c.in-Ok-sweep_all.ensures.leases c.in-Ok-sweep_all.ensures.ok)
 
 -- where no device ever fails, all that the plan names went
@@ -96,9 +97,10 @@ reports_of-requires-clause-room g c =
     let new = c.sweep_all.new.backends in
     let may = c.may_fail-may in
     let plan = c.in_ok-planned.planned.plan in
-    can_tell may.result plan.report.backend c.in-Ok-sweep_all.fates c.in-Ok.ready.rooms
+    can_tell may.result plan.report.backend c.in-Ok-sweep_all.outcomes c.in-Ok.ready.rooms
     c.in-Ok.ensures.rooms
-    (λ sure. all_went _ _ _ _ plan c.in-Ok-sweep_all.fates _ _ _ c.in_ok-planned.ensures.ok.plan_is
+    (λ sure. all_went _ _ _ _ plan c.in-Ok-sweep_all.outcomes _ _ _
+    c.in_ok-planned.ensures.ok.plan_is
     c.in-Ok-sweep_all.ensures.ok c.in-Ok-sweep_all.ensures.count
     (none_failed _ _ _ (c.none_failed.ensures (may.ensures.snapshots sure))
     (may.ensures.blobs sure new.blobs) (may.ensures.ingests sure new.ingests)))
@@ -108,9 +110,11 @@ reports_of-requires-clause-spares g c =
     let new = c.sweep_all.new.backends in
     let may = c.may_fail-may in
     let plan = c.in_ok-planned.planned.plan in
-    can_fill g.K.Keeps.KEPT may.result plan.report c.in-Ok-sweep_all.fates c.in-Ok.ready.spares
+    can_fill g.K.HistoryMode.KEPT may.result plan.report c.in-Ok-sweep_all.outcomes
+    c.in-Ok.ready.spares
     c.in-Ok.ensures.spares
-    (λ sure. all_went _ _ _ _ plan c.in-Ok-sweep_all.fates _ _ _ c.in_ok-planned.ensures.ok.plan_is
+    (λ sure. all_went _ _ _ _ plan c.in-Ok-sweep_all.outcomes _ _ _
+    c.in_ok-planned.ensures.ok.plan_is
     c.in-Ok-sweep_all.ensures.ok c.in-Ok-sweep_all.ensures.count
     (none_failed _ _ _ (c.none_failed.ensures (may.ensures.snapshots sure))
     (may.ensures.blobs sure new.blobs) (may.ensures.ingests sure new.ingests)))
@@ -120,12 +124,12 @@ pub returns-clause-sound : goal.returns-clause-sound
 returns-clause-sound g c =
     let old = c.args.backends.now in
     let lists : BackLists = held g.B.BlobBackend.contents g.I.IngestBackend.contents old in
-    let named = option_copied c.args.asked.now.without in
+    let named = option_copied c.args.task.now.without in
     let state : State = record {
       records = records_in (in_order c.args.arrived.now);
       backends = lists;
     } in
     let left : State = record { records = less state.records named; backends = lists } in
-    a_collected_store_is_sound left c.args.asked.now.at.0 c.reports_of.result.failed
+    a_collected_store_is_sound left c.args.task.now.at.0 c.reports_of.result.failed
     c.reports_of.result _
     (sound_less state named c.requires.sound) (returns-clause-ok g c)

@@ -11,7 +11,7 @@ use Rattle.collection.proofs.collect_store.plan_held.Goals as goal
 pub returns-clause-ok : goal.returns-clause-ok
 returns-clause-ok g c =
     subst (λ (back : BackLists). IsPlanLess (arrived_in c.args.arrived.now)
-    (option_copied c.args.asked.now.without) back c.args.asked.now.at.0 c.in_ok-planned.planned)
+    (option_copied c.args.task.now.without) back c.args.task.now.at.0 c.in_ok-planned.planned)
     (c.rows_lent.ensures.lists ∙ c.in_ok-lent.ensures.ok)
     c.in_ok-planned.ensures.ok
 

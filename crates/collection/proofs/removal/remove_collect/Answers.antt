@@ -6,13 +6,13 @@ use Rattle.meta_types.specs.Rows.{Records, State}
 use Rattle.meta_types.specs.Reports.{Report, Collects}
 use Rattle.meta_types.specs.declared.fault.Fault.{Fault}
 use Rattle.collection.specs.Removing.{is_missing}
-use Rattle.collection.specs.declared.removal.Named.{Named}
+use Rattle.collection.specs.declared.removal.RemovedRow.{RemovedRow}
 use Rattle.collection.proofs.Bridges.{lent_are}
 use Rattle.collection.proofs.Removing.{checked, none_applies, may_collect, later, left_is}
 use Rattle.collection.proofs.removal.remove_collect.Goals as goal
 
 -- what is tested of the records that are lent is tested of the store
-tested_alike : (workers : ℕ) (named : Named) (lent records : Records) (fault : Option Fault)
+tested_alike : (workers : ℕ) (named : RemovedRow) (lent records : Records) (fault : Option Fault)
     → is_worker_count workers ≡ true → lent ≡ records
     → least_of false (is_missing lent named) false (is_too_large lent) ≡ fault
     → least_of (not (is_worker_count workers)) (is_missing records named) false (is_too_large records)

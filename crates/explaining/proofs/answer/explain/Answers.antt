@@ -2,7 +2,7 @@ use Rattle.std.proofs.Common.{◌∙◌, sym, ap, subst}
 use Rattle.meta_types.specs.Limits.{is_too_large}
 use Rattle.meta_types.specs.Rows.{Records}
 use Rattle.meta_types.specs.Explanations.{is_asked, IsExplanation}
-use Rattle.explaining.specs.Asked.{records_in}
+use Rattle.explaining.specs.RowLists.{records_in}
 use Rattle.explaining.proofs.SameThings.{same_thing, as_large, explanation_as}
 use Rattle.explaining.proofs.answer.explain.Goals as goal
 

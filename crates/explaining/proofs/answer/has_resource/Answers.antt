@@ -7,7 +7,7 @@ use Rattle.meta_types.specs.Explanations.{is_asked}
 use Rattle.meta_types.specs.declared.object.Object.TheVariants.{Held}
 use Rattle.meta_types.specs.declared.resource.Resource.{Resource}
 use Rattle.meta_types.specs.declared.rows.SnapRow.{SnapRow}
-use Rattle.explaining.specs.Asked.{records_in}
+use Rattle.explaining.specs.RowLists.{records_in}
 use Rattle.explaining.proofs.RowsThere.{content_there, ingest_there, snapshot_there}
 use Rattle.explaining.proofs.answer.has_resource.Goals as goal
 

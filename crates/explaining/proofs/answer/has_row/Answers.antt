@@ -3,7 +3,7 @@ use Rattle.std.specs.List.{list_any}
 use Rattle.meta_types.specs.Paths.{things}
 use Rattle.meta_types.specs.Explanations.{is_asked}
 use Rattle.meta_types.specs.declared.object.Object.{Object}
-use Rattle.explaining.specs.Asked.{records_in}
+use Rattle.explaining.specs.RowLists.{records_in}
 use Rattle.explaining.proofs.RowsThere.{image_there, container_there, lease_there}
 use Rattle.explaining.proofs.answer.has_row.Goals as goal
 

@@ -1,6 +1,6 @@
 use Rattle.std.proofs.Common.{sym, refl, subst}
 use Rattle.meta_types.specs.Rows.{Records}
-use Rattle.explaining.specs.Asked.{records_in, AreInOrder}
+use Rattle.explaining.specs.RowLists.{records_in, AreInOrder}
 use Rattle.explaining.proofs.answer.list_rows.Goals as goal
 
 -- what arrived of the tables, in the order of keys, is what they hold

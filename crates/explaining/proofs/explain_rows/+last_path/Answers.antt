@@ -3,8 +3,8 @@ use Rattle.std.specs.Int.{w128}
 use Rattle.std.proofs.lemmas.List.{take_rest}
 use Rattle.meta_types.specs.Explanations.{Explains}
 use Rattle.gc_graph.specs.Stored.{records_of}
-use Rattle.explaining.specs.declared.found.Found.{Found}
-use Rattle.explaining.specs.Found.{thing_of}
+use Rattle.explaining.specs.declared.thing_row.ThingRow.{ThingRow}
+use Rattle.explaining.specs.ThingRows.{thing_of}
 use Rattle.explaining.specs.LastPaths.{AreRising, IsLastOf}
 use Rattle.explaining.specs.Questions.{asked_by}
 use Rattle.explaining.proofs.LastPaths.{is_none, is_within, itself_there, rising_front, rising_back, of_no_end, front_is, middle_is, back_is}
@@ -17,7 +17,7 @@ returns-then-is_empty-clause-ok n c =
     let records = records_of c.args.rows.now in
     let asked = asked_by c.args.question in
     let empty : (length c.args.ends.now == 0) ≡ true = search rules in
-    subst (λ (l : List Found). IsLastOf records asked c.args.ends.now (map thing_of l))
+    subst (λ (l : List ThingRow). IsLastOf records asked c.args.ends.now (map thing_of l))
     (sym c.new.ensures.items) (of_no_end records asked c.args.ends.now (is_none _ empty))
 
 -- the front rises, and the back

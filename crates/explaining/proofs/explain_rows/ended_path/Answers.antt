@@ -1,6 +1,6 @@
 use Rattle.std.proofs.Common.{List, map, sym, subst, ℤ}
 use Rattle.gc_graph.specs.Stored.{records_of}
-use Rattle.explaining.specs.Found.{thing_of}
+use Rattle.explaining.specs.ThingRows.{thing_of}
 use Rattle.explaining.specs.LastPaths.{AreRising, IsLastOf}
 use Rattle.explaining.specs.Questions.{asked_by}
 use Rattle.explaining.proofs.LastPaths.{all_ends, last_of_all}

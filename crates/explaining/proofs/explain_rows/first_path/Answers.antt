@@ -3,8 +3,8 @@ use Rattle.std.specs.Prelude.{option_map}
 use Rattle.meta_types.specs.Rows.{Records}
 use Rattle.meta_types.specs.Explanations.{Explains}
 use Rattle.gc_graph.specs.Stored.{records_of}
-use Rattle.explaining.specs.declared.found.Found.{Found}
-use Rattle.explaining.specs.Found.{thing_of}
+use Rattle.explaining.specs.declared.thing_row.ThingRow.{ThingRow}
+use Rattle.explaining.specs.ThingRows.{thing_of}
 use Rattle.explaining.specs.Questions.{asked_by}
 use Rattle.explaining.specs.Ends.{first_root}
 use Rattle.explaining.proofs.Chains.{none_of}
@@ -17,7 +17,9 @@ returns-in-Some-clause-ok c =
     let records = records_of c.args.rows.now in
     let asked = asked_by c.args.question in
     let root = c.in-Some.root in
-    subst (λ (l : List Found). Explains records c.args.at.0 asked (map thing_of l)) (sym (c.in_ok-push.ensures.items ∙ ap (λ (l : List Found). l ++ root ∷ []) c.new-path.ensures.items))
+    subst (λ (l : List ThingRow). Explains records c.args.at.0 asked (map thing_of l)) (sym
+    (c.in_ok-push.ensures.items ∙ ap (λ (l : List ThingRow). l
+    ++ root ∷ []) c.new-path.ensures.items))
     (root_explains records c.args.at.0 asked (thing_of root) (ap (option_map thing_of) (sym c.in-Some.is) ∙ c.first_root.ensures))
 
 -- no root is asked for

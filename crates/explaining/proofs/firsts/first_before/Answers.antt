@@ -1,7 +1,7 @@
 use Rattle.std.proofs.Common.{◌≡◌, ◌∙◌, ◌+◌, ℕ, suc, length, sym, ap, subst, arith}
 use Rattle.gc_graph.specs.Stored.{records_of}
 use Rattle.mark_core.specs.Firsts.{leads}
-use Rattle.explaining.specs.Found.{numbered}
+use Rattle.explaining.specs.ThingRows.{numbered}
 use Rattle.explaining.specs.Firsts.{number_before, chosen, first_leading, AreWithin}
 use Rattle.explaining.proofs.Puts.{all_within}
 use Rattle.explaining.proofs.firsts.first_before.Goals as goal

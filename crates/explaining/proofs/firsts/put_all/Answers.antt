@@ -2,7 +2,7 @@ use Rattle.std.proofs.Common.{◌∙◌, length, get_or, None, arith}
 use Rattle.std.specs.Prelude.{◌&&◌, ◌==◌}
 use Rattle.gc_graph.specs.Stored.{records_of}
 use Rattle.mark_core.specs.Firsts.{is_step}
-use Rattle.explaining.specs.Found.{numbered}
+use Rattle.explaining.specs.ThingRows.{numbered}
 use Rattle.explaining.specs.Firsts.{number_before}
 use Rattle.explaining.proofs.Puts.{all_within, target_more}
 use Rattle.explaining.proofs.firsts.put_all.Goals as goal

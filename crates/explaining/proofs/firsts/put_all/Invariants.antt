@@ -3,7 +3,7 @@ use Rattle.std.specs.Prelude.{◌&&◌, ◌==◌}
 use Rattle.std.specs.List.{list_any}
 use Rattle.gc_graph.specs.Stored.{records_of}
 use Rattle.mark_core.specs.Firsts.{is_step}
-use Rattle.explaining.specs.Found.{numbered}
+use Rattle.explaining.specs.ThingRows.{numbered}
 use Rattle.explaining.specs.Firsts.{chosen, number_before, AreWithin}
 use Rattle.explaining.proofs.firsts.put_all.Given as goal
 

@@ -3,7 +3,7 @@ use Rattle.meta_types.specs.Rows.{LeaseRow}
 use Rattle.meta_types.specs.Paths.{Thing, container, lease}
 use Rattle.meta_types.specs.Explanations.{goes_before}
 use Rattle.meta_types.specs.declared.rows.ContainerRow.{ContainerRow}
-use Rattle.explaining.specs.Found.{thing_of}
+use Rattle.explaining.specs.ThingRows.{thing_of}
 use Rattle.explaining.specs.Firsts.{chosen, is_holder, holder_among}
 use Rattle.explaining.proofs.Folds.{three_folded}
 use Rattle.explaining.proofs.holders.holder_of.Goals as goal

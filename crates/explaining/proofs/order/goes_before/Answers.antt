@@ -1,7 +1,7 @@
 use Rattle.std.proofs.Common.{◌∷◌, [], ◌∙◌, refl}
 use Rattle.meta_types.specs.Keys.{is_before}
 use Rattle.meta_types.specs.Explanations.{name_of}
-use Rattle.explaining.specs.Found.{thing_of}
+use Rattle.explaining.specs.ThingRows.{thing_of}
 use Rattle.explaining.proofs.order.goes_before.Goals as goal
 
 -- from the last texts of the keys to the first

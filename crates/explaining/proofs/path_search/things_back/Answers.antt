@@ -4,7 +4,7 @@ use Rattle.std.proofs.lemmas.List.{map-append}
 use Rattle.meta_types.specs.Walks.{end_of}
 use Rattle.meta_types.specs.Paths.{Thing}
 use Rattle.gc_graph.specs.Stored.{records_of}
-use Rattle.explaining.specs.Found.{thing_of, thing_at}
+use Rattle.explaining.specs.ThingRows.{thing_of, thing_at}
 use Rattle.explaining.specs.Firsts.{chain}
 use Rattle.explaining.proofs.Chains.{all_there, last_there, one_back, last_back, none_of}
 use Rattle.explaining.proofs.path_search.things_back.Goals as goal

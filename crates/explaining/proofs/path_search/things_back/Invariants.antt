@@ -1,7 +1,7 @@
 use Rattle.std.proofs.Common.{◌≡◌, ◌<◌, ◌-◌, ◌∷◌, ◌++◌, length, map}
 use Rattle.meta_types.specs.Walks.{end_of}
 use Rattle.gc_graph.specs.Stored.{records_of}
-use Rattle.explaining.specs.Found.{thing_of, thing_at}
+use Rattle.explaining.specs.ThingRows.{thing_of, thing_at}
 use Rattle.explaining.specs.Firsts.{chain}
 use Rattle.explaining.proofs.path_search.things_back.Given as goal
 

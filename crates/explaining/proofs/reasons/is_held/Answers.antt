@@ -2,7 +2,7 @@ use Rattle.std.proofs.Common.{◌∙◌, sym, ap, map, is_some, Bor, Option}
 use Rattle.std.specs.Prelude.{option_map}
 use Rattle.meta_types.specs.Paths.{is_resource}
 use Rattle.meta_types.specs.declared.resource.Resource.{Resource}
-use Rattle.explaining.specs.Found.{thing_of}
+use Rattle.explaining.specs.ThingRows.{thing_of}
 use Rattle.explaining.proofs.ReasonEdges.{found_if_any}
 use Rattle.explaining.proofs.Searches.{find_at, find_past, find_end}
 use Rattle.explaining.proofs.reasons.is_held.Goals as goal

@@ -2,7 +2,7 @@ use Rattle.std.proofs.Common.{◌≡◌, ◌∙◌, sym, ap, true, false, Some, 
 use Rattle.std.specs.Prelude.{option_map}
 use Rattle.std.specs.List.{find}
 use Rattle.meta_types.specs.Text.{Text}
-use Rattle.explaining.specs.Found.{thing_of}
+use Rattle.explaining.specs.ThingRows.{thing_of}
 use Rattle.meta_types.specs.Reasons.{is_ref}
 use Rattle.meta_types.specs.declared.explanation.By.TheVariants.{Label}
 use Rattle.explaining.proofs.Searches.{find_at, find_past}

@@ -1,6 +1,6 @@
 use Rattle.std.proofs.Common.{◌≡◌, take, map, None, string_bytes}
 use Rattle.std.specs.List.{find}
-use Rattle.explaining.specs.Found.{thing_of}
+use Rattle.explaining.specs.ThingRows.{thing_of}
 use Rattle.meta_types.specs.Reasons.{is_ref}
 use Rattle.explaining.proofs.reasons.label_reason.Given as goal
 

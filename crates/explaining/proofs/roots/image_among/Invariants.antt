@@ -1,7 +1,7 @@
 use Rattle.std.proofs.Common.{◌≡◌, take, map}
 use Rattle.std.specs.Prelude.{option_map}
 use Rattle.meta_types.specs.Paths.{image}
-use Rattle.explaining.specs.Found.{thing_of}
+use Rattle.explaining.specs.ThingRows.{thing_of}
 use Rattle.explaining.specs.Ends.{root_among}
 use Rattle.explaining.specs.Questions.{asked_by}
 use Rattle.explaining.proofs.roots.image_among.Given as goal

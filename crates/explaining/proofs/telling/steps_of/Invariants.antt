@@ -1,6 +1,6 @@
 use Rattle.std.proofs.Common.{◌-◌, drop, length, map}
 use Rattle.meta_types.specs.Explanations.{AreTold}
-use Rattle.explaining.specs.Found.{thing_of}
+use Rattle.explaining.specs.ThingRows.{thing_of}
 use Rattle.explaining.specs.StepWords.{root_word}
 use Rattle.explaining.proofs.telling.steps_of.Given as goal
 

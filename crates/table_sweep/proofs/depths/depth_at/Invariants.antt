@@ -4,4 +4,5 @@ use Rattle.table_sweep.proofs.depths.depth_at.Given as goal
 
 -- the ancestors so far are counted, and those of the last of them are left
 abbrev pub invariant-loop-depth : goal.invariant-loop-depth
-invariant-loop-depth l = (rest : ℕ) → rest + l.depth ≡ length l.aboves → l.depth + deep rest l.aboves l.at ≡ deep (length l.aboves) l.aboves l.fn.place
+invariant-loop-depth l = (rest : ℕ) → rest + l.depth ≡ length l.parents
+    → l.depth + deep rest l.parents l.at ≡ deep (length l.parents) l.parents l.fn.place

@@ -1,6 +1,6 @@
 use Rattle.std.proofs.Common.{Bor}
 use Rattle.meta_types.specs.declared.rows.ImageRow.{ImageRow}
-use Rattle.table_sweep.proofs.Gone.{names_step}
+use Rattle.table_sweep.proofs.RemovedNames.{names_step}
 use Rattle.table_sweep.proofs.names.image_names.Goals as goal
 
 pub loop-i-preserved : goal.loop-i-preserved

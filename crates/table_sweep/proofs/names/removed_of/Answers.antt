@@ -8,7 +8,7 @@ use Rattle.meta_types.specs.Rows.{LeaseRow}
 use Rattle.row_tables.specs.Arrived.{sorted}
 use Rattle.table_sweep.specs.InKeyOrder.{name_key, snapshot_name_key}
 use Rattle.table_sweep.specs.Masks.{gone}
-use Rattle.table_sweep.proofs.Gone.{names_of}
+use Rattle.table_sweep.proofs.RemovedNames.{names_of}
 use Rattle.table_sweep.proofs.names.removed_of.Goals as goal
 
 pub returns-clause-ok : goal.returns-clause-ok

@@ -1,7 +1,7 @@
 use Rattle.std.proofs.Common.{◌∙◌, ap, map, List, [], ◌∷◌, Bor, subst, ℕ, if◌then◌else◌}
 use Rattle.std.specs.List.{flat_map}
 use Rattle.object_tables.specs.Calls.{kept}
-use Rattle.table_sweep.specs.Owned.{begun_goes, snap_goes}
+use Rattle.table_sweep.specs.Owned.{is_begun_removed, is_snap_removed}
 use Rattle.std.specs.List.Sorted.{IsPermutation}
 use Rattle.meta_types.specs.Rows.{Tables}
 use Rattle.meta_types.specs.Keys.{in_order}
@@ -30,10 +30,14 @@ returns-clause-ok c =
     c.in_ok-owners.ensures.all in
     let blobs = c.in_ok-blobs.ensures.ok ∙ blobs_are tables _ (ap (λ mask. kept mask rows.content.now) c.deref.ensures.value)
     (sorted one_text back.blobs.now) in
-    let ingests = c.in_ok-ingests.ensures.ok ∙ ap (λ (l : List ℕ). flat_map (λ number. if begun_goes l number then number ∷ [] else []) back.ingests.now) c.deref-3.ensures.value
+    let ingests = c.in_ok-ingests.ensures.ok ∙ ap (λ (l : List ℕ). flat_map
+    (λ number. if is_begun_removed l number then number ∷ [] else []) back.ingests.now)
+    c.deref-3.ensures.value
     ∙ ingests_are tables owned all_begun back.ingests.now in
     let snapshots = c.in_ok-snapshots.ensures.ok ∙ ap (map key_name) (c.deref-6.ensures.value ∙ c.in_ok-keys-2.ensures.ok ∙ ap (in_order is_first) (c.in_ok-keys.ensures.ok
-    ∙ ap (λ (l : List (Bor SnapRow)). flat_map (λ s. if snap_goes (map (λ (row : Bor SnapRow). row.now) l) s then key_of back.snapshots.now s ∷ [] else []) back.snapshots.now) c.deref-5.ensures.value))
+    ∙ ap (λ (l : List (Bor SnapRow)). flat_map (λ s. if is_snap_removed (map (λ
+    (row : Bor SnapRow). row.now) l) s then key_of back.snapshots.now s ∷ [] else [])
+    back.snapshots.now) c.deref-5.ensures.value))
     ∙ snapshots_are tables owners all_snaps back.snapshots.now in
     λ i. record { blobs = blobs i; ingests = ingests i; snapshots = snapshots i }
 

@@ -12,8 +12,8 @@ use Rattle.table_sweep.proofs.Planned.{fit, removed_is, kept_counts_are, left_is
 use Rattle.table_sweep.proofs.RecordsArrived.{objects_same, tables_left, removed_in_order, kept_in_order, ignored_in_order, ignored_images_in_order, scanned_in_order}
 use Rattle.table_sweep.proofs.planning.plan_of.Goals as goal
 
-pub gone_of-requires-clause-fits : goal.gone_of-requires-clause-fits
-gone_of-requires-clause-fits g c κs within =
+pub removals_of-requires-clause-fits : goal.removals_of-requires-clause-fits
+removals_of-requires-clause-fits g c κs within =
     fit (records_of c.args.rows.now) c.args.at.0 (reached_by c.args.rows.now.profile c.args.book.now c.args.marks.now c.args.at.0) c.in_ok-masks.masks c.in_ok-masks.ensures.ok
 
 -- the masks tell of the rows as they arrived

@@ -1,7 +1,7 @@
 use Rattle.std.proofs.Common.{◌∙◌, sym, ap, subst, map}
 use Rattle.std.specs.Prelude.{filter}
 use Rattle.back_model.specs.Shown.{AreApart, shown}
-use Rattle.backend_sweep.specs.ShardPlans.{fate_of}
+use Rattle.backend_sweep.specs.ShardPlans.{outcome_of}
 use Rattle.backend_sweep.specs.Tasks.{entries_in, shard_plans_in, is_left}
 use Rattle.backend_sweep.proofs.LeftShards.{still_apart}
 use Rattle.backend_sweep.proofs.shard_task.ShardTask.put_back.Goals as goal
@@ -31,4 +31,8 @@ returns-clause-shards g c =
 -- and so are their plans
 pub returns-clause-set : goal.returns-clause-set
 returns-clause-set g c =
-    c.set_snapshots.ensures.set ∙ ap (λ l. record c.args.fates.now { snapshots = map (fate_of l) c.args.plan.now.report.backend.snapshots }) (c.deref-2.ensures.value ∙ c.part_jobs.ensures.shard_plans ∙ ap shard_plans_in c.self.view_is)
+    c.set_snapshots.ensures.set ∙ ap (λ l. record c.args.outcomes.now {
+      snapshots = map
+          (outcome_of l) c.args.plan.now.report.backend.snapshots;
+    }) (c.deref-2.ensures.value
+    ∙ c.part_jobs.ensures.shard_plans ∙ ap shard_plans_in c.self.view_is)

@@ -22,7 +22,7 @@ returns-clause-ok g c =
     let rows : Records = arrived_in kept in
     let others = c.in_ok-others.others in
     let plan = c.in_ok-plan.plan in
-    let at = c.args.asked.now.at.0 in
+    let at = c.args.task.now.at.0 in
     let agree : Agree lent rows = record {
       images = c.rows-arrived.ensures.images;
       containers = c.rows-arrived.ensures.containers;
@@ -33,7 +33,7 @@ returns-clause-ok g c =
       profile = refl;
     } in
     record {
-      others = others_as (option_copied c.args.asked.now.without) others _ _ _ _
+      others = others_as (option_copied c.args.task.now.without) others _ _ _ _
           (ap (λ (r : Records). r.tables.images) c.in_ok-listed.ensures.ok ∙ agree.images)
           (ap (λ (r : Records). r.leases) c.in_ok-listed.ensures.ok)
           c.in_ok-others.ensures.others;

@@ -1,8 +1,8 @@
 use Rattle.std.proofs.Common.{◌≡◌, ◌∙◌, List, None, length, map, get_or, sym, ap, subst, arith}
 use Rattle.meta_types.specs.Explanations.{Explains}
 use Rattle.gc_graph.specs.Stored.{records_of}
-use Rattle.explaining.specs.declared.found.Found.{Found}
-use Rattle.explaining.specs.Found.{thing_of, thing_at}
+use Rattle.explaining.specs.declared.thing_row.ThingRow.{ThingRow}
+use Rattle.explaining.specs.ThingRows.{thing_of, thing_at}
 use Rattle.explaining.specs.Ends.{first_root, nearest_below}
 use Rattle.explaining.specs.Questions.{asked_by}
 use Rattle.explaining.specs.Searched.{Searched}
@@ -24,7 +24,8 @@ returns-in_default-clause-ok c =
     let at = c.self.inside.at.0 in
     let asked = asked_by c.args.question in
     subst (λ (v : Searched). None ≡ first_root v.records v.at asked → Explains v.records v.at asked (map thing_of c.new.result.items)) c.self.view_is
-    (λ none_root. subst (λ (l : List Found). Explains records at asked (map thing_of l)) (sym c.new.ensures.items)
+    (λ none_root. subst (λ (l : List ThingRow). Explains records at asked (map thing_of l))
+    (sym c.new.ensures.items)
     (none_explains records at asked c.self.inside.graph.now c.self.inside.depths.items c.self.invariant none_root
     (sym (none_of c.nearest.result c.in_default.not-Some) ∙ c.nearest.ensures.nearest ∙ (λ i. nearest_below records asked (c.deref.ensures.value i) (length (c.deref.ensures.value i))))))
 

@@ -2,7 +2,7 @@ use Rattle.std.proofs.Common.{◌≡◌, ◌<◌, ◌∙◌, ◌∷◌, ℕ, Lis
 use Rattle.std.specs.Prelude.{option_map}
 use Rattle.meta_types.specs.Walks.{end_of}
 use Rattle.gc_graph.specs.Stored.{records_of}
-use Rattle.explaining.specs.Found.{thing_of, thing_at}
+use Rattle.explaining.specs.ThingRows.{thing_of, thing_at}
 use Rattle.explaining.specs.Firsts.{chain, first_leading, root_before, AreWithin}
 use Rattle.explaining.specs.Searched.{Searched}
 use Rattle.explaining.specs.ShortestPaths.{IsFirstTo}

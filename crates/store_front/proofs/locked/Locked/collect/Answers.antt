@@ -34,7 +34,8 @@ invariant_of-self-2 g c =
 pub invariant_of-self : goal.invariant_of-self
 invariant_of-self g c =
     record {
-      legal = λ k. not_kept _ c.KEPT.result g.K.Keeps.KEPT c.if-not-KEPT.true c.KEPT.ensures k;
+      legal = λ k. not_kept _ c.KEPT.result g.K.HistoryMode.KEPT c.if-not-KEPT.true c.KEPT.ensures
+          k;
       sound = c.run_collect-reports.ensures.sound;
       opened = c.self.invariant.opened;
       total = c.self.invariant.total;

@@ -1,2 +1,0 @@
-//! Whether a store keeps its history: a word that its collections take too.
-pub use collection::{Keeps, WithHistory, WithoutHistory};

@@ -1,0 +1,7 @@
+use Rattle.std.proofs.Common.{◌∙◌}
+use Rattle.table_sweep.proofs.Alike.{snapshots_alike}
+use Rattle.table_sweep.proofs.names.removed_snapshots.Goals as goal
+
+pub returns-clause-ok : goal.returns-clause-ok
+returns-clause-ok c = c.in_ok-names-2.ensures.ok ∙ snapshots_alike _ c.in_ok-names.names.items
+    c.in_ok-names.ensures.ok

@@ -1,7 +1,0 @@
-use Rattle.std.proofs.Common.{◌∙◌}
-use Rattle.table_sweep.proofs.Alike.{snapshots_alike}
-use Rattle.table_sweep.proofs.names.snapshots_gone.Goals as goal
-
-pub returns-clause-ok : goal.returns-clause-ok
-returns-clause-ok c = c.in_ok-names-2.ensures.ok ∙ snapshots_alike _ c.in_ok-names.names.items
-    c.in_ok-names.ensures.ok
