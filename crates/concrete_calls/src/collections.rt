@@ -47,7 +47,7 @@ impl<L: Ledger> SessionStore<L> {
     {
         let mut locked = Locked::open(alloc, blank, State::empty(alloc))?;
         let Ok(session) = locked.session(alloc) else {
-            drop(locked);
+            drop(locked); // for the prover: not in place
             return Err(Fault::OutOfMemory);
         };
         Ok(SessionStore { locked, session })
@@ -57,7 +57,7 @@ impl<L: Ledger> SessionStore<L> {
     fn ask(&mut self, alloc: Global, request: Request<'static>) -> bool {
         let reply = self.locked.apply(alloc, &mut self.session, request);
         let is_done = reply.is_ok();
-        drop(reply);
+        drop(reply); // for the prover: not in place
         is_done
     }
 
@@ -101,7 +101,7 @@ impl<L: Ledger> SessionStore<L> {
     ) -> u8 {
         let reply = self.collect(rt, alloc, expected.kind, removal);
         let told = number_of(&reply, expected.report);
-        drop(reply);
+        drop(reply); // for the prover: not in place
         told
     }
 
@@ -110,7 +110,7 @@ impl<L: Ledger> SessionStore<L> {
         match self.locked.records().copy(alloc) {
             Ok(records) => Ok(Seen { history, records }),
             Err(fault) => {
-                drop(history);
+                drop(history); // for the prover: not in place
                 Err(fault)
             }
         }
@@ -140,7 +140,7 @@ fn is_left<L: Ledger>(session_store: &SessionStore<L>, alloc: Global, before: &S
     };
     let is_left = are_same_entries(&now.history.log, &before.history.log)
         && are_same_records(alloc, &now.records, &before.records);
-    drop(now);
+    drop(now); // for the prover: not in place
     is_left
 }
 
@@ -149,7 +149,7 @@ fn is_entered<L: Ledger>(session_store: &SessionStore<L>, alloc: Global, before:
     match session_store.locked.cut(alloc, &session_store.session) {
         Ok(history) => {
             let count = history.log.len() as u128;
-            drop(history);
+            drop(history); // for the prover: not in place
             count == before.history.log.len() as u128 + 1
         }
         Err(Fault::OutOfMemory) => true,
@@ -183,7 +183,7 @@ fn reported<L: Ledger, R: Threads + Wait + Sync>(
 {
     let mut session_store = SessionStore::<L>::open(alloc, blank)?;
     let reported = reported_on(rt, alloc, &mut session_store, kind);
-    drop(session_store);
+    drop(session_store); // for the prover: not in place
     reported
 }
 
@@ -215,7 +215,7 @@ fn two_removals(alloc: Global, kind: u32) -> Result<(Removal<'static>, Removal<'
     match removal(alloc, kind) {
         Ok(again) => Ok((once, again)),
         Err(fault) => {
-            drop(once);
+            drop(once); // for the prover: not in place
             Err(fault)
         }
     }
@@ -233,12 +233,12 @@ fn judged_on<L: Ledger, R: Threads + Wait + Sync>(
     let before = match session_store.seen(alloc) {
         Ok(before) => before,
         Err(fault) => {
-            drop(removals);
+            drop(removals); // for the prover: not in place
             return Err(fault);
         }
     };
     let outcome = outcome_on(rt, alloc, session_store, removals, &before, expected);
-    drop(before);
+    drop(before); // for the prover: not in place
     Ok(outcome)
 }
 
@@ -254,7 +254,7 @@ fn judged<L: Ledger, R: Threads + Wait + Sync>(
 {
     let mut session_store = SessionStore::<L>::open(alloc, blank)?;
     let judged = judged_on(rt, alloc, &mut session_store, expected);
-    drop(session_store);
+    drop(session_store); // for the prover: not in place
     judged
 }
 
@@ -266,7 +266,7 @@ fn outcome<R: Threads + Wait + Sync>(rt: &R, alloc: Global, kind: u32) -> Result
         report: &report,
     };
     let judged = judged::<Brand, R>(rt, alloc, Blank::new(65536), &expected);
-    drop(report);
+    drop(report); // for the prover: not in place
     judged
 }
 

@@ -34,6 +34,7 @@ fn lease(alloc: Global, id: &str, key: &str, value: &str) -> Result<Request<'sta
     Ok(Request::LeaseAdd(LeaseAdd {
         lease: RawName { ns, name: id },
         labels,
+        extra: None,
     }))
 }
 
@@ -44,6 +45,7 @@ fn content(alloc: Global, digest: &str) -> Result<Request<'static>, Fault> {
         content: RawContent { ns, digest },
         labels: RawLabels::new(Vec::new(alloc)),
         lease: None,
+        extra: None,
     }))
 }
 
@@ -55,6 +57,7 @@ fn held_content(alloc: Global, digest: &str, lease: &str) -> Result<Request<'sta
         content: RawContent { ns, digest },
         labels: RawLabels::new(Vec::new(alloc)),
         lease: Some(lease),
+        extra: None,
     }))
 }
 
@@ -67,6 +70,7 @@ fn image(alloc: Global) -> Result<Request<'static>, Fault> {
         image: RawName { ns, name },
         target,
         labels,
+        extra: None,
     }))
 }
 
@@ -79,6 +83,7 @@ fn begin(alloc: Global) -> Result<Request<'static>, Fault> {
         at,
         expected: None,
         lease: None,
+        extra: None,
     }))
 }
 
@@ -95,6 +100,7 @@ fn prepare(alloc: Global, snapshotter: &str, key: &str) -> Result<Request<'stati
         parent: None,
         labels: RawLabels::new(Vec::new(alloc)),
         lease: None,
+        extra: None,
     }))
 }
 
@@ -112,6 +118,8 @@ fn commit(alloc: Global) -> Result<Request<'static>, Fault> {
         name,
         labels: RawLabels::new(Vec::new(alloc)),
         lease: None,
+        dropped_by: None,
+        extra: None,
     }))
 }
 
@@ -129,6 +137,7 @@ fn view(alloc: Global) -> Result<Request<'static>, Fault> {
         parent: Some(parent),
         labels: RawLabels::new(Vec::new(alloc)),
         lease: None,
+        extra: None,
     }))
 }
 

@@ -21,6 +21,7 @@ fn makes_graph(
     };
     let made = build(rt, alloc, &listed.rows(), Instant(0), 1);
     let is_made = made.is_ok();
+    // For the prover: dropped by a call, not in place.
     drop(made);
     is_made
 }
@@ -30,6 +31,7 @@ pub(crate) fn calls(rt: &(impl Threads + Sync), alloc: Global) -> bool {
     let tables = Tables::new(alloc, Seed::Fixed);
     let leases = Leases::new(alloc, Seed::Fixed);
     let is_made = makes_graph(rt, alloc, &tables, &leases);
+    // For the prover: dropped by a call, not in place.
     drop(leases);
     drop(tables);
     is_made

@@ -1,7 +1,7 @@
 //! A question of a store that holds one image.
 
 use explaining::explain;
-use meta_types::{Digest, Fault, ImageRow, Instant, Labels, Name, Object, ShortName};
+use meta_types::{Data, Digest, Fault, ImageRow, Instant, Labels, Name, Object, ShortName};
 use object_tables::Tables;
 use request_core::Records;
 use std::alloc::Global;
@@ -19,6 +19,7 @@ fn image(alloc: Global) -> Result<ImageRow, Fault> {
         name,
         target,
         labels: Labels::new(alloc),
+        extra: Data::new(),
     })
 }
 
@@ -42,6 +43,7 @@ fn is_root(
 ) -> Result<bool, Fault> {
     let found = explain(rt, alloc, records, ns, image, Instant(0))?;
     let is_root = found.kept && found.path.len() == 1;
+    // For the prover: dropped by a call, not in place.
     drop(found);
     Ok(is_root)
 }
@@ -50,6 +52,7 @@ fn ask(rt: &(impl Threads + Sync), alloc: Global, records: &Records) -> Result<b
     let ns = ShortName::read(alloc, "x")?;
     let image = Object::read(alloc, "images", "i")?;
     let told = is_root(rt, alloc, records, &ns, &image);
+    // For the prover: dropped by a call, not in place.
     drop(image);
     told
 }
@@ -68,6 +71,7 @@ fn fill_and_ask(
 pub(crate) fn calls(rt: &(impl Threads + Sync), alloc: Global) -> Result<bool, Fault> {
     let mut records = Records::empty(alloc);
     let told = fill_and_ask(rt, alloc, &mut records);
+    // For the prover: dropped by a call, not in place.
     drop(records);
     told
 }

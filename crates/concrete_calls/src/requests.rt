@@ -24,6 +24,7 @@ fn answer<S: SnapBackend, B: BlobBackend, I: IngestBackend>(
     match request {
         Ok(request) => {
             let reply = store.apply(alloc, &request);
+            // For the prover: dropped by a call, not in place.
             drop(request);
             reply
         }
@@ -39,6 +40,7 @@ fn is_answered<S: SnapBackend, B: BlobBackend, I: IngestBackend>(
 {
     let reply = answer(store, alloc, space(alloc));
     let is_done = matches!(&reply, Ok(Reply::Done));
+    // For the prover: dropped by a call, not in place.
     drop(reply);
     is_done && store.records.tables.counts().namespaces == 1
 }
@@ -46,6 +48,7 @@ fn is_answered<S: SnapBackend, B: BlobBackend, I: IngestBackend>(
 fn calls_in_memory(alloc: Global) -> bool {
     let mut store = State::<MemBackend, MemBlobs, MemIngests>::empty(alloc);
     let is_answered = is_answered(&mut store, alloc);
+    // For the prover: dropped by a call, not in place.
     drop(store);
     is_answered
 }
@@ -53,6 +56,7 @@ fn calls_in_memory(alloc: Global) -> bool {
 fn calls_with_fuses(alloc: Global) -> bool {
     let mut store = State::<FuseBackend, FuseBlobs, FuseIngests>::empty(alloc);
     let is_answered = is_answered(&mut store, alloc);
+    // For the prover: dropped by a call, not in place.
     drop(store);
     is_answered
 }

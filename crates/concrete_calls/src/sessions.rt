@@ -25,6 +25,7 @@ fn is_called<L: Ledger, R: Threads + Wait + Sync>(
     let request = space(alloc)?;
     let reply = store.call(rt, alloc, session, request);
     let is_done = matches!(&reply, Ok(Reply::Done));
+    // For the prover: dropped by a call, not in place.
     drop(reply);
     Ok(is_done)
 }
@@ -37,6 +38,7 @@ fn is_collected<L: Ledger, R: Threads + Wait + Sync>(
 ) -> bool {
     let report = store.collect(rt, alloc, session, AT, false, 2, &OpenGate, &OpenSweepGate);
     let is_ok = report.is_ok();
+    // For the prover: dropped by a call, not in place.
     drop(report);
     is_ok
 }
@@ -50,6 +52,7 @@ fn is_planned<L: Ledger, R: Threads + Wait + Sync>(
 ) -> Result<bool, Fault> {
     let planned = store.plan_copy(rt, alloc, session, AT, 2, &OpenGate)?;
     let count = planned.cut.log.len();
+    // For the prover: dropped by a call, not in place.
     drop(planned);
     Ok(count == 1)
 }
@@ -65,9 +68,11 @@ fn is_asked<L: Ledger, R: Threads + Wait + Sync>(
     let object = Object::read(alloc, "images", "i")?;
     let told = store.explain(rt, alloc, session, &ns, &object, AT)?;
     let is_refused = matches!(&told.answer, Err(Fault::NotFound));
+    // For the prover: dropped by a call, not in place.
     drop(told);
     let found = store.impact(rt, alloc, session, ns, object, AT)?;
     let is_missing = matches!(&found.answer, Err(Fault::NotFound));
+    // For the prover: dropped by a call, not in place.
     drop(found);
     Ok(is_refused && is_missing)
 }
@@ -83,6 +88,7 @@ fn ends<L: Ledger>(
     sessions.push(second)?;
     let history = finish(alloc, store, sessions)?;
     let count = history.log.len();
+    // For the prover: dropped by a call, not in place.
     drop(history);
     Ok(count == 2)
 }
@@ -111,10 +117,12 @@ fn calls_named<L: Ledger, R: Threads + Wait + Sync>(
 {
     let store = Store::<L>::new(alloc, blank, State::empty(alloc))?;
     let Ok(mut first) = store.session(rt, alloc) else {
+        // For the prover: dropped by a call, not in place.
         drop(store);
         return Err(Fault::OutOfMemory);
     };
     let Ok(mut second) = store.session(rt, alloc) else {
+        // For the prover: dropped by a call, not in place.
         drop(first);
         drop(store);
         return Err(Fault::OutOfMemory);

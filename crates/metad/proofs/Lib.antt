@@ -1,2 +1,3 @@
 pub mod Handing
 mod Through
+mod WorkerCounts

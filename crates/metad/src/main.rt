@@ -9,6 +9,7 @@ ghost use Rattle.scripts.specs.Exchanging.{IsStartedFault, Exchanges};
 ghost use Rattle.metad.specs.Blocks.{inner_of, kept_back, contents_of};
 ghost use Rattle.metad.specs.Runs.{ExchangesFrom};
 
+mod args;
 mod blocks;
 #[cfg(test)]
 mod tests;
@@ -17,8 +18,8 @@ mod tests_blocks;
 #[cfg(test)]
 mod tests_flush;
 
+use crate::args::{ArgFault, parse_args};
 use crate::blocks::Blocks;
-use command_line::{ArgFault, parse_args};
 use meta_types::{Fault, Workers};
 use scripts::run_script_with;
 use std::alloc::Global;

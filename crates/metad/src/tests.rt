@@ -1,5 +1,5 @@
 //! Readers, writers, clients and command lines. Whole scripts are run by trials/scripts.
-use command_line::{ArgFault, parse_args};
+use crate::args::{ArgFault, parse_args};
 use meta_types::Fault;
 use scripts::run_script;
 use std::alloc::Global;

@@ -5,7 +5,7 @@ use Rattle.serde_json.specs.Data.{Data, boolean, string, object, no_members, mem
 use Rattle.serde_json.specs.Written.{compact_text}
 use Rattle.meta_types.specs.Text.{Text}
 use Rattle.meta_types.specs.Resources.{type_of, id_of}
-use Rattle.meta_types.specs.Questions.{ExplanationValue, QuestionAnswer, explains, foresees, LineAnswer, of_event, of_question}
+use Rattle.meta_types.specs.Questions.{ExplanationValue, QuestionAnswer, explains, foresees, lists, LineAnswer, of_event, of_shown, of_question}
 use Rattle.meta_types.specs.declared.resource.Mode.{Mode}
 use Rattle.meta_types.specs.declared.resource.Mode.TheVariants.{Full, Flat}
 use Rattle.meta_types.specs.declared.object.Object.{Object}
@@ -17,6 +17,7 @@ use Rattle.meta_types.specs.declared.explanation.Explanation.{Explanation}
 use Rattle.gc_report.specs.Reports.{list_data, member_if}
 use Rattle.reply_line.specs.Replies.{answer_text}
 use Rattle.reply_line.specs.Foreseen.{impact_text}
+use Rattle.reply_line.specs.Shown.{shows_text, objects_text}
 
 -- ---- steps
 
@@ -87,8 +88,10 @@ told_text told = compact_text (told_data told)
 abbrev pub question_answer_text : QuestionAnswer → Text
 question_answer_text (explains told) = told_text told
 question_answer_text (foresees impact) = impact_text impact
+question_answer_text (lists names) = objects_text names
 
 -- the text of what a line is answered
 abbrev pub line_answer_text : LineAnswer → Text
 line_answer_text (of_event answer) = answer_text answer
+line_answer_text (of_shown shown) = shows_text shown
 line_answer_text (of_question given) = question_answer_text given

@@ -1,6 +1,6 @@
 -- The JSON of replies, and their text. Members stand in the byte order of their names. Ours, unless
 -- a source stands beside.
-use Rattle.std.specs.Prelude.{[], ◌∷◌, true, Option, codes, is_some}
+use Rattle.std.specs.Prelude.{ℕ, [], ◌∷◌, true, Option, Some, None, option_map, codes, is_some, bytes_eq, if◌then◌else◌}
 use Rattle.std.specs.Option.{option_map_or}
 use Rattle.serde_json.specs.Data.{Data, null, boolean, string, object, Members, no_members, member, put}
 use Rattle.serde_json.specs.Written.{compact_text}
@@ -15,8 +15,9 @@ use Rattle.meta_types.specs.declared.reply.ReplyRow.{ReplyRow}
 use Rattle.meta_types.specs.declared.reply.ReplyRow.TheVariants as W
 use Rattle.meta_types.specs.declared.resource.Resource.{Resource}
 use Rattle.meta_types.specs.declared.rows.SnapKind.{SnapKind}
+use Rattle.meta_types.specs.declared.rows.SnapRow.{SnapRow}
 use Rattle.meta_types.specs.declared.rows.SnapKind.TheVariants.{Active, View, Committed}
-use Rattle.gc_report.specs.Reports.{count_data, pair_data, list_data, report_data}
+use Rattle.gc_report.specs.Reports.{count_data, pair_data, list_data, member_if, report_data}
 
 -- ---- parts of rows
 
@@ -32,6 +33,10 @@ labels_data labels = object (with_labels no_members labels)
 abbrev pub if_any : {A : Type 0} → (A → Data) → Option A → Data
 if_any data_of found = option_map_or data_of found null
 
+-- data, where there is some
+abbrev pub extra_data : Text → Option Data
+extra_data extra = if bytes_eq extra [] then None else Some (string extra)
+
 -- what may be done with a snapshot (containerd snapshots service, Kind)
 abbrev pub kind_text : SnapKind → Text
 kind_text Active = codes "active"
@@ -44,33 +49,49 @@ resource_data resource = pair_data (type_of resource, id_of resource)
 
 -- ---- replies
 
--- a row that was asked for; `own` says that an ingest has an end of its own
-abbrev pub row_data : ReplyRow → Data
-row_data (W.Image row) = object
-    (member (codes "labels") (labels_data row.labels)
-    (member (codes "name") (string row.name)
-    (member (codes "target") (string row.target) no_members)))
-row_data (W.Container row) = object
-    (member (codes "labels") (labels_data row.labels)
-    (member (codes "name") (string row.name)
-    (member (codes "snapshot") (if_any pair_data row.snapshot) no_members)))
-row_data (W.Content row) = object
-    (member (codes "digest") (string row.digest)
-    (member (codes "labels") (labels_data row.labels) no_members))
-row_data (W.Ingest row) = object
-    (member (codes "expected") (if_any string row.expected)
-    (member (codes "number") (count_data row.number)
-    (member (codes "own") (boolean (is_some row.expires))
-    (member (codes "ref") (string row.name) no_members))))
-row_data (W.Snap row) = object
+-- a snapshot, with the number of its parent where it is to be shown (containerd snapshots service)
+abbrev pub snap_data : SnapRow → Option ℕ → Data
+snap_data row parent_number = object
+    (member_if (codes "data") (extra_data row.extra)
     (member (codes "key") (string row.key.name)
     (member (codes "kind") (string (kind_text row.kind))
     (member (codes "labels") (labels_data row.labels)
     (member (codes "number") (count_data row.number)
-    (member (codes "parent") (if_any string row.parent) no_members)))))
-row_data (W.Lease id labels) = object
+    (member (codes "parent") (if_any string row.parent)
+    (member_if (codes "parent_number") (option_map count_data parent_number) no_members)))))))
+
+-- a row, with the number of a snapshot's parent where it is to be shown; `own` says that an ingest
+-- has an end of its own
+abbrev pub row_with : Option ℕ → ReplyRow → Data
+row_with parent_number (W.Image row) = object
+    (member_if (codes "data") (extra_data row.extra)
+    (member (codes "labels") (labels_data row.labels)
+    (member (codes "name") (string row.name)
+    (member (codes "target") (string row.target) no_members))))
+row_with parent_number (W.Container row) = object
+    (member_if (codes "data") (extra_data row.extra)
+    (member (codes "labels") (labels_data row.labels)
+    (member (codes "name") (string row.name)
+    (member (codes "snapshot") (if_any pair_data row.snapshot) no_members))))
+row_with parent_number (W.Content row) = object
+    (member_if (codes "data") (extra_data row.extra)
+    (member (codes "digest") (string row.digest)
+    (member (codes "labels") (labels_data row.labels) no_members)))
+row_with parent_number (W.Ingest row) = object
+    (member_if (codes "data") (extra_data row.extra)
+    (member (codes "expected") (if_any string row.expected)
+    (member (codes "number") (count_data row.number)
+    (member (codes "own") (boolean (is_some row.expires))
+    (member (codes "ref") (string row.name) no_members)))))
+row_with parent_number (W.Snap row) = snap_data row parent_number
+row_with parent_number (W.Lease id labels extra) = object
+    (member_if (codes "data") (extra_data extra)
     (member (codes "id") (string id)
-    (member (codes "labels") (labels_data labels) no_members))
+    (member (codes "labels") (labels_data labels) no_members)))
+
+-- a row that was asked for
+abbrev pub row_data : ReplyRow → Data
+row_data row = row_with None row
 
 -- a reply that says ok and one thing more
 abbrev pub accepted : Text → Data → Data

@@ -14,7 +14,7 @@ use std::io::Write;
 use std::mem::replace;
 
 // A block of this many bytes is written before more is put behind it.
-const FULL: usize = 32768;
+pub(crate) const FULL: usize = 32768;
 
 /// Room for a block, in bytes: below `FULL` one more part of a report is put behind it, and the
 /// longest has two short names and one of 1,024 bytes, each escaped by another. That it never grows
@@ -110,8 +110,8 @@ fn put_item<W: Write, T: PutJson>(
     put_named(writer, alloc, block, item)
 }
 
-// A list, each item in its turn.
-fn put_list<W: Write, T: PutJson>(
+/// Puts a list, each item in its turn.
+pub(crate) fn put_list<W: Write, T: PutJson>(
     writer: &mut W,
     alloc: Global,
     block: &mut Vec<u8>,

@@ -1,15 +1,16 @@
 //! Parts of replies, written as JSON.
-ghost use Rattle.std.specs.Prelude.{◌≡◌, ◌++◌, codes, string_bytes, IfOk, OnOk, IsTrue};
+ghost use Rattle.std.specs.Prelude.{◌≡◌, ◌++◌, codes, option_map, string_bytes, IfOk, OnOk, IsTrue};
 ghost use Rattle.meta_types.specs.Keys.{are_in_order};
 ghost use Rattle.meta_types.specs.Labels.{label_key};
 ghost use Rattle.meta_types.specs.Text.{texts_of};
-ghost use Rattle.gc_report.specs.Reports.{pair_data, list_data};
+ghost use Rattle.gc_report.specs.Reports.{count_data, pair_data, list_data};
 ghost use Rattle.gc_report.specs.Writing.{tokens_of, member_tokens, Adds};
-ghost use Rattle.reply_line.specs.Replies.{labels_data, if_any, kind_text, resource_data};
+ghost use Rattle.reply_line.specs.Replies.{extra_data, labels_data, if_any, kind_text, resource_data};
+ghost use Rattle.reply_line.specs.StepWriting.{tokens_if};
 
-use gc_report::WriteJson;
+use gc_report::{WriteJson, write_member};
 use json::Writer;
-use meta_types::{Labels, Resource, ShortName, SnapKind};
+use meta_types::{Data, Labels, Resource, ShortName, SnapKind};
 use std::alloc::{AllocError, Global};
 
 // Keys and values in the order of the keys.
@@ -32,6 +33,33 @@ pub(crate) fn write_labels(out: &mut Writer, labels: &Labels) -> Result<(), Allo
 {
     out.key("labels")?;
     write_entries(out, labels.entries())
+}
+
+// The member of an object's data, where it has some.
+pub(crate) fn write_extra(out: &mut Writer, extra: &Data) -> Result<(), AllocError>
+    ensures { OnOk result (Adds out.old out.new
+        (tokens_if (codes "data") (extra_data extra.now))) }
+{
+    if extra.text() == "" {
+        return Ok(());
+    }
+    out.key("data")?;
+    out.string(extra.text())
+}
+
+// A member with a number, where there is one.
+pub(crate) fn write_count_if(
+    out: &mut Writer,
+    key: &str,
+    count: Option<u64>,
+) -> Result<(), AllocError>
+    ensures { OnOk result (Adds out.old out.new
+        (tokens_if key.now (option_map count_data count))) }
+{
+    match count {
+        Some(count) => write_member(out, key, &count),
+        None => Ok(()),
+    }
 }
 
 // A value, or null.

@@ -16,8 +16,8 @@ use meta_types::{Fault, Name, ShortName};
 use std::alloc::Global;
 use std::io::Write;
 
-// Lists of backend objects.
-fn put_objects<W: Write>(
+/// Puts lists of backend objects.
+pub(crate) fn put_objects<W: Write>(
     writer: &mut W,
     alloc: Global,
     block: &mut Vec<u8>,

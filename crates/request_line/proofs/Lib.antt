@@ -2,3 +2,4 @@ pub mod Checks
 pub mod Asking
 pub mod RawLabels
 pub mod LineMembers
+pub mod PassedOn

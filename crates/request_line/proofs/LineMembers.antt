@@ -20,10 +20,10 @@ use Rattle.serde_json.proofs.Views.{Entry, get_member-put, get_member-put_other}
 use Rattle.meta_types.specs.Text.{Text}
 use Rattle.meta_types.specs.declared.fault.Fault.{Fault}
 use Rattle.request_line.specs.Members.{pairs_from}
-use Rattle.request_line.specs.Table.{Members as OpRow, members_of, asked_of}
-use Rattle.request_line.specs.Lines.{are_texts, is_listed, has_kind, are_listed, has_required, op_in, asked_with, asked_by, asked_in}
-use Rattle.request_line.specs.LineMembers.{LineMember, texts_object, value_of, put_all, object_of, is_behind, fits, asked_as, asked_by_all}
-use Rattle.request_line.specs.declared.asked.Asked.{Asked}
+use Rattle.request_line.specs.Table.{Members as OpRow, members_of, command_of}
+use Rattle.request_line.specs.Lines.{are_texts, is_listed, has_kind, are_listed, has_required, op_in, command_with, command_by, command_in}
+use Rattle.request_line.specs.LineMembers.{LineMember, texts_object, value_of, put_all, object_of, is_behind, fits, command_as, command_by_all}
+use Rattle.request_line.specs.declared.command.Command.{Command}
 use Rattle.request_line.specs.declared.op.Op.{Op}
 
 and-left : (a b : Bool) → (a && b) ≡ true → a ≡ true
@@ -282,56 +282,57 @@ fits_push row ms m es e named is before =
 
 -- ---- what they ask for
 
-pub asked_by_all-no_op : (ms : List LineMember) → op_in (object_of ms) ≡ None
-    → asked_by_all ms ≡ None
-unfolding asked_by_all
-asked_by_all-no_op ms named = ap (option_and_then (asked_as ms)) named
+pub command_by_all-no_op : (ms : List LineMember) → op_in (object_of ms) ≡ None
+    → command_by_all ms ≡ None
+unfolding command_by_all
+command_by_all-no_op ms named = ap (option_and_then (command_as ms)) named
 
-pub asked_by_all-misfit : (ms : List LineMember) (op : Op) → op_in (object_of ms) ≡ Some op
+pub command_by_all-misfit : (ms : List LineMember) (op : Op) → op_in (object_of ms) ≡ Some op
     → (list_all (fits (members_of op)) ms && has_required (members_of op) (object_of ms)) ≡ false
-    → asked_by_all ms ≡ None
-unfolding asked_by_all
-asked_by_all-misfit ms op named misfit = ap (option_and_then (asked_as ms)) named ∙ rw misfit refl
+    → command_by_all ms ≡ None
+unfolding command_by_all
+command_by_all-misfit ms op named misfit = ap (option_and_then (command_as ms)) named
+    ∙ rw misfit refl
 
-pub asked_by_all-op : (ms : List LineMember) (op : Op) → op_in (object_of ms) ≡ Some op
+pub command_by_all-op : (ms : List LineMember) (op : Op) → op_in (object_of ms) ≡ Some op
     → (list_all (fits (members_of op)) ms && has_required (members_of op) (object_of ms)) ≡ true
-    → asked_by_all ms ≡ Some (asked_of op (object_of ms))
-unfolding asked_by_all
-asked_by_all-op ms op named fit = ap (option_and_then (asked_as ms)) named ∙ rw fit refl
+    → command_by_all ms ≡ Some (command_of op (object_of ms))
+unfolding command_by_all
+command_by_all-op ms op named fit = ap (option_and_then (command_as ms)) named ∙ rw fit refl
 
-still_some : (b c r : Bool) (x a : Asked) → (b ≡ true → c ≡ true)
+still_some : (b c r : Bool) (x a : Command) → (b ≡ true → c ≡ true)
     → (if b && r then Some x else None) ≡ Some a → (if c && r then Some x else None) ≡ Some a
 still_some true c r x a both e = rw (both refl) e
 still_some false c r x a both e = absurd (cc)
 
-right_of : (ms : List LineMember) (o : Option Op) (a : Asked)
-    → option_and_then (asked_as ms) o ≡ Some a
-    → option_and_then (asked_with (object_of ms)) o ≡ Some a
+right_of : (ms : List LineMember) (o : Option Op) (a : Command)
+    → option_and_then (command_as ms) o ≡ Some a
+    → option_and_then (command_with (object_of ms)) o ≡ Some a
 right_of ms None a e = e
 right_of ms (Some op) a e =
     still_some _ _ _ _ a (are_listed-all (members_of op) no_members ms refl) e
 
 -- what members ask for that all fit, their object asks for
-asked_by_all-right : (ms : List LineMember) (a : Asked) → asked_by_all ms ≡ Some a
-    → asked_by (object_of ms) ≡ Some a
-unfolding asked_by_all asked_by
-asked_by_all-right ms a e = right_of ms (op_in (object_of ms)) a e
+command_by_all-right : (ms : List LineMember) (a : Command) → command_by_all ms ≡ Some a
+    → command_by (object_of ms) ≡ Some a
+unfolding command_by_all command_by
+command_by_all-right ms a e = right_of ms (op_in (object_of ms)) a e
 
 module _ (ms : List LineMember) (object : Members) (is : object_of ms ≡ object) (listed : (row : OpRow) → list_all (fits row) ms ≡ are_listed row object) where
   same_of : (o : Option Op)
-      → option_and_then (asked_as ms) o ≡ option_and_then (asked_with object) o
+      → option_and_then (command_as ms) o ≡ option_and_then (command_with object) o
   same_of None = refl
   same_of (Some op) = rw (listed (members_of op), is) refl
 
   -- members that fit as those of the object do ask for what it asks for
-  pub asked_by_all-same : asked_by_all ms ≡ asked_by object
-  unfolding asked_by_all asked_by
-  asked_by_all-same =
-      same_of (op_in (object_of ms)) ∙ ap (λ d. option_and_then (asked_with object) (op_in d)) is
+  pub command_by_all-same : command_by_all ms ≡ command_by object
+  unfolding command_by_all command_by
+  command_by_all-same =
+      same_of (op_in (object_of ms)) ∙ ap (λ d. option_and_then (command_with object) (op_in d)) is
 
-pub plain_asks : (r : Result (Option Asked) Fault) (line : List ℕ) (ms : List LineMember)
-    → asked_in line ≡ asked_by (object_of ms) → IfOk r (λ found. found ≡ asked_by_all ms)
-    → IfOk r (λ found. IfSome found (λ asked. asked_in line ≡ Some asked))
-plain_asks (Ok (Some asked)) line ms is found = is ∙ asked_by_all-right ms asked (sym found)
+pub plain_asks : (r : Result (Option Command) Fault) (line : List ℕ) (ms : List LineMember)
+    → command_in line ≡ command_by (object_of ms) → IfOk r (λ found. found ≡ command_by_all ms)
+    → IfOk r (λ found. IfSome found (λ command. command_in line ≡ Some command))
+plain_asks (Ok (Some command)) line ms is found = is ∙ command_by_all-right ms command (sym found)
 plain_asks (Ok None) line ms is found = tt
 plain_asks (Err fault) line ms is found = tt

@@ -11,9 +11,9 @@ use Rattle.meta_types.specs.Text.{Text}
 use Rattle.meta_types.specs.declared.request.RawName.{RawName}
 use Rattle.meta_types.specs.declared.request.RawSnapshot.{RawSnapshot}
 use Rattle.request_line.specs.Members.{text_at}
-use Rattle.request_line.specs.Table.{Members, members_of, asked_of}
+use Rattle.request_line.specs.Table.{Members, members_of, command_of}
 use Rattle.request_line.specs.Lines.{is_listed, has_kind, has_required, op_in}
-use Rattle.request_line.specs.declared.asked.Asked.{Asked}
+use Rattle.request_line.specs.declared.command.Command.{Command}
 use Rattle.request_line.specs.declared.op.Op.{Op}
 use Rattle.request_line.specs.declared.members.LineValue.{LineValue}
 use Rattle.request_line.specs.declared.members.LineValue.TheVariants as V
@@ -50,13 +50,14 @@ is_behind (Some last) name = is_gt (slice_cmp nat_cmp name last.now)
 abbrev pub fits : Members → LineMember → Bool
 fits row m = is_listed row m.0.now && has_kind m.0.now (value_of m.1)
 
-abbrev pub asked_as : List LineMember → Op → Option Asked
-asked_as ms op =
-    if list_all (fits (members_of op)) ms && has_required (members_of op) (object_of ms) then Some (asked_of op (object_of ms)) else None
+abbrev pub command_as : List LineMember → Op → Option Command
+command_as ms op =
+    if list_all (fits (members_of op)) ms && has_required (members_of op) (object_of ms) then Some
+    (command_of op (object_of ms)) else None
 
 -- what members ask for of which each one is the op's, also where one is repeated
-unfoldable pub asked_by_all : List LineMember → Option Asked
-asked_by_all ms = option_and_then (asked_as ms) (op_in (object_of ms))
+unfoldable pub command_by_all : List LineMember → Option Command
+command_by_all ms = option_and_then (command_as ms) (op_in (object_of ms))
 
 -- ---- what several ops read
 

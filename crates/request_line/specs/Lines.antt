@@ -7,9 +7,9 @@ use Rattle.serde_json.specs.Data as json
 use Rattle.serde_json.specs.Find.{get_member, as_str, as_object, as_number, as_u64}
 use Rattle.serde_json.specs.Read.{read}
 use Rattle.meta_types.specs.Text.{Text}
-use Rattle.request_line.specs.Table.{Members, members_of, asked_of, op_named}
+use Rattle.request_line.specs.Table.{Members, members_of, command_of, op_named}
 use Rattle.request_line.specs.Members.{text_if_any}
-use Rattle.request_line.specs.declared.asked.Asked.{Asked}
+use Rattle.request_line.specs.declared.command.Command.{Command}
 use Rattle.request_line.specs.declared.op.Op.{Op}
 
 -- ---- which objects are requests
@@ -30,9 +30,11 @@ are_labels d = option_map_or are_texts (as_object d) false
 abbrev pub is_whole : json.Data → Bool
 is_whole d = is_some (option_and_then as_u64 (as_number d))
 
--- all members are texts, but `labels` and `v`
+-- all members are texts, but `labels`, `put` and `v`
 abbrev pub has_kind : Text → json.Data → Bool
-has_kind key d = if bytes_eq key (codes "labels") then are_labels d else if bytes_eq key (codes "v") then is_whole d else is_text d
+has_kind key d =
+    if bytes_eq key (codes "labels") || bytes_eq key (codes "put") then are_labels d
+    else if bytes_eq key (codes "v") then is_whole d else is_text d
 
 abbrev pub is_among : Text → List Text → Bool
 is_among key keys = list_any (λ k. bytes_eq k key) keys
@@ -57,20 +59,20 @@ are_of row ms = are_listed row ms && has_required row ms
 -- ---- what they ask for
 
 -- what an op asks for, where the object has its members
-abbrev pub asked_with : json.Members → Op → Option Asked
-asked_with ms op = if are_of (members_of op) ms then Some (asked_of op ms) else None
+abbrev pub command_with : json.Members → Op → Option Command
+command_with ms op = if are_of (members_of op) ms then Some (command_of op ms) else None
 
 abbrev pub op_in : json.Members → Option Op
 op_in ms = option_and_then op_named (text_if_any (codes "op") ms)
 
 -- what an object asks for, where it is a request
-unfoldable pub asked_by : json.Members → Option Asked
-asked_by ms = option_and_then (asked_with ms) (op_in ms)
+unfoldable pub command_by : json.Members → Option Command
+command_by ms = option_and_then (command_with ms) (op_in ms)
 
 -- what a value asks for: no other value is a request
-unfoldable pub asked_from : json.Data → Option Asked
-asked_from d = option_and_then asked_by (as_object d)
+unfoldable pub command_from : json.Data → Option Command
+command_from d = option_and_then command_by (as_object d)
 
 -- what a line asks for, where it is UTF-8, JSON and a request
-unfoldable pub asked_in : List ℕ → Option Asked
-asked_in line = if is_utf8 line then option_and_then asked_from (read line) else None
+unfoldable pub command_in : List ℕ → Option Command
+command_in line = if is_utf8 line then option_and_then command_from (read line) else None

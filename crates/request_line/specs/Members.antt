@@ -1,5 +1,5 @@
 -- What a member of an object says. Ours, unless a source stands beside.
-use Rattle.std.specs.Prelude.{ℕ, List, [], ◌∷◌, Option, unwrap_or, option_and_then, codes}
+use Rattle.std.specs.Prelude.{ℕ, List, [], ◌∷◌, Option, unwrap_or, option_and_then, option_map, codes}
 use Rattle.std.specs.Option.{option_map_or}
 use Rattle.serde_json.specs.Data as json
 use Rattle.serde_json.specs.Find.{get_member, as_str, as_object, as_number, as_u64}
@@ -25,3 +25,7 @@ pairs_from (json.member k d ms) = (k, unwrap_or (as_str d) []) ∷ pairs_from ms
 -- the labels, which may be left out
 abbrev pub labels_at : json.Members → List (Text × Text)
 labels_at ms = option_map_or pairs_from (option_and_then as_object (get_member (codes "labels") ms)) []
+
+-- the same of any member, with nothing where it is left out
+abbrev pub labels_if_any : Text → json.Members → Option (List (Text × Text))
+labels_if_any key ms = option_map pairs_from (option_and_then as_object (get_member key ms))

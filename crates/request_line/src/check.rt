@@ -61,7 +61,7 @@ fn is_text(value: &LineValue<'_, '_>) -> bool
 fn has_kind(key: &str, value: &LineValue<'_, '_>) -> bool
     ensures { result ≡ has_kind key.now (value_of value.now) }
 {
-    if is_same(key, "labels") {
+    if is_same(key, "labels") || is_same(key, "put") {
         are_labels(value)
     } else if is_same(key, "v") {
         is_whole(value)

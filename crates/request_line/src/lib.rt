@@ -1,9 +1,9 @@
 //! Reads what a line asks for.
 #![tactic(auto)]
 
-mod asked;
 mod check;
 mod collection_ops;
+mod command;
 mod container_ops;
 mod content_ops;
 mod image_ops;
@@ -16,6 +16,6 @@ mod plain;
 mod question_ops;
 mod snapshot_ops;
 
-pub use asked::Asked;
+pub use command::Command;
 pub use line::read_line;
 pub use op::{Op, OpForm};

@@ -3,25 +3,27 @@ ghost use Rattle.std.specs.Prelude.{◌≡◌, None, Some, IfOk, IfErr, IfSome, 
 ghost use Rattle.std.specs.List.{list_all};
 ghost use Rattle.serde_json.specs.View.{view, members_view};
 ghost use Rattle.meta_types.specs.Faults.{Refuses};
-ghost use Rattle.request_line.specs.Table.{Members, asked_of};
-ghost use Rattle.request_line.specs.Lines.{asked_by, asked_from, asked_in, are_listed};
+ghost use Rattle.request_line.specs.Table.{Members, command_of};
+ghost use Rattle.request_line.specs.Lines.{command_by, command_from, command_in, are_listed};
 ghost use Rattle.request_line.specs.Refusals.{IsUnread};
-ghost use Rattle.request_line.specs.LineMembers.{object_of, fits, asked_by_all};
+ghost use Rattle.request_line.specs.LineMembers.{object_of, fits, command_by_all};
 
-use crate::asked::Asked;
 use crate::check::{are_of, op_in};
 use crate::collection_ops::{gc_plan, gc_run};
+use crate::command::Command;
 use crate::container_ops::{
-    container_add, container_get, container_label, container_list, container_remove,
+    container_add, container_get, container_label, container_list, container_remove, container_set,
 };
 use crate::content_ops::{
-    content_add, content_get, content_label, content_list, content_remove, ingest_abort,
-    ingest_begin, ingest_commit, ingest_get, ingest_list,
+    content_add, content_get, content_label, content_list, content_remove, content_set,
+    ingest_abort, ingest_begin, ingest_commit, ingest_get, ingest_list, ingest_open,
 };
-use crate::image_ops::{image_add, image_get, image_label, image_list, image_remove, image_target};
+use crate::image_ops::{
+    image_add, image_get, image_label, image_list, image_remove, image_set, image_target,
+};
 use crate::lease_ops::{
     lease_add, lease_drop, lease_get, lease_hold, lease_label, lease_list, lease_remove,
-    lease_resources,
+    lease_resources, lease_set,
 };
 use crate::members::{LineValue, Member};
 use crate::namespace_ops::{ns_add, ns_remove, profile};
@@ -29,7 +31,8 @@ use crate::op::Op;
 use crate::plain::read_plain;
 use crate::question_ops::{gc_explain, gc_impact};
 use crate::snapshot_ops::{
-    snap_commit, snap_get, snap_label, snap_list, snap_prepare, snap_remove, snap_view,
+    snap_commit, snap_get, snap_label, snap_list, snap_prepare, snap_remove, snap_set,
+    snap_snapshotters, snap_view,
 };
 use json::Scratch;
 use meta_types::{Fault, Request};
@@ -37,31 +40,35 @@ use serde_json::{Map, Value};
 use std::alloc::Global;
 
 // What an op asks for with these members.
-fn ask_for<'a>(alloc: Global, op: Op, members: &[Member<'a, '_>]) -> Result<Asked<'a>, Fault>
+fn ask_for<'a>(alloc: Global, op: Op, members: &[Member<'a, '_>]) -> Result<Command<'a>, Fault>
     ensures fault { Refuses result None }
-    ensures ok { IfOk result (λ asked. asked ≡ asked_of op (object_of members.now)) }
+    ensures ok { IfOk result (λ command. command ≡ command_of op (object_of members.now)) }
 {
     match op {
         Op::NsAdd => ns_add(alloc, members),
         Op::NsRemove => ns_remove(alloc, members),
-        Op::NsList => Ok(Asked::Request(Request::NsList)),
+        Op::NsList => Ok(Command::Request(Request::NsList)),
         Op::ImageAdd => image_add(alloc, members),
         Op::ImageTarget => image_target(alloc, members),
+        Op::ImageSet => image_set(alloc, members),
         Op::ImageRemove => image_remove(alloc, members),
         Op::ImageGet => image_get(alloc, members),
         Op::ImageList => image_list(alloc, members),
         Op::ImageLabel => image_label(alloc, members),
         Op::ContainerAdd => container_add(alloc, members),
+        Op::ContainerSet => container_set(alloc, members),
         Op::ContainerRemove => container_remove(alloc, members),
         Op::ContainerGet => container_get(alloc, members),
         Op::ContainerList => container_list(alloc, members),
         Op::ContainerLabel => container_label(alloc, members),
         Op::ContentAdd => content_add(alloc, members),
+        Op::ContentSet => content_set(alloc, members),
         Op::ContentRemove => content_remove(alloc, members),
         Op::ContentGet => content_get(alloc, members),
         Op::ContentLabel => content_label(alloc, members),
         Op::ContentList => content_list(alloc, members),
         Op::IngestBegin => ingest_begin(alloc, members),
+        Op::IngestOpen => ingest_open(alloc, members),
         Op::IngestCommit => ingest_commit(alloc, members),
         Op::IngestAbort => ingest_abort(alloc, members),
         Op::IngestGet => ingest_get(alloc, members),
@@ -69,11 +76,14 @@ fn ask_for<'a>(alloc: Global, op: Op, members: &[Member<'a, '_>]) -> Result<Aske
         Op::SnapPrepare => snap_prepare(alloc, members),
         Op::SnapView => snap_view(alloc, members),
         Op::SnapCommit => snap_commit(alloc, members),
+        Op::SnapSet => snap_set(alloc, members),
         Op::SnapRemove => snap_remove(alloc, members),
         Op::SnapGet => snap_get(alloc, members),
         Op::SnapLabel => snap_label(alloc, members),
         Op::SnapList => snap_list(alloc, members),
+        Op::SnapSnapshotters => snap_snapshotters(alloc, members),
         Op::LeaseAdd => lease_add(alloc, members),
+        Op::LeaseSet => lease_set(alloc, members),
         Op::LeaseRemove => lease_remove(alloc, members),
         Op::LeaseGet => lease_get(alloc, members),
         Op::LeaseLabel => lease_label(alloc, members),
@@ -86,13 +96,14 @@ fn ask_for<'a>(alloc: Global, op: Op, members: &[Member<'a, '_>]) -> Result<Aske
         Op::GcPlan => gc_plan(alloc, members),
         Op::GcExplain => gc_explain(alloc, members),
         Op::GcImpact => gc_impact(alloc, members),
+        Op::BackList => Ok(Command::BackList),
     }
 }
 
 // What members ask for of which each one is the op's.
-fn ask<'a>(alloc: Global, members: &[Member<'a, '_>]) -> Result<Option<Asked<'a>>, Fault>
+fn ask<'a>(alloc: Global, members: &[Member<'a, '_>]) -> Result<Option<Command<'a>>, Fault>
     ensures fault { Refuses result None }
-    ensures ok { IfOk result (λ found. found ≡ asked_by_all members.now) }
+    ensures ok { IfOk result (λ found. found ≡ command_by_all members.now) }
 {
     let Some(op) = op_in(members) else {
         return Ok(None);
@@ -100,8 +111,8 @@ fn ask<'a>(alloc: Global, members: &[Member<'a, '_>]) -> Result<Option<Asked<'a>
     if !are_of(op, members) {
         return Ok(None);
     }
-    let asked = ask_for(alloc, op, members)?;
-    Ok(Some(asked))
+    let command = ask_for(alloc, op, members)?;
+    Ok(Some(command))
 }
 
 // What a plain line asks for: nothing also where it isn't plain.
@@ -109,9 +120,10 @@ fn ask_plain<'a>(
     alloc: Global,
     line: &'a [u8],
     scratch: &'a mut Scratch,
-) -> Result<Option<Asked<'a>>, Fault>
+) -> Result<Option<Command<'a>>, Fault>
     ensures fault { Refuses result None }
-    ensures ok { IfOk result (λ found. IfSome found (λ asked. asked_in line.now ≡ Some asked)) }
+    ensures ok { IfOk result (λ found. IfSome found (λ command. command_in line.now
+        ≡ Some command)) }
 {
     let Ok(text) = std::str::from_utf8(line) else {
         return Ok(None);
@@ -140,22 +152,23 @@ fn members_of<'a, 'v>(
 }
 
 // What an object asks for.
-fn ask_object<'a>(alloc: Global, members: &Map<String, Value>) -> Result<Asked<'a>, Fault>
-    ensures fault { IfErr result (IsUnread (asked_by (members_view members.now.entries))) }
-    ensures ok { IfOk result (λ asked. asked_by (members_view members.now.entries) ≡ Some asked) }
+fn ask_object<'a>(alloc: Global, members: &Map<String, Value>) -> Result<Command<'a>, Fault>
+    ensures fault { IfErr result (IsUnread (command_by (members_view members.now.entries))) }
+    ensures ok { IfOk result (λ command. command_by (members_view members.now.entries)
+        ≡ Some command) }
 {
     let listed = members_of(alloc, members)?;
     let found = ask(alloc, &listed)?;
     match found {
-        Some(asked) => Ok(asked),
+        Some(command) => Ok(command),
         None => Err(Fault::BadLine),
     }
 }
 
 // What a value asks for.
-fn ask_by<'a>(alloc: Global, value: &Value) -> Result<Asked<'a>, Fault>
-    ensures fault { IfErr result (IsUnread (asked_from (view value.now))) }
-    ensures ok { IfOk result (λ asked. asked_from (view value.now) ≡ Some asked) }
+fn ask_by<'a>(alloc: Global, value: &Value) -> Result<Command<'a>, Fault>
+    ensures fault { IfErr result (IsUnread (command_from (view value.now))) }
+    ensures ok { IfOk result (λ command. command_from (view value.now) ≡ Some command) }
 {
     match value.as_object() {
         Some(members) => ask_object(alloc, members),
@@ -164,9 +177,9 @@ fn ask_by<'a>(alloc: Global, value: &Value) -> Result<Asked<'a>, Fault>
 }
 
 // What any line asks for, read as a tree of values.
-fn ask_any<'a>(alloc: Global, line: &[u8]) -> Result<Asked<'a>, Fault>
-    ensures fault { IfErr result (IsUnread (asked_in line.now)) }
-    ensures ok { IfOk result (λ asked. asked_in line.now ≡ Some asked) }
+fn ask_any<'a>(alloc: Global, line: &[u8]) -> Result<Command<'a>, Fault>
+    ensures fault { IfErr result (IsUnread (command_in line.now)) }
+    ensures ok { IfOk result (λ command. command_in line.now ≡ Some command) }
 {
     match Value::from_slice(alloc, line) {
         Ok(value) => ask_by(alloc, &value),
@@ -181,12 +194,12 @@ pub fn read_line<'a>(
     alloc: Global,
     line: &'a [u8],
     scratch: &'a mut Scratch,
-) -> Result<Asked<'a>, Fault>
-    ensures fault { IfErr result (IsUnread (asked_in line.now)) }
-    ensures ok { IfOk result (λ asked. asked_in line.now ≡ Some asked) }
+) -> Result<Command<'a>, Fault>
+    ensures fault { IfErr result (IsUnread (command_in line.now)) }
+    ensures ok { IfOk result (λ command. command_in line.now ≡ Some command) }
 {
-    if let Some(asked) = ask_plain(alloc, line, scratch)? {
-        return Ok(asked);
+    if let Some(command) = ask_plain(alloc, line, scratch)? {
+        return Ok(command);
     }
     ask_any(alloc, line)
 }

@@ -1,16 +1,21 @@
 //! The members of a line, and what they say.
-ghost use Rattle.std.specs.Prelude.{◌≡◌, [], None, IfOk, unwrap_or, string_bytes, option_map, map};
-ghost use Rattle.std.specs.Option.{option_map_or};
+ghost use Rattle.std.specs.Prelude.{◌≡◌, None, IfOk, option_map};
 ghost use Rattle.std.specs.Str.{bytes_eq};
-ghost use Rattle.serde_json.specs.View.{view, members_view};
-ghost use Rattle.serde_json.specs.Find.{as_str, as_object, get_member};
+ghost use Rattle.serde_json.specs.View.{view};
+ghost use Rattle.serde_json.specs.Find.{as_str, get_member};
 ghost use Rattle.meta_types.specs.Faults.{Refuses};
-ghost use Rattle.request_line.specs.Members.{text_at, text_if_any, whole_at, labels_at, pairs_from};
-ghost use Rattle.request_line.specs.Table.{content, label};
+ghost use Rattle.request_line.specs.Members.{text_at, text_if_any, whole_at, labels_at, labels_if_any};
+ghost use Rattle.request_line.specs.Table.{content, label, shows, update};
 ghost use Rattle.request_line.specs.LineMembers.{value_of, object_of, name_at, snapshot_at};
 
-use meta_types::{Fault, RawContent, RawLabel, RawLabels, RawName, RawSnapshot, RawText};
-use serde_json::{Map, Value};
+mod pairs;
+
+use crate::command::Command;
+use crate::members::pairs::{labels_in, labels_of};
+use meta_types::{
+    Fault, RawContent, RawLabel, RawLabels, RawName, RawSnapshot, RawText, Request, RowUpdate,
+};
+use serde_json::Value;
 use std::alloc::Global;
 
 /// The value of a member of a line: what the line lends, or a value of a tree, whose texts are
@@ -78,8 +83,8 @@ pub(crate) fn text_in<'m>(members: &'m [Member<'_, '_>], name: &str) -> Option<&
     text_of(member(members, name)?)
 }
 
-// A copy of a value's text, where it is one.
-fn copy_of(alloc: Global, value: &Value) -> Result<Option<RawText<'static>>, Fault>
+/// A copy of a value's text, where it is one.
+pub(crate) fn copy_of(alloc: Global, value: &Value) -> Result<Option<RawText<'static>>, Fault>
     ensures fault { Refuses result None }
     ensures ok { IfOk result (λ raw. raw ≡ as_str (view value.now)) }
 {
@@ -143,74 +148,6 @@ pub(crate) fn whole(members: &[Member<'_, '_>], name: &str) -> u64
     }
 }
 
-// A text of an object of texts.
-fn text_or_empty(alloc: Global, value: &Value) -> Result<RawText<'static>, Fault>
-    ensures fault { Refuses result None }
-    ensures ok { IfOk result (λ text. text ≡ unwrap_or (as_str (view value.now)) []) }
-{
-    match copy_of(alloc, value)? {
-        Some(text) => Ok(text),
-        None => Ok(RawText::lent("")),
-    }
-}
-
-// An object's keys and texts, in the order of the keys.
-fn pairs_of(alloc: Global, members: &Map<String, Value>) -> Result<RawLabels<'static>, Fault>
-    ensures fault { Refuses result None }
-    ensures ok { IfOk result (λ pairs. pairs ≡ pairs_from (members_view members.now.entries)) }
-{
-    let mut entries = Vec::new(alloc);
-    for (name, value) in members.iter() {
-        let key = name.clone()?;
-        let text = text_or_empty(alloc, value)?;
-        entries.push((RawText::new(key), text))?;
-    }
-    Ok(RawLabels::new(entries))
-}
-
-// The keys and texts of a value: none, where it is no object.
-fn pairs_in(alloc: Global, value: &Value) -> Result<RawLabels<'static>, Fault>
-    ensures fault { Refuses result None }
-    ensures ok { IfOk result (λ pairs. pairs ≡ option_map_or pairs_from (as_object
-        (view value.now)) []) }
-{
-    match value.as_object() {
-        Some(members) => pairs_of(alloc, members),
-        None => Ok(RawLabels::new(Vec::new(alloc))),
-    }
-}
-
-// The same keys and texts, lent.
-fn lent<'a>(alloc: Global, texts: &[(&'a str, &'a str)]) -> Result<RawLabels<'a>, Fault>
-    ensures fault { Refuses result None }
-    ensures ok { IfOk result (λ pairs. pairs ≡ map (λ t. (t.0.now, t.1.now)) texts.now) }
-{
-    let mut entries = Vec::with_capacity(alloc, texts.len())?;
-    for text in texts {
-        entries.push((RawText::lent(text.0), RawText::lent(text.1)))?;
-    }
-    Ok(RawLabels::new(entries))
-}
-
-// The labels that a value says: none, where it is no object.
-fn labels_in<'a>(alloc: Global, value: &LineValue<'a, '_>) -> Result<RawLabels<'a>, Fault>
-    ensures fault { Refuses result None }
-    ensures ok { IfOk result (λ pairs. pairs ≡ option_map_or pairs_from (as_object
-        (value_of value.now)) []) }
-{
-    match value {
-        LineValue::Labels(texts) => {
-            let pairs = lent(alloc, texts)?;
-            Ok(pairs)
-        }
-        LineValue::Any(value) => {
-            let pairs = pairs_in(alloc, *value)?;
-            Ok(pairs)
-        }
-        LineValue::Text(_) => Ok(RawLabels::new(Vec::new(alloc))),
-    }
-}
-
 /// The labels, which may be left out.
 pub(crate) fn labels<'a>(alloc: Global, members: &[Member<'a, '_>]) -> Result<RawLabels<'a>, Fault>
     ensures fault { Refuses result None }
@@ -219,6 +156,21 @@ pub(crate) fn labels<'a>(alloc: Global, members: &[Member<'a, '_>]) -> Result<Ra
     match member(members, "labels") {
         Some(value) => labels_in(alloc, value),
         None => Ok(RawLabels::new(Vec::new(alloc))),
+    }
+}
+
+/// An object of texts that may be left out.
+pub(crate) fn labels_if_any<'a>(
+    alloc: Global,
+    members: &[Member<'a, '_>],
+    name: &str,
+) -> Result<Option<RawLabels<'a>>, Fault>
+    ensures fault { Refuses result None }
+    ensures ok { IfOk result (λ pairs. pairs ≡ labels_if_any name.now (object_of members.now)) }
+{
+    match member(members, name) {
+        Some(value) => labels_of(alloc, value),
+        None => Ok(None),
     }
 }
 
@@ -276,4 +228,34 @@ pub(crate) fn label<'a>(alloc: Global, members: &[Member<'a, '_>]) -> Result<Raw
     let key = text(alloc, members, "key")?;
     let value = text(alloc, members, "value")?;
     Ok(RawLabel { key, value })
+}
+
+/// What of a row is replaced.
+pub(crate) fn update<'a>(alloc: Global, members: &[Member<'a, '_>]) -> Result<RowUpdate<'a>, Fault>
+    ensures fault { Refuses result None }
+    ensures ok { IfOk result (λ command. command ≡ update.said (object_of members.now)) }
+{
+    let labels = labels_if_any(alloc, members, "labels")?;
+    let put = labels_if_any(alloc, members, "put")?;
+    let extra = text_if_any(alloc, members, "data")?;
+    Ok(RowUpdate { labels, put, extra })
+}
+
+/// A request, with the words that stand beside it, if any.
+pub(crate) fn show<'a>(
+    request: Request<'a>,
+    answer: Option<RawText<'a>>,
+    there: Option<RawText<'a>>,
+) -> Command<'a>
+    ensures { result ≡ shows request.entry answer.entry there.entry }
+{
+    if answer.is_some() || there.is_some() {
+        Command::Show {
+            request,
+            answer,
+            there,
+        }
+    } else {
+        Command::Request(request)
+    }
 }

@@ -13,7 +13,7 @@ use meta_types::Fault;
 use std::alloc::Global;
 
 // No op has more members.
-const MOST: usize = 8;
+const MOST: usize = 12;
 
 // Whether a name stands behind the one before.
 fn is_behind(last: Option<&str>, name: &str) -> bool

@@ -14,10 +14,10 @@ use Rattle.meta_types.specs.declared.fault.Fault.{Fault}
 use Rattle.meta_types.specs.declared.fault.Fault.TheVariants.{InvalidArgument}
 use Rattle.meta_types.specs.declared.object.Object.{Object}
 use Rattle.meta_types.specs.declared.explanation.Explanation.{Explanation}
-use Rattle.request_line.specs.declared.asked.Asked.{Asked}
-use Rattle.request_line.specs.declared.asked.Asked.TheVariants as A
+use Rattle.request_line.specs.declared.command.Command.{Command}
+use Rattle.request_line.specs.declared.command.Command.TheVariants as A
 use Rattle.reply_line.specs.Explained.{told_of}
-use Rattle.scripts.specs.LineSteps.{supplied_answer, question_step, asked_step, IsTrueOf}
+use Rattle.scripts.specs.LineSteps.{supplied_answer, question_step, command_step, IsTrueOf}
 use Rattle.scripts.specs.Served.{IsServed, IsRefused}
 
 -- a text that is allowed
@@ -38,16 +38,17 @@ no_third false false = refl
 -- ---- any question
 
 -- the request is a question: this fault refuses it, and its texts are judged first
-pub record IsQuestion (old : State) (asked : Asked) (least : Option Fault)
+pub record IsQuestion (old : State) (command : Command) (least : Option Fault)
     (ns kind name at : Text) : Type 0 where
-  pub step : (given : QuestionAnswer) → asked_step old given asked ≡ question_step old given least
+  pub step : (given : QuestionAnswer) → command_step old given command
+      ≡ question_step old given least
   pub judged : (is_short_name ns && is_some (object_of kind name) && is_some (instant_of at))
       ≡ false → least ≡ Some InvalidArgument
 
-module _ (old : State) (asked : Asked) (least : Option Fault) (ns kind name at : Text)
-    (q : IsQuestion old asked least ns kind name at) where
+module _ (old : State) (command : Command) (least : Option Fault) (ns kind name at : Text)
+    (q : IsQuestion old command least ns kind name at) where
   -- the fault of the question
-  is_fault : (fault : Fault) → least ≡ Some fault → IsRefused old asked fault old
+  is_fault : (fault : Fault) → least ≡ Some fault → IsRefused old command fault old
   is_fault fault e =
       inr (inr (
         tt,
@@ -58,47 +59,47 @@ module _ (old : State) (asked : Asked) (least : Option Fault) (ns kind name at :
   -- a text couldn't be read
   by_text : (test : Bool) → (test ≡ false → least ≡ Some InvalidArgument) → (fault : Fault)
       → Refuses {X = Object} (Err fault) (unless test InvalidArgument)
-      → IsRefused old asked fault old
+      → IsRefused old command fault old
   by_text true bad fault r = inl (r, refl)
   by_text false bad fault r =
-      subst (λ (f : Fault). IsRefused old asked f old) (sym r)
+      subst (λ (f : Fault). IsRefused old command f old) (sym r)
       (is_fault InvalidArgument (bad refl))
 
-  pub no_moment : instant_of at ≡ None → IsRefused old asked InvalidArgument old
+  pub no_moment : instant_of at ≡ None → IsRefused old command InvalidArgument old
   no_moment e =
       is_fault InvalidArgument
       (q.judged (rw e (no_third (is_short_name ns) (is_some (object_of kind name)))))
 
   pub no_namespace : (fault : Fault)
       → Refuses {X = Object} (Err fault) (unless (is_short_name ns) InvalidArgument)
-      → IsRefused old asked fault old
+      → IsRefused old command fault old
   no_namespace fault r = by_text (is_short_name ns) (λ e. q.judged (rw e refl)) fault r
 
   pub no_object : (fault : Fault)
       → Refuses {X = Object} (Err fault) (unless (is_some (object_of kind name)) InvalidArgument)
-      → IsRefused old asked fault old
+      → IsRefused old command fault old
   no_object fault r =
       by_text (is_some (object_of kind name))
       (λ e. q.judged (rw e (no_second (is_short_name ns) (is_some (instant_of at))))) fault r
 
   by_least : (found : Option Fault) → least ≡ found → (fault : Fault)
-      → Refuses {X = Object} (Err fault) found → IsRefused old asked fault old
+      → Refuses {X = Object} (Err fault) found → IsRefused old command fault old
   by_least None e fault r = inl (r, refl)
   by_least (Some found) e fault r =
-      subst (λ (f : Fault). IsRefused old asked f old) (sym r) (is_fault found e)
+      subst (λ (f : Fault). IsRefused old command f old) (sym r) (is_fault found e)
 
   -- all texts were read: what refuses the store's answer is the fault of the question
   module _ {X : Type 0} (call : Option Fault) (same : least ≡ call) where
     call_err : (result : Result X Fault) → Refuses result call
-        → IfErr result (λ fault. IsRefused old asked fault old)
+        → IfErr result (λ fault. IsRefused old command fault old)
     call_err (Ok x) r = tt
     call_err (Err fault) r = by_least call same fault r
 
     -- and its answer is the question's, where it is right
     call_ok : (of : X → QuestionAnswer) (P : X → Type 0)
-        → ((x : X) → least ≡ None → P x → IsTrueOf old (Some asked) (of_question (of x)))
+        → ((x : X) → least ≡ None → P x → IsTrueOf old (Some command) (of_question (of x)))
         → (result : Result X Fault) → Refuses result call → IfOk result P
-        → IfOk result (λ x. IsServed old asked (of_question (of x)) old)
+        → IfOk result (λ x. IsServed old command (of_question (of x)) old)
     call_ok of P right (Err fault) r p = tt
     call_ok of P right (Ok x) r p =
         let free = same ∙ r in (

@@ -31,10 +31,10 @@ abbrev pub end_labels : List (Text × Text)
 end_labels = (codes "containerd.io/gc.expire", first_of_march_text) ∷ []
 
 abbrev the_lease : Thing
-the_lease = lease (record { ns = x; id = l; labels = end_labels; resources = R.Content a ∷ [] })
+the_lease = lease (record { ns = x; id = l; labels = end_labels; extra = []; resources = R.Content a ∷ [] })
 
 abbrev row : ContentRow
-row = record { ns = x; digest = a; labels = [] }
+row = record { ns = x; digest = a; labels = []; extra = [] }
 
 abbrev full : Thing
 full = content Full row

@@ -1,8 +1,11 @@
 pub mod LineAnswers
+mod WithWords
 mod Unchanged
+mod Effects
+mod Changing
 mod SameLines
 mod FirstBytes
-mod SaidTexts
+mod RenderedTexts
 pub mod Scripts
 pub mod Writers
 pub mod Runs

@@ -9,11 +9,11 @@ use Rattle.meta_types.specs.declared.fault.Fault.TheVariants.{TooLong}
 use Rattle.meta_types.specs.Rows.{State}
 use Rattle.meta_types.specs.Steps.{refused}
 use Rattle.meta_types.specs.Questions.{QuestionAnswer, LineAnswer, of_event}
-use Rattle.request_line.specs.Lines.{asked_in}
+use Rattle.request_line.specs.Lines.{command_in}
 use Rattle.request_line.specs.Refusals.{IsUnread}
-use Rattle.request_line.specs.declared.asked.Asked.{Asked}
+use Rattle.request_line.specs.declared.command.Command.{Command}
 use Rattle.reply_line.specs.Explained.{line_answer_text}
-use Rattle.scripts.specs.LineSteps.{Supplied, out_of_memory, no_worker, gives, asked_step, answer_step, line_step, IsLineAnswer, IsTrueOf, IsTrueAt}
+use Rattle.scripts.specs.LineSteps.{Supplied, out_of_memory, no_worker, gives, command_step, answer_step, line_step, IsLineAnswer, IsTrueOf, IsTrueAt}
 use Rattle.scripts.specs.Lines.{short_request, with_line_feed}
 use Rattle.scripts.specs.Served.{IsServed, IsRefused}
 
@@ -44,15 +44,15 @@ is_short n short = grind (arith, nat_tests)
 
 module _ (state : State) (line : List ℕ) (short : length line ≤ 65536) where
   -- a line that asks for something
-  asks : (asked : Asked) → asked_in line ≡ Some asked → short_request line ≡ Some asked
-  asks asked e = rw (is_short (length line) short, e) refl
+  asks : (command : Command) → command_in line ≡ Some command → short_request line ≡ Some command
+  asks command e = rw (is_short (length line) short, e) refl
 
-  step-asked : (given : QuestionAnswer) (asked : Asked) → asked_in line ≡ Some asked
-      → answer_step state (Some (gives given)) line ≡ asked_step state given asked
-  step-asked given asked e = rw (is_short (length line) short, e) refl
+  step-command : (given : QuestionAnswer) (command : Command) → command_in line ≡ Some command
+      → answer_step state (Some (gives given)) line ≡ command_step state given command
+  step-command given command e = rw (is_short (length line) short, e) refl
 
   -- a line that can't be read
-  pub step-unread : (fault : Fault) → IsUnread (asked_in line) fault
+  pub step-unread : (fault : Fault) → IsUnread (command_in line) fault
       → IsLineAnswer state line (of_event (refused fault)) state
   step-unread fault u = elim u [
     | inl e ↦ (Some out_of_memory, rw e refl, tt)
@@ -60,40 +60,41 @@ module _ (state : State) (line : List ℕ) (short : length line ≤ 65536) where
   ]
 
   -- what it asks for is done
-  served_line : (asked : Asked) (answer : LineAnswer) (new : State) → asked_in line ≡ Some asked
-      → IsServed state asked answer new → IsLineAnswer state line answer new
-  served_line asked answer new e s = (
+  served_line : (command : Command) (answer : LineAnswer) (new : State) → command_in line
+      ≡ Some command
+      → IsServed state command answer new → IsLineAnswer state line answer new
+  served_line command answer new e s = (
     Some (gives s.1),
-    step-asked s.1 asked e
+    step-command s.1 command e
         ∙ s.2,
-    subst (λ (what : Option Asked). IsTrueOf state what answer) (sym (asks asked e))
+    subst (λ (what : Option Command). IsTrueOf state what answer) (sym (asks command e))
         s.0,
   )
 
   -- what it asks for is refused
-  refused_line : (asked : Asked) (fault : Fault) (new : State) → asked_in line ≡ Some asked
-      → IsRefused state asked fault new → IsLineAnswer state line (of_event (refused fault)) new
-  refused_line asked fault new e r = elim r [
+  refused_line : (command : Command) (fault : Fault) (new : State) → command_in line ≡ Some command
+      → IsRefused state command fault new → IsLineAnswer state line (of_event (refused fault)) new
+  refused_line command fault new e r = elim r [
     | inl f ↦ (Some out_of_memory, (λ i. (of_event (refused (sym f.0 i)), sym f.1 i)), tt)
     | inr f ↦ elim f [
       | inl n ↦ (Some no_worker, rw (is_short (length line) short, e, n.1, n.0, n.2) refl, tt)
-      | inr s ↦ served_line asked (of_event (refused fault)) new e s
+      | inr s ↦ served_line command (of_event (refused fault)) new e s
     ]
   ]
 
   -- the same of what a call answers
-  pub served_call : {T : Type 0} (of : T → LineAnswer) (result : Result T Fault) (asked : Asked)
-      (new : State) → asked_in line ≡ Some asked
-      → IfOk result (λ x. IsServed state asked (of x) new)
+  pub served_call : {T : Type 0} (of : T → LineAnswer) (result : Result T Fault) (command : Command)
+      (new : State) → command_in line ≡ Some command
+      → IfOk result (λ x. IsServed state command (of x) new)
       → IfOk result (λ x. IsLineAnswer state line (of x) new)
-  served_call of (Ok x) asked new e s = served_line asked (of x) new e s
-  served_call of (Err fault) asked new e s = tt
+  served_call of (Ok x) command new e s = served_line command (of x) new e s
+  served_call of (Err fault) command new e s = tt
 
-  pub refused_call : {T : Type 0} (result : Result T Fault) (asked : Asked) (new : State)
-      → asked_in line ≡ Some asked → IfErr result (λ fault. IsRefused state asked fault new)
+  pub refused_call : {T : Type 0} (result : Result T Fault) (command : Command) (new : State)
+      → command_in line ≡ Some command → IfErr result (λ fault. IsRefused state command fault new)
       → IfErr result (λ fault. IsLineAnswer state line (of_event (refused fault)) new)
-  refused_call (Ok x) asked new e r = tt
-  refused_call (Err fault) asked new e r = refused_line asked fault new e r
+  refused_call (Ok x) command new e r = tt
+  refused_call (Err fault) command new e r = refused_line command fault new e r
 
 -- a line that isn't empty is answered
 pub line_step-answer : (state : State) (supplied : Option Supplied) (line : List ℕ)

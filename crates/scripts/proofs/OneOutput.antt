@@ -7,13 +7,13 @@ use Rattle.meta_types.specs.Sound.{IsSound}
 use Rattle.meta_types.specs.Steps.{refused}
 use Rattle.meta_types.specs.Explanations.{question_fault}
 use Rattle.meta_types.specs.Impacts.{impact_question_fault}
-use Rattle.meta_types.specs.Questions.{QuestionAnswer, explains, foresees, LineAnswer, of_event, of_question}
+use Rattle.meta_types.specs.Questions.{QuestionAnswer, explains, foresees, lists, LineAnswer, of_event, of_question}
 use Rattle.meta_types.specs.declared.fault.Fault.{Fault}
 use Rattle.meta_types.specs.declared.fault.Fault.TheVariants.{BadLine, TooLong}
-use Rattle.request_line.specs.Lines.{asked_in}
-use Rattle.request_line.specs.declared.asked.Asked.{Asked}
-use Rattle.request_line.specs.declared.asked.Asked.TheVariants as A
-use Rattle.scripts.specs.LineSteps.{Supplied, out_of_memory, no_worker, gives, supplied_answer, question_step, asked_step, line_answer, answer_step, line_step, IsTrueOf, IsTrueAt}
+use Rattle.request_line.specs.Lines.{command_in}
+use Rattle.request_line.specs.declared.command.Command.{Command}
+use Rattle.request_line.specs.declared.command.Command.TheVariants as A
+use Rattle.scripts.specs.LineSteps.{Supplied, out_of_memory, no_worker, gives, supplied_answer, question_step, command_step, line_answer, answer_step, line_step, IsTrueOf, IsTrueAt}
 use Rattle.scripts.specs.Lines.{short_request, with_line_feed, lines_of}
 use Rattle.reply_line.specs.Explained.{line_answer_text}
 use Rattle.scripts.specs.Output.{Supplies, first_supplied, output_from, AreTrue}
@@ -25,10 +25,12 @@ use Rattle.scripts.proofs.WholeScripts.{full_step, step_sound}
 -- ---- a question has one answer
 
 module _ (state : State) (s : IsSound state) (one other : QuestionAnswer) where
-  asked_once : (asked : Asked) → IsTrueOf state (Some asked) (asked_step state one asked).0
-      → IsTrueOf state (Some asked) (asked_step state other asked).0
-      → asked_step state one asked ≡ asked_step state other asked
+  asked_once : (asked : Command) → IsTrueOf state (Some asked) (command_step state one asked).0
+      → IsTrueOf state (Some asked) (command_step state other asked).0
+      → command_step state one asked ≡ command_step state other asked
   asked_once (A.Request request) a b = refl
+  asked_once (A.Show request answer there) a b = refl
+  asked_once A.BackList a b = refl
   asked_once (A.Collect at dry) a b = refl
   asked_once (A.Remove removal at) a b = refl
   asked_once (A.Explain ns kind name at) a b =
@@ -43,7 +45,9 @@ module _ (state : State) (s : IsSound state) (one other : QuestionAnswer) where
           each_explanation_is_one state s ns kind name at told again a b in
           (λ i. (of_question (explains (same i)), state))
       go (explains told) (foresees impact) None a b = absurd b
+      go (explains told) (lists names) None a b = absurd b
       go (foresees impact) other None a b = absurd a
+      go (lists names) other None a b = absurd a
   asked_once (A.Impact ns kind name at) a b =
       go one other (impact_question_fault state ns kind name at) a b
     where
@@ -56,21 +60,23 @@ module _ (state : State) (s : IsSound state) (one other : QuestionAnswer) where
           each_impact_is_one state ns kind name at impact again a b in
           (λ i. (of_question (foresees (same i)), state))
       go (foresees impact) (explains told) None a b = absurd b
+      go (foresees impact) (lists names) None a b = absurd b
       go (explains told) other None a b = absurd a
+      go (lists names) other None a b = absurd a
 
   line_once : (line : List ℕ) → IsTrueOf state (short_request line) (line_answer state one line).0
       → IsTrueOf state (short_request line) (line_answer state other line).0
       → line_answer state one line ≡ line_answer state other line
-  line_once line a b = go (nat_lt 65536 (length line)) (asked_in line) a b
+  line_once line a b = go (nat_lt 65536 (length line)) (command_in line) a b
     where
-      go : (long : Bool) (asked : Option Asked)
+      go : (long : Bool) (asked : Option Command)
           → let first : LineAnswer × State =
           if long then (of_event (refused TooLong), state) else option_map_or
-          (asked_step state one) asked (of_event (refused BadLine), state)
+          (command_step state one) asked (of_event (refused BadLine), state)
           in let second : LineAnswer × State =
           if long then (of_event (refused TooLong), state) else option_map_or
-          (asked_step state other) asked (of_event (refused BadLine), state)
-          in let what : Option Asked = if long then None else asked
+          (command_step state other) asked (of_event (refused BadLine), state)
+          in let what : Option Command = if long then None else asked
           in IsTrueOf state what first.0 → IsTrueOf state what second.0 → first ≡ second
       go true asked a b = refl
       go false None a b = refl

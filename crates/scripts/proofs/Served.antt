@@ -14,14 +14,14 @@ use Rattle.meta_types.specs.declared.fault.Fault.{Fault}
 use Rattle.meta_types.specs.declared.fault.Fault.TheVariants.{InvalidArgument, NotFound, AlreadyExists, FailedPrecondition, BadLine, TooLong, OutOfMemory, NoWorker, BackendFailed, ReadFailed, WriteFailed, Mismatch}
 use Rattle.meta_types.specs.declared.reply.Reply.{Reply}
 use Rattle.meta_types.specs.declared.request.Removal.{Removal}
-use Rattle.request_line.specs.declared.asked.Asked.{Asked}
-use Rattle.request_line.specs.declared.asked.Asked.TheVariants as A
+use Rattle.request_line.specs.declared.command.Command.{Command}
+use Rattle.request_line.specs.declared.command.Command.TheVariants as A
 use Rattle.request_core.specs.Follows.{Fails}
 use Rattle.backend_sweep.specs.Swept.{count_names}
 use Rattle.collection.specs.Refused.{CollectFails}
 use Rattle.store_front.specs.KeptAnswers.{kept_reply, kept_report, kept_fault, Takes, reply_failures, report_failures}
 use Rattle.scripts.specs.EventSteps.{event_step}
-use Rattle.scripts.specs.LineSteps.{supplied_answer, line_step_of, asked_step}
+use Rattle.scripts.specs.LineSteps.{supplied_answer, line_step_of, command_step}
 use Rattle.scripts.specs.Lines.{asks_collection}
 use Rattle.scripts.specs.Served.{IsServed, IsRefused}
 use Rattle.scripts.proofs.Outcomes.{no_event_has_another_step}
@@ -29,9 +29,9 @@ use Rattle.scripts.proofs.Outcomes.{no_event_has_another_step}
 -- ---- nothing was done
 
 -- memory ran out before the store's call
-pub no_memory : (old : State) (asked : Asked) (fault : Fault) → fault ≡ OutOfMemory
-    → IsRefused old asked fault old
-no_memory old asked fault is = inl (is, refl)
+pub no_memory : (old : State) (command : Command) (fault : Fault) → fault ≡ OutOfMemory
+    → IsRefused old command fault old
+no_memory old command fault is = inl (is, refl)
 
 -- ---- a report in room of its own
 
@@ -62,17 +62,18 @@ no_names names e =
 
 -- ---- the request is an event
 
-module _ (old new : State) (asked : Asked) (event : Event)
-    (is : asked_step old (supplied_answer None) asked ≡ line_step_of (event_step old event)) where
+module _ (old new : State) (command : Command) (event : Event)
+    (is : command_step old (supplied_answer None) command
+    ≡ line_step_of (event_step old event)) where
   -- a step is the answer
   step_served : (answer : Answer) → Step old event no_objects answer new
-      → IsServed old asked (of_event answer) new
+      → IsServed old command (of_event answer) new
   step_served answer step =
       let s = no_event_has_another_step old event answer new step in
       (tt, supplied_answer None, is ∙ (λ i. (of_event (sym s.0 i), sym s.1 i)))
 
   reply_refused : (fault : Fault) (least : Option Fault) → Takes old event (kept_fault fault) new
-      → Fails fault least → 0 ≡ 0 + reply_failures (Err fault) → IsRefused old asked fault new
+      → Fails fault least → 0 ≡ 0 + reply_failures (Err fault) → IsRefused old command fault new
   reply_refused InvalidArgument least step fails none = inr (inr (step_served _ step))
   reply_refused NotFound least step fails none = inr (inr (step_served _ step))
   reply_refused AlreadyExists least step fails none = inr (inr (step_served _ step))
@@ -86,9 +87,9 @@ module _ (old new : State) (asked : Asked) (event : Event)
   reply_refused WriteFailed least step fails none = absurd fails
   reply_refused (Mismatch place) least step fails none = absurd fails
 
-  report_refused : asks_collection (Some asked) ≡ true → (fault : Fault) (least : Option Fault)
+  report_refused : asks_collection (Some command) ≡ true → (fault : Fault) (least : Option Fault)
       → Takes old event (kept_fault fault) new → CollectFails fault least
-      → IsRefused old asked fault new
+      → IsRefused old command fault new
   report_refused collects InvalidArgument least step fails = inr (inr (step_served _ step))
   report_refused collects NotFound least step fails = inr (inr (step_served _ step))
   report_refused collects AlreadyExists least step fails = inr (inr (step_served _ step))
@@ -104,32 +105,32 @@ module _ (old new : State) (asked : Asked) (event : Event)
 
   -- a report without a failure is the answer
   report_served : (report : Report) → Step old event report.failed (reported report) new
-      → count_names report.failed ≡ 0 → IsServed old asked (of_event (reported report)) new
+      → count_names report.failed ≡ 0 → IsServed old command (of_event (reported report)) new
   report_served report step none = step_served (reported report) (subst (λ (failed : BackNames). Step old event failed (reported report) new) (no_names report.failed none) step)
 
-  pub report_err : asks_collection (Some asked) ≡ true
+  pub report_err : asks_collection (Some command) ≡ true
       → (result : Result Report Fault) (least : Option Fault)
       → Takes old event (kept_report result) new → IfErr result (λ fault. CollectFails fault least)
-      → IfErr result (λ fault. IsRefused old asked fault new)
+      → IfErr result (λ fault. IsRefused old command fault new)
   report_err collects (Ok report) least step fails = tt
   report_err collects (Err fault) least step fails = report_refused collects fault least step fails
 
   module _ (before after : ℕ) (was : before ≡ 0) (stays : after ≡ 0) where
     pub reply_ok : (result : Result Reply Fault) → Takes old event (kept_reply result) new
-        → IfOk result (λ reply. IsServed old asked (of_event (answered reply)) new)
+        → IfOk result (λ reply. IsServed old command (of_event (answered reply)) new)
     reply_ok (Ok reply) step = step_served (answered reply) step
     reply_ok (Err fault) step = tt
 
     pub reply_err : (result : Result Reply Fault) (least : Option Fault)
         → Takes old event (kept_reply result) new → IfErr result (λ fault. Fails fault least)
         → after ≡ before + reply_failures result
-        → IfErr result (λ fault. IsRefused old asked fault new)
+        → IfErr result (λ fault. IsRefused old command fault new)
     reply_err (Ok reply) least step fails count = tt
     reply_err (Err fault) least step fails count = reply_refused fault least step fails (omega arith)
 
     pub report_ok : (result : Result Report Fault) → Takes old event (kept_report result) new
         → after ≡ before + report_failures result
-        → IfOk result (λ report. IsServed old asked (of_event (reported report)) new)
+        → IfOk result (λ report. IsServed old command (of_event (reported report)) new)
     report_ok (Ok report) step count = report_served report step (omega arith)
     report_ok (Err fault) step count = tt
 
@@ -138,14 +139,14 @@ module _ (old new : State) (asked : Asked) (event : Event)
 -- a collection at a moment, whatever the number of workers
 pub is_collection : (old : State) (text : List ℕ) (at : ℤ) (dry : Bool) (workers : ℕ)
     → instant_of text ≡ Some at → is_worker_count workers ≡ true
-    → asked_step old (supplied_answer None) (A.Collect text dry) ≡ line_step_of
+    → command_step old (supplied_answer None) (A.Collect text dry) ≡ line_step_of
     (event_step old (collect at dry workers))
 is_collection old text at dry workers read allowed = rw (read, allowed) refl
 
 -- a removal with a collection at a moment
 pub is_removal : (old : State) (removal : Removal) (text : List ℕ) (at : ℤ) (workers : ℕ)
     → instant_of text ≡ Some at → is_worker_count workers ≡ true
-    → asked_step old (supplied_answer None) (A.Remove removal text) ≡ line_step_of
+    → command_step old (supplied_answer None) (A.Remove removal text) ≡ line_step_of
     (event_step old (remove_collect removal at workers))
 is_removal old removal text at workers read allowed = rw (read, allowed) refl
 

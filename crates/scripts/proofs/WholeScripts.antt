@@ -1,6 +1,6 @@
 -- What is written for a script answers its lines, and nothing else does.
 use Rattle.std.proofs.Common.{◌≡◌, ◌∙◌, refl, sym, ap, subst, ℕ, Bool, true, false, ℤ, List, [], ◌∷◌, ◌++◌, length, Option, Some, None, ◌⊎◌, inl, inr, arith, nat_lt}
-use Rattle.std.specs.Prelude.{if◌then◌else◌, is_some, option_map, drop}
+use Rattle.std.specs.Prelude.{if◌then◌else◌, is_some, not, ◌||◌, option_map, drop}
 use Rattle.std.specs.Option.{option_map_or}
 use Rattle.meta_types.specs.Time.{instant_of}
 use Rattle.meta_types.specs.Rows.{State, empty_store}
@@ -12,21 +12,27 @@ use Rattle.meta_types.specs.Steps.{Answer, answered, reported, refused, Event, r
 use Rattle.meta_types.specs.Histories.{Step}
 use Rattle.meta_types.specs.Explanations.{question_fault}
 use Rattle.meta_types.specs.Impacts.{impact_question_fault}
-use Rattle.meta_types.specs.Questions.{QuestionAnswer, explains, foresees, LineAnswer, of_event, of_question}
+use Rattle.meta_types.specs.Text.{Text}
+use Rattle.meta_types.specs.Faults.{least_of}
+use Rattle.meta_types.specs.Shown.{Shown, holds_there, request_done, takes_words, words_fault, shown_in}
+use Rattle.meta_types.specs.Questions.{QuestionAnswer, explains, foresees, lists, LineAnswer, of_event, of_shown, of_question}
+use Rattle.meta_types.specs.declared.reply.Reply.{Reply}
+use Rattle.meta_types.specs.declared.request.Request.{Request}
 use Rattle.meta_types.specs.declared.fault.Fault.{Fault}
 use Rattle.meta_types.specs.declared.fault.Fault.TheVariants.{InvalidArgument, BadLine, TooLong, NoWorker}
 use Rattle.meta_types.proofs.EachKind.{divides_all, tells_what_a_collection_would}
+use Rattle.request_core.proofs.EachRequest.{step_sound as request_sound}
 use Rattle.request_core.proofs.HistoriesSound.{event_sound, removal_sound}
-use Rattle.request_line.specs.Lines.{asked_in}
-use Rattle.request_line.specs.declared.asked.Asked.{Asked}
-use Rattle.request_line.specs.declared.asked.Asked.TheVariants as A
+use Rattle.request_line.specs.Lines.{command_in}
+use Rattle.request_line.specs.declared.command.Command.{Command}
+use Rattle.request_line.specs.declared.command.Command.TheVariants as A
 use Rattle.request_core.proofs.EmptyStore.{empty_is_sound}
 use Rattle.scripts.specs.EventSteps.{collection_report, event_step, collects, plans}
-use Rattle.scripts.specs.LineSteps.{Supplied, out_of_memory, no_worker, gives, supplied_answer, event_for, line_step_of, question_step, asked_step, line_answer, answer_step, line_step, IsLineAnswer, IsTrueOf, IsTrueAt}
+use Rattle.scripts.specs.LineSteps.{Supplied, out_of_memory, no_worker, gives, supplied_answer, event_for, line_step_of, question_step, done_with_words, words_step, command_step, line_answer, answer_step, line_step, IsLineAnswer, IsTrueOf, IsTrueAt}
 use Rattle.scripts.specs.Lines.{short_request, asks_collection, with_line_feed, lines_of, whole_lines}
 use Rattle.scripts.specs.Output.{Supplies, first_supplied, output_from, output_of, AreTrue, IsOutput, IsWholeOutput, IsBeginning}
 use Rattle.scripts.specs.Progress.{Answers}
-use Rattle.scripts.specs.WholeScripts.{asked_fault, line_fault, MayBeRefused, IsDone, IsAnswered, AnswersLine, AnswersLines, AnswersScript, AnswersWholeLines, BeginsAnswers}
+use Rattle.scripts.specs.WholeScripts.{command_fault, line_fault, MayBeRefused, IsDone, IsAnswered, AnswersLine, AnswersLines, AnswersScript, AnswersWholeLines, BeginsAnswers}
 use Rattle.scripts.specs.ScriptLaws.{WhatAnswersIsAnOutput, EachStoreIsSound}
 use Rattle.reply_line.specs.Explained.{line_answer_text}
 use Rattle.scripts.proofs.LineAnswers.{line_step-empty, line_step-answer, true_at, some_byte}
@@ -41,27 +47,45 @@ event_sound_at state (Some event) s =
     event_sound state event no_objects (event_step state event).0 (event_step state event).1 s
     (each_event_has_this_step state event)
 
-asked_sound : (state : State) (given : QuestionAnswer) (asked : Asked) → IsSound state
-    → IsSound (asked_step state given asked).1
-asked_sound state given (A.Request request) s = event_sound_at state (Some (requested request)) s
-asked_sound state given (A.Collect at dry) s =
+-- where the line has no fault, the request that is done has none
+no_wrong_word : (takes invalid missing there forbidden : Bool)
+    → least_of (not takes || invalid) missing there forbidden ≡ None
+    → least_of invalid missing there forbidden ≡ None
+no_wrong_word true invalid missing there forbidden free = free
+no_wrong_word false invalid missing there forbidden free = absurd cc
+
+command_sound : (state : State) (given : QuestionAnswer) (command : Command) → IsSound state
+    → IsSound (command_step state given command).1
+command_sound state given (A.Request request) s = event_sound_at state (Some (requested request)) s
+command_sound state given (A.Collect at dry) s =
     event_sound_at state (event_for (A.Collect at dry)) s
-asked_sound state given (A.Remove removal at) s =
+command_sound state given (A.Remove removal at) s =
     event_sound_at state (event_for (A.Remove removal at)) s
-asked_sound state given (A.Explain ns kind name at) s = s
-asked_sound state given (A.Impact ns kind name at) s = s
+command_sound state given (A.Show request answer there) s =
+    go (words_fault state request answer there) refl
+  where
+    go : (least : Option Fault) → words_fault state request answer there ≡ least
+        → let step : LineAnswer × State =
+        option_map_or (λ fault. (of_event (refused fault), state)) least
+        (done_with_words state request answer there) in IsSound step.1
+    go (Some fault) least = s
+    go None free = request_sound state (request_done state request there) s
+        (no_wrong_word (takes_words request answer there) _ _ _ _ free)
+command_sound state given A.BackList s = s
+command_sound state given (A.Explain ns kind name at) s = s
+command_sound state given (A.Impact ns kind name at) s = s
 
 line_sound : (state : State) (given : QuestionAnswer) (line : List ℕ) → IsSound state
     → IsSound (line_answer state given line).1
-line_sound state given line s = go (nat_lt 65536 (length line)) (asked_in line)
+line_sound state given line s = go (nat_lt 65536 (length line)) (command_in line)
   where
-    go : (long : Bool) (asked : Option Asked)
+    go : (long : Bool) (command : Option Command)
         → let step : LineAnswer × State =
         if long then (of_event (refused TooLong), state) else option_map_or
-        (asked_step state given) asked (of_event (refused BadLine), state) in IsSound step.1
-    go true asked = s
+        (command_step state given) command (of_event (refused BadLine), state) in IsSound step.1
+    go true command = s
     go false None = s
-    go false (Some asked) = asked_sound state given asked s
+    go false (Some command) = command_sound state given command s
 
 answer_sound : (state : State) (supplied : Option Supplied) (line : List ℕ) → IsSound state
     → IsSound (answer_step state supplied line).1
@@ -97,18 +121,18 @@ step_sound state supplied (byte ∷ line) s = subst (λ (step : List ℕ × Stat
 -- ---- the request is done
 
 module _ (state : State) (line : List ℕ) (s : IsSound state) (short : nat_lt 65536 (length line) ≡ false) where
-  asks : (asked : Asked) → asked_in line ≡ Some asked → short_request line ≡ Some asked
-  asks asked is = rw (short, is) refl
+  asks : (command : Command) → command_in line ≡ Some command → short_request line ≡ Some command
+  asks command is = rw (short, is) refl
 
-  own : (asked : Asked) → asked_in line ≡ Some asked
-      → line_fault state line ≡ asked_fault state asked
-  own asked is = rw (short, is) refl
+  own : (command : Command) → command_in line ≡ Some command
+      → line_fault state line ≡ command_fault state command
+  own command is = rw (short, is) refl
 
-  asked_kept : (given : QuestionAnswer) (asked : Asked) → asked_in line ≡ Some asked
-      → IsTrueOf state (Some asked) (asked_step state given asked).0
-      → IsAnswered state line (asked_step state given asked).0
-      (asked_step state given asked).1
-  asked_kept given (A.Explain ns kind name at) is right =
+  command_kept : (given : QuestionAnswer) (command : Command) → command_in line ≡ Some command
+      → IsTrueOf state (Some command) (command_step state given command).0
+      → IsAnswered state line (command_step state given command).0
+      (command_step state given command).1
+  command_kept given (A.Explain ns kind name at) is right =
       go given (question_fault state.records ns kind name at) refl right
     where
       go : (given : QuestionAnswer) (least : Option Fault)
@@ -125,7 +149,8 @@ module _ (state : State) (line : List ℕ) (s : IsSound state) (short : nat_lt 6
         (right, refl),
       )
       go (foresees impact) None free right = absurd right
-  asked_kept given (A.Impact ns kind name at) is right =
+      go (lists names) None free right = absurd right
+  command_kept given (A.Impact ns kind name at) is right =
       go given (impact_question_fault state ns kind name at) refl right
     where
       go : (given : QuestionAnswer) (least : Option Fault)
@@ -141,7 +166,8 @@ module _ (state : State) (line : List ℕ) (s : IsSound state) (short : nat_lt 6
         (right, refl),
       )
       go (explains told) None free right = absurd right
-  asked_kept given (A.Request request) is right = go (least_fault (outcome state request)) refl
+      go (lists names) None free right = absurd right
+  command_kept given (A.Request request) is right = go (least_fault (outcome state request)) refl
     where
       go : (least : Option Fault) → least_fault (outcome state request) ≡ least
           → IsAnswered state line
@@ -149,22 +175,75 @@ module _ (state : State) (line : List ℕ) (s : IsSound state) (short : nat_lt 6
           (if is_some least then state else (outcome state request).after)
       go None free = (A.Request request, asks (A.Request request) is, own (A.Request request) is ∙ free, (refl, refl))
       go (Some fault) least = (refl, inl (own (A.Request request) is ∙ least))
-  asked_kept given (A.Collect at dry) is right = go (instant_of at) refl
+  command_kept given (A.Show request answer there) is right =
+      go (words_fault state request answer there) refl
+    where
+      shows : (shown : Option Shown)
+          → shown_in (outcome state (request_done state request there)).after request
+          (holds_there state request there) answer ≡ shown
+          → words_fault state request answer there ≡ None
+          → IsAnswered state line (option_map_or of_shown shown
+          (of_event (answered (outcome state (request_done state request there)).reply)))
+          (outcome state (request_done state request there)).after
+      shows None e free = (
+        A.Show request answer there,
+        asks (A.Show request answer there) is,
+        own (A.Show request answer there) is ∙ free,
+        (e, refl, refl),
+      )
+      shows (Some shown) e free = (
+        A.Show request answer there,
+        asks (A.Show request answer there) is,
+        own (A.Show request answer there) is ∙ free,
+        (e, refl),
+      )
+
+      go : (least : Option Fault) → words_fault state request answer there ≡ least
+          → let step : LineAnswer × State =
+          option_map_or (λ fault. (of_event (refused fault), state)) least
+          (done_with_words state request answer there) in IsAnswered state line step.0 step.1
+      go (Some fault) least = (refl, inl (own (A.Show request answer there) is ∙ least))
+      go None free =
+          shows (shown_in (outcome state (request_done state request there)).after request
+          (holds_there state request there) answer) refl free
+  command_kept given A.BackList is right =
+      (A.BackList, asks A.BackList is, own A.BackList is, (refl, refl))
+  command_kept given (A.Collect at dry) is right = go (instant_of at) refl
     where
       after : (moment : ℤ) → instant_of at ≡ Some moment → (d : Bool)
-          → asked_in line ≡ Some (A.Collect at d) → (least : Option Fault)
+          → command_in line ≡ Some (A.Collect at d) → (least : Option Fault)
           → collect_fault state.records 1 ≡ least
           → let step : Answer × State =
           option_map_or (λ fault. (refused fault, state)) least
           (if d then plans state moment else collects state moment) in IsAnswered state line
           (of_event step.0) step.1
-      after moment read d asked (Some fault) least = (refl, inl (own (A.Collect at d) asked ∙ (rw read refl) ∙ least))
-      after moment read true asked None free =
+      after moment read d command (Some fault) least = (
+        refl,
+        inl (own (A.Collect at d) command
+            ∙ (rw read refl) ∙ least),
+      )
+      after moment read true command None free =
           let plans_so = this_plans state moment in
-          let told = tells_what_a_collection_would state moment (collection_report state moment true) s plans_so in
-          (A.Collect at true, asks (A.Collect at true) asked, own (A.Collect at true) asked ∙ (rw read refl) ∙ free, (moment, read, plans_so, refl, told.0, told.1))
-      after moment read false asked None free =
-          (A.Collect at false, asks (A.Collect at false) asked, own (A.Collect at false) asked ∙ (rw read refl) ∙ free, (moment, read, these_collect state moment, divides_all state moment _ _ s (these_collect state moment)))
+          let told = tells_what_a_collection_would state moment (collection_report state moment true) s plans_so in (
+            A.Collect at true,
+            asks (A.Collect at true) command,
+            own (A.Collect at true) command
+                ∙ (rw read refl) ∙ free,
+            (moment, read, plans_so, refl, told.0, told.1),
+          )
+      after moment read false command None free = (
+        A.Collect at false,
+        asks (A.Collect at false) command,
+        own (A.Collect at false) command
+            ∙ (rw read refl) ∙ free,
+        (
+          moment,
+          read,
+          these_collect state moment,
+          divides_all state
+              moment _ _ s (these_collect state moment),
+        ),
+      )
 
       go : (read : Option ℤ) → instant_of at ≡ read
           → let step : Answer × State =
@@ -173,7 +252,7 @@ module _ (state : State) (line : List ℕ) (s : IsSound state) (short : nat_lt 6
           step.1
       go None e = (refl, inl (own (A.Collect at dry) is ∙ (rw e refl)))
       go (Some moment) e = after moment e dry is (collect_fault state.records 1) refl
-  asked_kept given (A.Remove removal at) is right = go (instant_of at) refl
+  command_kept given (A.Remove removal at) is right = go (instant_of at) refl
     where
       after : (moment : ℤ) → instant_of at ≡ Some moment → (least : Option Fault)
           → remove_collect_fault state removal 1 ≡ least
@@ -212,19 +291,19 @@ line_kept : (state : State) (given : QuestionAnswer) (line : List ℕ)
     → IsAnswered state line (line_answer state given line).0
     (line_answer state given line).1
 line_kept state given line s right =
-    go (nat_lt 65536 (length line)) (asked_in line) refl refl right
+    go (nat_lt 65536 (length line)) (command_in line) refl refl right
   where
-    go : (long : Bool) (asked : Option Asked) → nat_lt 65536 (length line) ≡ long
-        → asked_in line ≡ asked
+    go : (long : Bool) (command : Option Command) → nat_lt 65536 (length line) ≡ long
+        → command_in line ≡ command
         → let step : LineAnswer × State =
         if long then (of_event (refused TooLong), state) else option_map_or
-        (asked_step state given) asked (of_event (refused BadLine), state)
-        in let what : Option Asked = if long then None else asked
+        (command_step state given) command (of_event (refused BadLine), state)
+        in let what : Option Command = if long then None else command
         in IsTrueOf state what step.0 → IsAnswered state line step.0 step.1
-    go true asked long is right = (refl, inl (rw long refl))
+    go true command long is right = (refl, inl (rw long refl))
     go false None short is right = (refl, inl (rw (short, is) refl))
-    go false (Some asked) short is right =
-        asked_kept state line s short given asked is right
+    go false (Some command) short is right =
+        command_kept state line s short given command is right
 
 answer_kept : (state : State) (supplied : Option Supplied) (line : List ℕ) → IsSound state
     → IsTrueOf state (short_request line) (answer_step state supplied line).0
@@ -293,10 +372,10 @@ begins_answers script bytes begins =
 
 -- ---- what answers a line is a step of it
 
-read_short : (long : Bool) (found : Option Asked) (asked : Asked)
-    → (if long then None else found) ≡ Some asked → (long ≡ false) × (found ≡ Some asked)
-read_short true found asked e = absurd cc
-read_short false found asked e = (refl, e)
+read_short : (long : Bool) (found : Option Command) (command : Command)
+    → (if long then None else found) ≡ Some command → (long ≡ false) × (found ≡ Some command)
+read_short true found command e = absurd cc
+read_short false found command e = (refl, e)
 
 module _ (state : State) (fault : Fault) where
   moment_step : (event : ℤ → Event) (call : Option Fault) (read : Option ℤ)
@@ -309,32 +388,34 @@ module _ (state : State) (fault : Fault) where
       (λ i. (refused (same i), state))
   moment_step event call (Some moment) each own = each moment own
 
-  asked_fault_step : (asked : Asked) → asked_fault state asked ≡ Some fault
-      → asked_step state (supplied_answer None) asked ≡ (of_event (refused fault), state)
-  asked_fault_step (A.Request request) own = rw own refl
-  asked_fault_step (A.Explain ns kind name at) own = rw own refl
-  asked_fault_step (A.Impact ns kind name at) own = rw own refl
-  asked_fault_step (A.Collect at dry) own =
+  command_fault_step : (command : Command) → command_fault state command ≡ Some fault
+      → command_step state (supplied_answer None) command ≡ (of_event (refused fault), state)
+  command_fault_step (A.Request request) own = rw own refl
+  command_fault_step (A.Show request answer there) own = rw own refl
+  command_fault_step A.BackList own = absurd cc
+  command_fault_step (A.Explain ns kind name at) own = rw own refl
+  command_fault_step (A.Impact ns kind name at) own = rw own refl
+  command_fault_step (A.Collect at dry) own =
       ap line_step_of
       (moment_step (λ moment. collect moment dry 1) (collect_fault state.records 1) (instant_of at)
       (λ moment e. rw e refl) own)
-  asked_fault_step (A.Remove removal at) own =
+  command_fault_step (A.Remove removal at) own =
       ap line_step_of
       (moment_step (λ moment. remove_collect removal moment 1)
       (remove_collect_fault state removal 1) (instant_of at) (λ moment e. rw e refl) own)
 
-  found_fault_step : (long : Bool) (found : Option Asked)
-      → (if long then Some TooLong else option_map_or (asked_fault state) found (Some BadLine))
+  found_fault_step : (long : Bool) (found : Option Command)
+      → (if long then Some TooLong else option_map_or (command_fault state) found (Some BadLine))
       ≡ Some fault
       → let step : LineAnswer × State =
       if long then (of_event (refused TooLong), state) else option_map_or
-      (asked_step state (supplied_answer None)) found (of_event (refused BadLine), state)
+      (command_step state (supplied_answer None)) found (of_event (refused BadLine), state)
       in step ≡ (of_event (refused fault), state)
   found_fault_step true found own = let same : TooLong ≡ fault = cc in
       (λ i. (of_event (refused (same i)), state))
   found_fault_step false None own = let same : BadLine ≡ fault = cc in
       (λ i. (of_event (refused (same i)), state))
-  found_fault_step false (Some asked) own = asked_fault_step asked own
+  found_fault_step false (Some command) own = command_fault_step command own
 
 -- the line is refused
 refused_step : (state : State) (line : List ℕ) (fault : Fault) (new : State) → new ≡ state
@@ -343,7 +424,7 @@ refused_step : (state : State) (line : List ℕ) (fault : Fault) (new : State) �
 refused_step state line fault new same why = elim why [
   | inl own ↦ (
     None,
-    found_fault_step state fault (nat_lt 65536 (length line)) (asked_in line) own
+    found_fault_step state fault (nat_lt 65536 (length line)) (command_in line) own
         ∙ (λ i. (of_event (refused fault), sym same i)),
     tt,
   )
@@ -363,28 +444,61 @@ refused_step state line fault new same why = elim why [
 
 module _ (state : State) (line : List ℕ) (new : State) where
   -- the line asks for an event, which gives this answer
-  event_done : (asked : Asked) (event : Event) (answer : Answer)
-      → answer_step state None line ≡ asked_step state (supplied_answer None) asked
-      → asked_step state (supplied_answer None) asked ≡ line_step_of (event_step state event)
+  event_done : (command : Command) (event : Event) (answer : Answer)
+      → answer_step state None line ≡ command_step state (supplied_answer None) command
+      → command_step state (supplied_answer None) command ≡ line_step_of (event_step state event)
       → Step state event no_objects answer new
       → IsLineAnswer state line (of_event answer) new
-  event_done asked event answer whole is step =
+  event_done command event answer whole is step =
       let s = no_event_has_another_step state event answer new step in (
         None,
         whole ∙ is ∙ (λ i. (of_event (sym s.0 i), sym s.1 i)),
         tt,
       )
 
+  -- a request with words is done
+  words_done : (request : Request) (answer there : Option Text) (told : LineAnswer)
+      (shown : Option Shown) (reply : Reply) → nat_lt 65536 (length line) ≡ false
+      → command_in line ≡ Some (A.Show request answer there)
+      → words_fault state request answer there ≡ None
+      → shown_in new request (holds_there state request there) answer ≡ shown
+      → told ≡ option_map_or of_shown shown (of_event (answered reply))
+      → reply ≡ (outcome state (request_done state request there)).reply
+      → new ≡ (outcome state (request_done state request there)).after
+      → IsLineAnswer state line told new
+  words_done request answer there told shown reply short is free shows says same left =
+      let whole : answer_step state None line ≡ words_step state request answer there
+      = rw (short, is) refl in
+      let step : words_step state request answer there
+      ≡ done_with_words state request answer there = rw free refl in (
+        None,
+        whole ∙ step ∙ (λ i. (
+          option_map_or of_shown
+              (shown_in (sym left i) request (holds_there state request there) answer)
+              (of_event (answered (sym same i))),
+          sym left i,
+        )) ∙ (λ i. (option_map_or of_shown (shows i) (of_event (answered reply)), new))
+            ∙ (λ i. (sym says i, new)),
+        subst (λ (a : LineAnswer). IsTrueOf state (short_request line) a) (sym says)
+            (true_words shown reply),
+      )
+    where
+      true_words : (shown : Option Shown) (reply : Reply) → IsTrueOf state (short_request line)
+          (option_map_or of_shown shown (of_event (answered reply)))
+      true_words None reply = tt
+      true_words (Some shown) reply = tt
+
   -- what the line asks for is done
-  done_step : (answer : LineAnswer) (asked : Asked) → short_request line ≡ Some asked
-      → nat_lt 65536 (length line) ≡ false → asked_in line ≡ Some asked
-      → asked_fault state asked ≡ None → IsDone state asked answer new
+  done_step : (answer : LineAnswer) (command : Command) → short_request line ≡ Some command
+      → nat_lt 65536 (length line) ≡ false → command_in line ≡ Some command
+      → command_fault state command ≡ None → IsDone state command answer new
       → IsLineAnswer state line answer new
   done_step (of_event (answered reply)) (A.Request request) asks short is free done =
-      let whole : answer_step state None line ≡ asked_step state (supplied_answer None) (A.Request request)
+      let whole : answer_step state None line ≡ command_step state (supplied_answer None)
+      (A.Request request)
       = rw (short, is) refl in
       let made = outcome state request in
-      let step : asked_step state (supplied_answer None) (A.Request request)
+      let step : command_step state (supplied_answer None) (A.Request request)
       ≡ (of_event (answered made.reply), made.after) = rw free refl in
       (None, whole ∙ step ∙ (λ i. (of_event (answered (sym done.0 i)), sym done.1 i)), tt)
   done_step (of_event (reported report)) (A.Collect at true) asks short is free done =
@@ -397,27 +511,72 @@ module _ (state : State) (line : List ℕ) (new : State) where
       event_done (A.Remove removal at) (remove_collect removal done.0 1) (reported report)
       (rw (short, is) refl) (rw done.1 refl) (rw done.1 at free, done.2)
   done_step (of_question (explains told)) (A.Explain ns kind name at) asks short is free done =
-      let asked = A.Explain ns kind name at in
+      let command = A.Explain ns kind name at in
       let whole : answer_step state (Some (gives (explains told))) line
-      ≡ asked_step state (explains told) asked = rw (short, is) refl in
-      let step : asked_step state (explains told) asked ≡ (of_question (explains told), state)
+      ≡ command_step state (explains told) command = rw (short, is) refl in
+      let step : command_step state (explains told) command ≡ (of_question (explains told), state)
       = rw free refl in (
         Some (gives (explains told)),
         whole ∙ step ∙ (λ i. (of_question (explains told), sym done.1 i)),
-        subst (λ (what : Option Asked). IsTrueOf state what (of_question (explains told)))
+        subst (λ (what : Option Command). IsTrueOf state what (of_question (explains told)))
             (sym asks) done.0,
       )
   done_step (of_question (foresees impact)) (A.Impact ns kind name at) asks short is free done =
-      let asked = A.Impact ns kind name at in
+      let command = A.Impact ns kind name at in
       let whole : answer_step state (Some (gives (foresees impact))) line
-      ≡ asked_step state (foresees impact) asked = rw (short, is) refl in
-      let step : asked_step state (foresees impact) asked ≡ (of_question (foresees impact), state)
+      ≡ command_step state (foresees impact) command = rw (short, is) refl in
+      let step : command_step state (foresees impact) command
+      ≡ (of_question (foresees impact), state)
       = rw free refl in (
         Some (gives (foresees impact)),
         whole ∙ step ∙ (λ i. (of_question (foresees impact), sym done.1 i)),
-        subst (λ (what : Option Asked). IsTrueOf state what (of_question (foresees impact)))
+        subst (λ (what : Option Command). IsTrueOf state what (of_question (foresees impact)))
             (sym asks) done.0,
       )
+  done_step (of_event (answered reply)) (A.Show request answer there) asks short is free done =
+      words_done request answer there (of_event (answered reply)) None reply short is free done.0
+      refl done.1 done.2
+  done_step (of_shown shown) (A.Show request answer there) asks short is free done =
+      words_done request answer there (of_shown shown) (Some shown) _ short is free done.0
+      refl refl done.1
+  done_step (of_question (lists names)) A.BackList asks short is free done =
+      let whole : answer_step state None line ≡ command_step state (supplied_answer None) A.BackList
+      = rw (short, is) refl in (
+        None,
+        whole ∙ (λ i. (of_question (lists (sym done.0 i)), sym done.1 i)),
+        subst (λ (what : Option Command). IsTrueOf state what (of_question (lists names)))
+            (sym asks) done.0,
+      )
+  done_step (of_event (answered reply)) A.BackList asks short is free done = absurd done
+  done_step (of_event (reported report)) (A.Show request answer there) asks short is free done =
+      absurd done
+  done_step (of_event (reported report)) A.BackList asks short is free done = absurd done
+  done_step (of_event (refused fault)) (A.Show request answer there) asks short is free done =
+      absurd done
+  done_step (of_event (refused fault)) A.BackList asks short is free done = absurd done
+  done_step (of_shown shown) (A.Request request) asks short is free done = absurd done
+  done_step (of_shown shown) (A.Collect at true) asks short is free done = absurd done
+  done_step (of_shown shown) (A.Collect at false) asks short is free done = absurd done
+  done_step (of_shown shown) (A.Remove removal at) asks short is free done = absurd done
+  done_step (of_shown shown) (A.Explain ns kind name at) asks short is free done = absurd done
+  done_step (of_shown shown) (A.Impact ns kind name at) asks short is free done = absurd done
+  done_step (of_shown shown) A.BackList asks short is free done = absurd done
+  done_step (of_question (explains told)) (A.Show request answer there) asks short is free done =
+      absurd done
+  done_step (of_question (explains told)) A.BackList asks short is free done = absurd done
+  done_step (of_question (foresees impact)) (A.Show request answer there) asks short is free done =
+      absurd done
+  done_step (of_question (foresees impact)) A.BackList asks short is free done = absurd done
+  done_step (of_question (lists names)) (A.Request request) asks short is free done = absurd done
+  done_step (of_question (lists names)) (A.Show request answer there) asks short is free done =
+      absurd done
+  done_step (of_question (lists names)) (A.Collect at true) asks short is free done = absurd done
+  done_step (of_question (lists names)) (A.Collect at false) asks short is free done = absurd done
+  done_step (of_question (lists names)) (A.Remove removal at) asks short is free done = absurd done
+  done_step (of_question (lists names)) (A.Explain ns kind name at) asks short is free done =
+      absurd done
+  done_step (of_question (lists names)) (A.Impact ns kind name at) asks short is free done =
+      absurd done
   done_step (of_event (answered reply)) (A.Collect at true) asks short is free done = absurd done
   done_step (of_event (answered reply)) (A.Collect at false) asks short is free done = absurd done
   done_step (of_event (answered reply)) (A.Remove removal at) asks short is free done = absurd done
@@ -458,13 +617,13 @@ module _ (state : State) (line : List ℕ) (new : State) where
       absurd done
 
   -- the line has no fault
-  full_done : (answer : LineAnswer) (asked : Asked) → short_request line ≡ Some asked
-      → line_fault state line ≡ None → IsDone state asked answer new
+  full_done : (answer : LineAnswer) (command : Command) → short_request line ≡ Some command
+      → line_fault state line ≡ None → IsDone state command answer new
       → IsLineAnswer state line answer new
-  full_done answer asked is free done =
-      let read = read_short (nat_lt 65536 (length line)) (asked_in line) asked is in
-      let own : line_fault state line ≡ asked_fault state asked = rw (read.0, read.1) refl in
-      done_step answer asked is read.0 read.1 (sym own ∙ free) done
+  full_done answer command is free done =
+      let read = read_short (nat_lt 65536 (length line)) (command_in line) command is in
+      let own : line_fault state line ≡ command_fault state command = rw (read.0, read.1) refl in
+      done_step answer command is read.0 read.1 (sym own ∙ free) done
 
 -- the line is answered so
 answer_made : (state : State) (line : List ℕ) (answer : LineAnswer) (new : State)
@@ -475,6 +634,8 @@ answer_made state line (of_event (answered reply)) new is =
     full_done state line new (of_event (answered reply)) is.0 is.1 is.2 is.3
 answer_made state line (of_event (reported report)) new is =
     full_done state line new (of_event (reported report)) is.0 is.1 is.2 is.3
+answer_made state line (of_shown shown) new is =
+    full_done state line new (of_shown shown) is.0 is.1 is.2 is.3
 answer_made state line (of_question given) new is =
     full_done state line new (of_question given) is.0 is.1 is.2 is.3
 

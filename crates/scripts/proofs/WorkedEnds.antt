@@ -15,8 +15,8 @@ use Rattle.meta_types.specs.declared.request.Request.{Request}
 use Rattle.meta_types.specs.declared.request.Request.TheVariants as R
 use Rattle.meta_types.specs.Worked.{a, x, adds_lease, adds_held, first_of_march_text}
 use Rattle.meta_types.specs.Worked.Images.{leased}
-use Rattle.request_line.specs.Lines.{asked_in, asked_from, asked_by}
-use Rattle.request_line.specs.declared.asked.Asked.TheVariants as A
+use Rattle.request_line.specs.Lines.{command_in, command_from, command_by}
+use Rattle.request_line.specs.declared.command.Command.TheVariants as A
 use Rattle.reply_line.specs.Explained.{told_text, line_answer_text}
 use Rattle.scripts.specs.Lines.{with_line_feed}
 use Rattle.scripts.specs.WholeScripts.{IsAnswered, AnswersLines}
@@ -47,7 +47,7 @@ IsRead line = ((length line == 0) ≡ false) × (nat_lt 65536 (length line) ≡ 
 
 module _ (line : Text) (read : IsRead line) (lines : List Text) (rest : Text) where
   -- its request is done
-  done_then : (state : State) (request : Request) → asked_in line ≡ Some (A.Request request)
+  done_then : (state : State) (request : Request) → command_in line ≡ Some (A.Request request)
       → least_fault (outcome state request) ≡ None → (outcome state request).reply ≡ P.Done
       → AnswersLines (outcome state request).after lines rest
       → AnswersLines state (line ∷ lines) (done ++ 10 ∷ rest)
@@ -62,7 +62,7 @@ module _ (line : Text) (read : IsRead line) (lines : List Text) (rest : Text) wh
 
   -- it asks what keeps the content
   told_then : (at : Text) (told : ExplanationValue) (text : Text)
-      → asked_in line ≡ Some (A.Explain x (codes "content") a at) → IsRight at told
+      → command_in line ≡ Some (A.Explain x (codes "content") a at) → IsRight at told
       → told_text told ≡ text → AnswersLines leased lines rest
       → AnswersLines leased (line ∷ lines) (text ++ 10 ∷ rest)
   told_then at told text asks right is_text more =
@@ -88,20 +88,20 @@ later_line = asking just_after_text
 
 -- ---- what they ask for
 
-asks_lease : asked_in lease_line ≡ Some (A.Request (adds_lease end_labels))
-unfolding asked_in asked_from asked_by is_utf8 chars encode_utf8 serde_json_on_literals
+asks_lease : command_in lease_line ≡ Some (A.Request (adds_lease end_labels))
+unfolding command_in command_from command_by is_utf8 chars encode_utf8 serde_json_on_literals
 asks_lease = refl
 
-asks_held : asked_in held_line ≡ Some (A.Request (adds_held a))
-unfolding asked_in asked_from asked_by is_utf8 chars encode_utf8 serde_json_on_literals
+asks_held : command_in held_line ≡ Some (A.Request (adds_held a))
+unfolding command_in command_from command_by is_utf8 chars encode_utf8 serde_json_on_literals
 asks_held = refl
 
-asks_at_end : asked_in end_line ≡ Some (A.Explain x (codes "content") a first_of_march_text)
-unfolding asked_in asked_from asked_by is_utf8 chars encode_utf8 serde_json_on_literals
+asks_at_end : command_in end_line ≡ Some (A.Explain x (codes "content") a first_of_march_text)
+unfolding command_in command_from command_by is_utf8 chars encode_utf8 serde_json_on_literals
 asks_at_end = refl
 
-asks_later : asked_in later_line ≡ Some (A.Explain x (codes "content") a just_after_text)
-unfolding asked_in asked_from asked_by is_utf8 chars encode_utf8 serde_json_on_literals
+asks_later : command_in later_line ≡ Some (A.Explain x (codes "content") a just_after_text)
+unfolding command_in command_from command_by is_utf8 chars encode_utf8 serde_json_on_literals
 asks_later = refl
 
 -- ---- the texts of the explanations

@@ -16,12 +16,12 @@ use Rattle.meta_types.specs.declared.request.Request.TheVariants as R
 use Rattle.meta_types.specs.Worked.{a, b, c, x, adds, adds_image, content_label, after_all, first_of_march, plain_report, nothing_removed, one_namespace as kept_one}
 use Rattle.meta_types.specs.Worked.Images.{with_image, image_alone}
 use Rattle.meta_types.proofs.WorkedScripts.{an_image_keeps_its_content}
-use Rattle.request_line.specs.Lines.{asked_in, asked_from, asked_by}
-use Rattle.request_line.specs.declared.asked.Asked.{Asked}
-use Rattle.request_line.specs.declared.asked.Asked.TheVariants as A
+use Rattle.request_line.specs.Lines.{command_in, command_from, command_by}
+use Rattle.request_line.specs.declared.command.Command.{Command}
+use Rattle.request_line.specs.declared.command.Command.TheVariants as A
 use Rattle.reply_line.specs.Replies.{answer_text}
 use Rattle.scripts.specs.Lines.{short_request, with_line_feed}
-use Rattle.scripts.specs.LineSteps.{supplied_answer, asked_step, answer_step, line_step, IsTrueOf, IsTrueAt}
+use Rattle.scripts.specs.LineSteps.{supplied_answer, command_step, answer_step, line_step, IsTrueOf, IsTrueAt}
 use Rattle.scripts.specs.Output.{output_from, AreTrue}
 use Rattle.scripts.specs.WorkedScripts.{text_of, requests, replies, collecting, collected, report_text, adding, done, RequestsAreAnswered, ACollectionIsAnswered}
 use Rattle.scripts.proofs.LineAnswers.{line_step-answer, true_at}
@@ -76,9 +76,9 @@ empty_then state lines replies more =
     bytes_then state state [] [] lines (text_of replies) (passes_over state) more
 
 -- the answer of an event
-told_true : (state : State) (asked : Option Asked) (answer : Answer)
-    → IsTrueOf state asked (of_event answer)
-told_true state asked answer = tt
+told_true : (state : State) (command : Option Command) (answer : Answer)
+    → IsTrueOf state command (of_event answer)
+told_true state command answer = tt
 
 answers_so : (state new : State) (line : List ℕ) (answer : Answer) (text : Text)
     → (length line == 0) ≡ false
@@ -92,21 +92,21 @@ answers_so state new line answer text full step is = (
 )
 
 -- a line that asks for this
-asks_for : (state new : State) (line : List ℕ) (asked : Asked) (answer : Answer) (text : Text)
+asks_for : (state new : State) (line : List ℕ) (command : Command) (answer : Answer) (text : Text)
     → nat_lt 65536 (length line) ≡ false → (length line == 0) ≡ false
-    → asked_in line ≡ Some asked
-    → asked_step state (supplied_answer None) asked ≡ (of_event answer, new)
+    → command_in line ≡ Some command
+    → command_step state (supplied_answer None) command ≡ (of_event answer, new)
     → answer_text answer ≡ text
     → StepsTo state line (with_line_feed text) new
-asks_for state new line asked answer text short full is step told =
-    let whole : answer_step state None line ≡ asked_step state (supplied_answer None) asked
+asks_for state new line command answer text short full is step told =
+    let whole : answer_step state None line ≡ command_step state (supplied_answer None) command
     = rw (short, is) refl in
     answers_so state new line answer text full (whole ∙ step) told
 
 -- a line that is no request
 asks_nothing : (state : State) (line : List ℕ) (text : Text)
     → nat_lt 65536 (length line) ≡ false → (length line == 0) ≡ false
-    → asked_in line ≡ None → answer_text (refused BadLine) ≡ text
+    → command_in line ≡ None → answer_text (refused BadLine) ≡ text
     → StepsTo state line (with_line_feed text) state
 asks_nothing state line text short full is told =
     let whole : answer_step state None line ≡ (of_event (refused BadLine), state)
@@ -134,22 +134,22 @@ bad_text = refl
 
 -- ---- what lines ask for
 
-pub asks_ns_add : asked_in (codes "{\"op\":\"ns.add\",\"ns\":\"x\"}")
+pub asks_ns_add : command_in (codes "{\"op\":\"ns.add\",\"ns\":\"x\"}")
     ≡ Some (A.Request (R.NsAdd (codes "x")))
-unfolding asked_in asked_from asked_by is_utf8 chars encode_utf8 serde_json_on_literals
+unfolding command_in command_from command_by is_utf8 chars encode_utf8 serde_json_on_literals
 asks_ns_add = refl
 
-asks_ns_add_again : asked_in (codes " { \"ns\" : \"x\", \"op\" : \"ns.\\u0061dd\" } ")
+asks_ns_add_again : command_in (codes " { \"ns\" : \"x\", \"op\" : \"ns.\\u0061dd\" } ")
     ≡ Some (A.Request (R.NsAdd (codes "x")))
-unfolding asked_in asked_from asked_by is_utf8 chars encode_utf8 serde_json_on_literals
+unfolding command_in command_from command_by is_utf8 chars encode_utf8 serde_json_on_literals
 asks_ns_add_again = refl
 
-asks_ns_list : asked_in (codes "{\"op\":\"ns.list\"}") ≡ Some (A.Request R.NsList)
-unfolding asked_in asked_from asked_by is_utf8 chars encode_utf8 serde_json_on_literals
+asks_ns_list : command_in (codes "{\"op\":\"ns.list\"}") ≡ Some (A.Request R.NsList)
+unfolding command_in command_from command_by is_utf8 chars encode_utf8 serde_json_on_literals
 asks_ns_list = refl
 
-asks_no_op : asked_in (codes "{\"op\":\"ns.mend\"}") ≡ None
-unfolding asked_in asked_from asked_by is_utf8 chars encode_utf8 serde_json_on_literals
+asks_no_op : command_in (codes "{\"op\":\"ns.mend\"}") ≡ None
+unfolding command_in command_from command_by is_utf8 chars encode_utf8 serde_json_on_literals
 asks_no_op = refl
 
 -- ---- requests
@@ -232,37 +232,39 @@ the_report_text : answer_text (reported the_report) ≡ report_text
 unfolding answer_text serde_json_on_literals digits
 the_report_text = refl
 
-asks_b : asked_in (adding b (codes "\"}")) ≡ Some (A.Request (adds b []))
-unfolding asked_in asked_from asked_by is_utf8 chars encode_utf8 serde_json_on_literals
+asks_b : command_in (adding b (codes "\"}")) ≡ Some (A.Request (adds b []))
+unfolding command_in command_from command_by is_utf8 chars encode_utf8 serde_json_on_literals
 asks_b = refl
 
-asks_a : asked_in (adding a (codes "\",\"labels\":{\"containerd.io/gc.ref.content.0\":\"" ++ (b ++ codes "\"}}")))
+asks_a : command_in (adding a (codes "\",\"labels\":{\"containerd.io/gc.ref.content.0\":\"" ++ (b
+    ++ codes "\"}}")))
     ≡ Some (A.Request (adds a (content_label b)))
-unfolding asked_in asked_from asked_by is_utf8 chars encode_utf8 serde_json_on_literals
+unfolding command_in command_from command_by is_utf8 chars encode_utf8 serde_json_on_literals
 asks_a = refl
 
-asks_c : asked_in (adding c (codes "\"}")) ≡ Some (A.Request (adds c []))
-unfolding asked_in asked_from asked_by is_utf8 chars encode_utf8 serde_json_on_literals
+asks_c : command_in (adding c (codes "\"}")) ≡ Some (A.Request (adds c []))
+unfolding command_in command_from command_by is_utf8 chars encode_utf8 serde_json_on_literals
 asks_c = refl
 
-asks_image : asked_in (codes "{\"op\":\"image.add\",\"ns\":\"x\",\"name\":\"i\",\"target\":\"" ++ (a ++ codes "\"}"))
+asks_image : command_in (codes "{\"op\":\"image.add\",\"ns\":\"x\",\"name\":\"i\",\"target\":\""
+    ++ (a ++ codes "\"}"))
     ≡ Some (A.Request (adds_image a []))
-unfolding asked_in asked_from asked_by is_utf8 chars encode_utf8 serde_json_on_literals
+unfolding command_in command_from command_by is_utf8 chars encode_utf8 serde_json_on_literals
 asks_image = refl
 
-asks_gc : asked_in (codes "{\"op\":\"gc.run\",\"at\":\"2024-03-01T00:00:00Z\"}")
+asks_gc : command_in (codes "{\"op\":\"gc.run\",\"at\":\"2024-03-01T00:00:00Z\"}")
     ≡ Some (A.Collect (codes "2024-03-01T00:00:00Z") false)
-unfolding asked_in asked_from asked_by is_utf8 chars encode_utf8 serde_json_on_literals
+unfolding command_in command_from command_by is_utf8 chars encode_utf8 serde_json_on_literals
 asks_gc = refl
 
 abbrev gc_line : Text
 gc_line = codes "{\"op\":\"gc.run\",\"at\":\"2024-03-01T00:00:00Z\"}"
 
-abbrev asks_now : Asked
+abbrev asks_now : Command
 asks_now = A.Collect (codes "2024-03-01T00:00:00Z") false
 
 -- the time is read, and the collection is the worked one
-the_collection : asked_step with_image (supplied_answer None) asks_now
+the_collection : command_step with_image (supplied_answer None) asks_now
     ≡ (of_event (reported the_report), image_alone)
 the_collection =
     let s =

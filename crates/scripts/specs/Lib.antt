@@ -3,9 +3,10 @@ pub mod EventSteps
 pub mod EventLaws
 pub mod LineSteps
 pub mod LineAnswers
-pub mod SaidLines
-pub mod DryRuns
+pub mod ReplyTexts
+pub mod Changes
 pub mod Served
+pub mod Showing
 pub mod Exchanging
 pub mod Output
 pub mod WholeScripts

@@ -1,9 +1,9 @@
 -- The lines of a script. Ours, unless a source stands beside.
 use Rattle.std.specs.Prelude.{ℕ, ◌==◌, List, [], ◌∷◌, ◌++◌, length, Bool, true, false, nat_lt, if◌then◌else◌, Option, Some, None}
 use Rattle.std.specs.List.{list_any}
-use Rattle.request_line.specs.Lines.{asked_in}
-use Rattle.request_line.specs.declared.asked.Asked.{Asked}
-use Rattle.request_line.specs.declared.asked.Asked.TheVariants as A
+use Rattle.request_line.specs.Lines.{command_in}
+use Rattle.request_line.specs.declared.command.Command.{Command}
+use Rattle.request_line.specs.declared.command.Command.TheVariants as A
 
 -- the byte that ends a line (ASCII)
 abbrev pub is_line_feed : ℕ → Bool
@@ -27,16 +27,18 @@ whole_lines (byte ∷ bytes) = if list_any is_line_feed (byte ∷ bytes) then by
 -- ---- what a line asks for
 
 -- what a line of this length asks for, if anything
-abbrev pub short_request : List ℕ → Option Asked
-short_request line = if nat_lt 65536 (length line) then None else asked_in line
+abbrev pub short_request : List ℕ → Option Command
+short_request line = if nat_lt 65536 (length line) then None else command_in line
 
 -- it asks for a collection, a dry run, or a removal with a collection
-abbrev pub asks_collection : Option Asked → Bool
+abbrev pub asks_collection : Option Command → Bool
 asks_collection (Some (A.Collect at dry)) = true
 asks_collection (Some (A.Remove removal at)) = true
 asks_collection (Some (A.Request request)) = false
+asks_collection (Some (A.Show request answer there)) = false
 asks_collection (Some (A.Explain ns kind name at)) = false
 asks_collection (Some (A.Impact ns kind name at)) = false
+asks_collection (Some A.BackList) = false
 asks_collection None = false
 
 -- a reply's text, with its line feed

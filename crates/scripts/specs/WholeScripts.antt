@@ -11,33 +11,36 @@ use Rattle.meta_types.specs.Requests.{outcome, removal_outcome}
 use Rattle.meta_types.specs.Steps.{answered, reported, refused, collect_fault, remove_collect_fault}
 use Rattle.meta_types.specs.Explanations.{question_fault}
 use Rattle.meta_types.specs.Impacts.{impact_question_fault}
-use Rattle.meta_types.specs.Questions.{explains, foresees, LineAnswer, of_event, of_question, IsExplanationFor, IsImpactFor}
+use Rattle.meta_types.specs.Shown.{holds_there, request_done, words_fault, shown_in}
+use Rattle.meta_types.specs.Questions.{explains, foresees, lists, names_of, LineAnswer, of_event, of_shown, of_question, IsExplanationFor, IsImpactFor}
 use Rattle.meta_types.specs.EachKind.{IsCollected}
 use Rattle.meta_types.specs.declared.fault.Fault.{Fault}
 use Rattle.meta_types.specs.declared.fault.Fault.TheVariants.{InvalidArgument, BadLine, TooLong, OutOfMemory, NoWorker}
-use Rattle.request_line.specs.Lines.{asked_in}
-use Rattle.request_line.specs.declared.asked.Asked.{Asked}
-use Rattle.request_line.specs.declared.asked.Asked.TheVariants as A
+use Rattle.request_line.specs.Lines.{command_in}
+use Rattle.request_line.specs.declared.command.Command.{Command}
+use Rattle.request_line.specs.declared.command.Command.TheVariants as A
 use Rattle.reply_line.specs.Explained.{line_answer_text}
 use Rattle.scripts.specs.Lines.{lines_of, whole_lines, short_request, asks_collection, with_line_feed}
 
 -- ---- why a line is refused
 
 -- why the store refuses the request, if it does
-abbrev pub asked_fault : State → Asked → Option Fault
-asked_fault state (A.Request request) = least_fault (outcome state request)
-asked_fault state (A.Collect at dry) =
+abbrev pub command_fault : State → Command → Option Fault
+command_fault state (A.Request request) = least_fault (outcome state request)
+command_fault state (A.Show request answer there) = words_fault state request answer there
+command_fault state (A.Collect at dry) =
     if is_some (instant_of at) then collect_fault state.records 1 else Some InvalidArgument
-asked_fault state (A.Explain ns kind name at) = question_fault state.records ns kind name at
-asked_fault state (A.Impact ns kind name at) = impact_question_fault state ns kind name at
-asked_fault state (A.Remove removal at) =
+command_fault state (A.Explain ns kind name at) = question_fault state.records ns kind name at
+command_fault state (A.Impact ns kind name at) = impact_question_fault state ns kind name at
+command_fault state A.BackList = None
+command_fault state (A.Remove removal at) =
     if is_some (instant_of at) then remove_collect_fault state removal 1 else Some InvalidArgument
 
 -- why a line is refused, if it is: it is too long, no request, or the store refuses its request
 abbrev pub line_fault : State → List ℕ → Option Fault
 line_fault state line =
     if nat_lt 65536 (length line) then Some TooLong
-    else option_map_or (asked_fault state) (asked_in line) (Some BadLine)
+    else option_map_or (command_fault state) (command_in line) (Some BadLine)
 
 -- memory that runs out may refuse any line, a thread that can't be started only a collection, a dry
 -- run or a removal with one
@@ -50,9 +53,10 @@ MayBeRefused line fault = (fault ≡ OutOfMemory)
 -- The request is done. A collection gives the report and leaves the store that `Collects` says: of
 -- each kind exactly what is reached stays, as `IsCollected` says kind by kind (containerd
 -- garbage-collection.md). A dry run reports what a collection would, and leaves the store as it was.
--- A request is answered by its definition. The answer to a question explains its row, or is what
--- would go without it, and changes nothing.
-abbrev pub IsDone : State → Asked → LineAnswer → State → Type 0
+-- A request is answered by its definition, or by what its words ask it to show of the store that is
+-- left; its lease holds an object that exists, where `there` says so. The answer to a question
+-- explains its row, is what would go without it, or names all objects, and changes nothing.
+abbrev pub IsDone : State → Command → LineAnswer → State → Type 0
 IsDone state (A.Collect at false) (of_event (reported report)) new =
     (moment : ℤ) × (instant_of at ≡ Some moment) × Collects state moment no_objects report new
     × IsCollected state moment false report new
@@ -65,19 +69,28 @@ IsDone state (A.Remove removal at) (of_event (reported report)) new =
     × IsCollected (removal_outcome state removal).after moment false report new
 IsDone state (A.Request request) (of_event (answered reply)) new =
     (reply ≡ (outcome state request).reply) × (new ≡ (outcome state request).after)
+IsDone state (A.Show request answer there) (of_event (answered reply)) new =
+    (shown_in new request (holds_there state request there) answer ≡ None)
+    × (reply ≡ (outcome state (request_done state request there)).reply)
+    × (new ≡ (outcome state (request_done state request there)).after)
+IsDone state (A.Show request answer there) (of_shown shown) new =
+    (shown_in new request (holds_there state request there) answer ≡ Some shown)
+    × (new ≡ (outcome state (request_done state request there)).after)
 IsDone state (A.Explain ns kind name at) (of_question (explains told)) new =
     IsExplanationFor state.records ns kind name at told × (new ≡ state)
 IsDone state (A.Impact ns kind name at) (of_question (foresees impact)) new =
     IsImpactFor state ns kind name at impact × (new ≡ state)
-IsDone state asked answer new = ⊥
+IsDone state A.BackList (of_question (lists names)) new =
+    (names ≡ names_of state.backends) × (new ≡ state)
+IsDone state command answer new = ⊥
 
 -- A refused line changes nothing, and is refused for its own fault, or for memory or a thread. Else
 -- it has no fault, and its request is done.
 abbrev pub IsAnswered : State → List ℕ → LineAnswer → State → Type 0
 IsAnswered state line (of_event (refused fault)) new =
     (new ≡ state) × ((line_fault state line ≡ Some fault) ⊎ MayBeRefused line fault)
-IsAnswered state line answer new = (asked : Asked) × (short_request line ≡ Some asked)
-    × (line_fault state line ≡ None) × IsDone state asked answer new
+IsAnswered state line answer new = (command : Command) × (short_request line ≡ Some command)
+    × (line_fault state line ≡ None) × IsDone state command answer new
 
 -- the reply to a line, with its line feed, and the store after it; an empty line asks for nothing
 abbrev pub AnswersLine : State → List ℕ → List ℕ → State → Type 0

@@ -5,7 +5,7 @@ use std::alloc::Global;
 
 /// The threads that do a line, and how many of them collect.
 #[derive(Drop)]
-pub(crate) struct Crew<'c, R> {
+pub(crate) struct LineCrew<'c, R> {
     pub(crate) rt: &'c R,
     pub(crate) alloc: Global,
     pub(crate) workers: Workers,

@@ -1,4 +1,5 @@
 //! What holds of the definition of a script's output.
+ghost use Rattle.scripts.specs.Changes.{CollectionsWithoutEffect};
 ghost use Rattle.scripts.specs.EventLaws.{EachEventHasThisStep, NoEventHasAnotherStep};
 ghost use Rattle.scripts.specs.ScriptLaws.{WhatAnswersIsAnOutput, EachStoreIsSound};
 ghost use Rattle.scripts.specs.WorkedScripts.{RequestsAreAnswered, ACollectionIsAnswered, AnEndIsExplained};
@@ -31,4 +32,10 @@ pub fn worked_scripts_are_answered()
     ensures requests { RequestsAreAnswered }
     ensures collection { ACollectionIsAnswered }
     ensures explanation { AnEndIsExplained }
+{}
+
+/// A collection whose report names nothing that went, and nothing whose removal failed, leaves the
+/// store as it was.
+pub fn a_collection_without_effect_changes_nothing()
+    ensures same { CollectionsWithoutEffect }
 {}

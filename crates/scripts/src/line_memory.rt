@@ -3,9 +3,10 @@ ghost use Rattle.std.specs.Prelude.{◌≡◌, None};
 ghost use Rattle.meta_types.specs.Faults.{Refuses};
 
 use crate::line_room::LineRoom;
+use crate::reserve::Reserve;
 use json::Scratch;
 use meta_types::Fault;
-use reserve::Reserve;
+use reply_line::BLOCK_ROOM;
 use std::alloc::Global;
 
 // The bytes of the longest line that is read.
@@ -18,12 +19,13 @@ pub struct Reserves {
     pub(crate) room: LineRoom,
 }
 
-/// What is kept for a collection and for the next line, and room to read any line in, which lends a
-/// request its texts.
+/// What is kept for a collection and for the next line, room to read any line in, which lends a
+/// request its texts, and room for a text that is written in blocks.
 #[derive(Drop)]
 pub struct LineMemory {
     pub(crate) reserves: Reserves,
     pub(crate) scratch: Scratch,
+    pub block: Vec<u8>,
 }
 
 impl LineMemory {
@@ -36,9 +38,11 @@ impl LineMemory {
         let mut scratch = Scratch::new(alloc);
         scratch.reserve(LONGEST)?;
         let room = LineRoom::new(alloc);
+        let block = Vec::with_capacity(alloc, BLOCK_ROOM)?;
         Ok(LineMemory {
             reserves: Reserves { reserve, room },
             scratch,
+            block,
         })
     }
 

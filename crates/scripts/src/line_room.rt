@@ -2,8 +2,8 @@
 ghost use Rattle.std.specs.Prelude.{None};
 ghost use Rattle.meta_types.specs.Faults.{Refuses};
 
+use crate::reserve::{Reserve, Stored};
 use meta_types::{Fault, RawLabel, Request};
-use reserve::{Reserve, Stored};
 use std::alloc::Global;
 
 // More than a line takes while it is read and done, but for the rows that it adds.
@@ -35,6 +35,7 @@ fn adds_nothing(request: &Request) -> bool {
         | Request::SnapRemove(..)
         | Request::SnapGet(..)
         | Request::SnapList { .. }
+        | Request::SnapSnapshotters { .. }
         | Request::LeaseRemove(..)
         | Request::LeaseGet(..)
         | Request::LeaseList { .. }
@@ -75,7 +76,7 @@ impl LineRoom {
     }
 
     /// Gives it up, to be taken again by the next addition.
-    pub fn give_up(&mut self, alloc: Global) {
+    pub fn release(&mut self, alloc: Global) {
         self.block = Vec::new(alloc);
     }
 }
@@ -93,7 +94,7 @@ pub(crate) fn make_room(
     ensures fault { Refuses result None }
 {
     if adds_nothing(request) {
-        room.give_up(alloc);
+        room.release(alloc);
         return Ok(());
     }
     reserve.hold(stored, request)?;

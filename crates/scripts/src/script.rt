@@ -6,7 +6,7 @@ ghost use Rattle.std.specs.Io.KnownBytes.{IsAtEnd, ReadConsumes};
 ghost use Rattle.meta_types.specs.Faults.{Refuses};
 ghost use Rattle.meta_types.specs.Limits.{is_worker_count};
 ghost use Rattle.scripts.specs.Lines.{is_line_feed};
-ghost use Rattle.scripts.specs.SaidLines.{reply_bytes};
+ghost use Rattle.scripts.specs.ReplyTexts.{reply_bytes};
 ghost use Rattle.scripts.specs.Output.{IsOutput, IsWholeOutput, IsBeginning};
 ghost use Rattle.scripts.specs.Exchanging.{IsLateFault, IsStartedFault, IsRunFault, Exchanges};
 ghost use Rattle.scripts.specs.WholeScripts.{AnswersScript, AnswersWholeLines, BeginsAnswers};
@@ -15,7 +15,7 @@ ghost use Rattle.scripts.specs.Progress.{IsLine, Answers, Advances, Breaks, Repl
 use crate::answering::too_long;
 use crate::line_buffer::{LINE_LIMIT, MOST_KEPT, keep};
 use crate::lines::cut_line;
-use crate::said::Said;
+use crate::reply_text::ReplyText;
 use crate::script_store::{Fresh, ScriptStore};
 use crate::writing::flush;
 use meta_types::{Fault, Workers};
@@ -37,7 +37,7 @@ fn reply_to<T: Threads + Wait + Sync, L: Ledger>(
     alloc: Global,
     store: &mut ScriptStore<L>,
     line: &[u8],
-) -> Result<Option<Said>, Fault>
+) -> Result<Option<ReplyText>, Fault>
     ensures ok { IfOk result (λ reply. (all : List ℕ) → IsLine line.now all
         → Answers store.old all (reply_bytes reply) store.new) }
     ensures fault { Refuses result None }
@@ -45,7 +45,7 @@ fn reply_to<T: Threads + Wait + Sync, L: Ledger>(
     if line.len() > LINE_LIMIT {
         return Ok(Some(too_long()));
     }
-    let reply = store.reply(rt, alloc, line)?;
+    let reply = store.reply(rt, alloc, line)?; // for the prover: opened
     Ok(reply)
 }
 

@@ -6,15 +6,14 @@ ghost use Rattle.meta_types.specs.Rows.{empty_store};
 ghost use Rattle.reply_line.specs.Blocks.{WritesFront};
 ghost use Rattle.scripts.specs.LineSteps.{Supplied, line_step, IsTrueAt};
 ghost use Rattle.scripts.specs.Lines.{with_line_feed};
-ghost use Rattle.scripts.specs.SaidLines.{said_bytes, reply_bytes};
+ghost use Rattle.scripts.specs.ReplyTexts.{reply_text_bytes, reply_bytes};
 ghost use Rattle.scripts.specs.Exchanging.{IsLateFault};
 
 use crate::answering::answer_line;
 use crate::line_memory::LineMemory;
-use crate::said::Said;
-use crate::writing::write_said;
+use crate::reply_text::ReplyText;
+use crate::writing::write_reply_text;
 use meta_types::{Fault, Workers};
-use reply_line::BLOCK_ROOM;
 use request_core::State;
 use std::alloc::Global;
 use std::io::Write;
@@ -33,14 +32,12 @@ pub struct Fresh {
 }
 
 /// The store of a script, in memory, with its one session, and how many workers collect. It keeps
-/// no history, since nobody can ask for one. The block has room for the text of a report while it
-/// is written.
+/// no history, since nobody can ask for one.
 #[derive(Drop)]
 pub struct ScriptStore<L: Ledger> {
     locked: MemLocked<L, WithoutHistory>,
     session: Session<L>,
     workers: Workers,
-    block: Vec<u8>,
     memory: LineMemory,
 }
 
@@ -63,7 +60,6 @@ impl<L: Ledger> ScriptStore<L> {
         ensures fault { Refuses result None }
         ensures ok { IfOk result (λ store. store ≡ empty_store) }
     {
-        let block = Vec::with_capacity(alloc, BLOCK_ROOM)?;
         let memory = LineMemory::open(alloc)?;
         let Fresh { blank, seed } = fresh;
         let mut locked = Locked::open_without_history(alloc, blank, State::empty_with(alloc, seed));
@@ -74,7 +70,6 @@ impl<L: Ledger> ScriptStore<L> {
             locked,
             session,
             workers,
-            block,
             memory,
         })
     }
@@ -85,7 +80,7 @@ impl<L: Ledger> ScriptStore<L> {
         rt: &R,
         alloc: Global,
         line: &[u8],
-    ) -> Result<Option<Said>, Fault>
+    ) -> Result<Option<ReplyText>, Fault>
         requires { length line.now ≤ 65536 }
         ensures fault { Refuses result None }
         ensures ok { IfOk result (λ reply. (refusal : Option Supplied)
@@ -110,16 +105,16 @@ impl<L: Ledger> ScriptStore<L> {
         &mut self,
         alloc: Global,
         writer: &mut W,
-        said: &Said,
+        said: &ReplyText,
     ) -> Result<(), Fault>
         ensures same { self.new ≡ self.old }
         ensures ok { OnOk result (Appends (W.contents writer.old) (W.contents writer.new)
-            (with_line_feed (said_bytes said.now))) }
+            (with_line_feed (reply_text_bytes said.now))) }
         ensures err { OnErr result ((rest : List ℕ)
             × WritesFront (W.contents writer.old) (W.contents writer.new) rest
-            (with_line_feed (said_bytes said.now))) }
+            (with_line_feed (reply_text_bytes said.now))) }
         ensures fault { IfErr result IsLateFault }
     {
-        write_said(writer, alloc, &mut self.block, said)
+        write_reply_text(writer, alloc, &mut self.memory.block, said)
     }
 }

@@ -1,55 +1,33 @@
 //! Does what a line asks for: a request, a collection, a removal with one, or a question.
-ghost use Rattle.std.specs.Prelude.{◌≡◌, ◌<◌, IfOk, IfErr, Ok, Err, None};
+ghost use Rattle.std.specs.Prelude.{◌≡◌, ◌<◌, IfOk, IfErr, Ok, Err, None, false};
 ghost use Rattle.std.specs.Box.{box_value};
 ghost use Rattle.meta_types.specs.Faults.{Refuses};
 ghost use Rattle.meta_types.specs.Steps.{answered, reported};
-ghost use Rattle.meta_types.specs.Questions.{explains, foresees, of_event, of_question};
+ghost use Rattle.meta_types.specs.Questions.{explains, foresees, names_of, of_event, of_question};
 ghost use Rattle.reply_line.specs.Explained.{told_of};
-ghost use Rattle.request_line.specs.declared.asked.Asked.TheVariants as A;
+ghost use Rattle.request_line.specs.declared.command.Command.TheVariants as A;
+ghost use Rattle.scripts.specs.Changes.{may_change};
 ghost use Rattle.scripts.specs.LineAnswers.{line_answer_of};
 ghost use Rattle.scripts.specs.Served.{IsServed, IsRefused};
 
-use crate::crew::Crew;
+use crate::crew::LineCrew;
 use crate::line_answer::LineAnswer;
 use crate::line_memory::Reserves;
-use crate::line_room::make_room;
-use crate::reserving::{make_way, stored_in};
+use crate::objects::objects_in;
+use crate::requesting::execute_request;
+use crate::reserve::reserving::{release_reserve, stored_in};
+use crate::showing::execute_shown;
 use backend_sweep::OpenSweepGate;
 use gc_labels::read_instant;
-use gc_report::{Impact, Report};
-use meta_types::{Explanation, Fault, Object, RawText, Removal, Reply, Request, ShortName};
-use request_line::Asked;
+use gc_report::{Impact, Objects, Report};
+use meta_types::{Explanation, Fault, Object, RawText, Removal, ShortName};
+use request_line::Command;
 use std::alloc::Global;
 use std::sync::Wait;
 use std::sync::ledger::Ledger;
 use std::thread::Threads;
 use steal_mark::OpenGate;
-use store_front::{Keeps, MemLocked, Session, WithoutHistory};
-
-// Answers a request, where memory is left for the next line.
-fn do_request<L: Ledger>(
-    locked: &mut MemLocked<L, WithoutHistory>,
-    alloc: Global,
-    session: &mut Session<L>,
-    request: &Request<'_>,
-    kept: &mut Reserves,
-) -> Result<Reply, Fault>
-    requires { session.old.number < locked.old.opened }
-    ensures ok { IfOk result (λ reply. IsServed locked.old.store.state (A.Request request.now)
-        (of_event (answered reply)) locked.new.store.state) }
-    ensures err { IfErr result (λ fault. IsRefused locked.old.store.state (A.Request request.now)
-        fault locked.new.store.state) }
-    ensures opened { session.new.number < locked.new.opened }
-{
-    let stored = stored_in(locked);
-    let Ok(()) = make_room(alloc, &mut kept.room, &mut kept.reserve, &stored, request) else {
-        return Err(Fault::OutOfMemory);
-    };
-    locked.never_failed();
-    let reply = locked.apply(alloc, session, request);
-    locked.never_failed();
-    reply
-}
+use store_front::{HistoryMode, MemLocked, Session, WithoutHistory};
 
 // Room for a report; the one that stands there is empty.
 fn report_room(alloc: Global) -> Result<Box<Report>, Fault>
@@ -70,8 +48,8 @@ fn boxed(room: Box<Report>, report: Result<Report, Fault>) -> Result<Box<Report>
 }
 
 // Collects at a moment, where the text is one. Room for the report is made before anything goes.
-fn collect<L: Ledger, K: Keeps, R: Threads + Wait + Sync>(
-    crew: &Crew<'_, R>,
+fn collect<L: Ledger, K: HistoryMode, R: Threads + Wait + Sync>(
+    crew: &LineCrew<'_, R>,
     locked: &mut MemLocked<L, K>,
     session: &mut Session<L>,
     at: &RawText,
@@ -88,6 +66,7 @@ fn collect<L: Ledger, K: Keeps, R: Threads + Wait + Sync>(
         return Err(Fault::InvalidArgument);
     };
     let room = report_room(crew.alloc)?;
+    // For the prover: models in memory never fail.
     locked.never_failed();
     let report = locked.collect(
         crew.rt,
@@ -99,13 +78,14 @@ fn collect<L: Ledger, K: Keeps, R: Threads + Wait + Sync>(
         &OpenGate,
         &OpenSweepGate,
     );
+    // For the prover: models in memory never fail.
     locked.never_failed();
     boxed(room, report)
 }
 
 // Removes an image or a lease, and collects at a moment, where the text is one.
 fn remove<L: Ledger, R: Threads + Wait + Sync>(
-    crew: &Crew<'_, R>,
+    crew: &LineCrew<'_, R>,
     locked: &mut MemLocked<L, WithoutHistory>,
     session: &mut Session<L>,
     removal: &Removal<'_>,
@@ -122,6 +102,7 @@ fn remove<L: Ledger, R: Threads + Wait + Sync>(
         return Err(Fault::InvalidArgument);
     };
     let room = report_room(crew.alloc)?;
+    // For the prover: models in memory never fail.
     locked.never_failed();
     let report = locked.remove_collect(
         crew.rt,
@@ -133,13 +114,14 @@ fn remove<L: Ledger, R: Threads + Wait + Sync>(
         &OpenGate,
         &OpenSweepGate,
     );
+    // For the prover: models in memory never fail.
     locked.never_failed();
     boxed(room, report)
 }
 
 // Tells what keeps a row at a moment, where the texts are allowed.
-fn explain<L: Ledger, K: Keeps, R: Threads + Wait + Sync>(
-    crew: &Crew<'_, R>,
+fn explain<L: Ledger, K: HistoryMode, R: Threads + Wait + Sync>(
+    crew: &LineCrew<'_, R>,
     locked: &MemLocked<L, K>,
     ns: &RawText,
     kind: &RawText,
@@ -162,8 +144,8 @@ fn explain<L: Ledger, K: Keeps, R: Threads + Wait + Sync>(
 }
 
 // Tells what would go at a moment without a row, where the texts are allowed.
-fn foresee<L: Ledger, K: Keeps, R: Threads + Wait + Sync>(
-    crew: &Crew<'_, R>,
+fn impact<L: Ledger, K: HistoryMode, R: Threads + Wait + Sync>(
+    crew: &LineCrew<'_, R>,
     locked: &MemLocked<L, K>,
     ns: &RawText,
     kind: &RawText,
@@ -185,43 +167,63 @@ fn foresee<L: Ledger, K: Keeps, R: Threads + Wait + Sync>(
     locked.impact(crew.rt, alloc, ns, row, at)
 }
 
+// All objects of the backend.
+fn list_objects<L: Ledger, K: HistoryMode>(
+    locked: &MemLocked<L, K>,
+    alloc: Global,
+) -> Result<Box<Objects>, Fault>
+    ensures fault { Refuses result None }
+    ensures ok { IfOk result (λ objects. box_value objects
+        ≡ names_of locked.now.store.state.backends) }
+{
+    let objects = objects_in(alloc, locked.state())?;
+    Ok(Box::new(alloc, objects)?)
+}
+
 /// Does what a line asks for. What is kept for collections is given up where it is one, or a
 /// question.
-pub fn do_asked<L: Ledger, R: Threads + Wait + Sync>(
-    crew: &Crew<'_, R>,
+pub fn execute<L: Ledger, R: Threads + Wait + Sync>(
+    crew: &LineCrew<'_, R>,
     locked: &mut MemLocked<L, WithoutHistory>,
     session: &mut Session<L>,
-    asked: &Asked<'_>,
+    command: &Command<'_>,
     kept: &mut Reserves,
 ) -> Result<LineAnswer, Fault>
     requires opened { session.old.number < locked.old.opened }
-    ensures ok { IfOk result (λ answer. IsServed locked.old.store.state asked.now
+    ensures ok { IfOk result (λ answer. IsServed locked.old.store.state command.now
         (line_answer_of answer) locked.new.store.state) }
-    ensures err { IfErr result (λ fault. IsRefused locked.old.store.state asked.now fault
+    ensures err { IfErr result (λ fault. IsRefused locked.old.store.state command.now fault
         locked.new.store.state) }
+    ensures still { IfOk result (λ answer. may_change answer ≡ false
+        → locked.new.store.state ≡ locked.old.store.state) }
     ensures opened { session.new.number < locked.new.opened }
 {
     let alloc = crew.alloc;
-    let workers = make_way(kept, alloc, &stored_in(locked), asked, crew.workers);
-    let crew = Crew {
+    let workers = release_reserve(kept, alloc, &stored_in(locked), command, crew.workers);
+    let crew = LineCrew {
         rt: crew.rt,
         alloc,
         workers,
     };
-    match asked {
-        Asked::Request(asked) => {
-            let reply = do_request(locked, alloc, session, asked, kept)?;
+    match command {
+        Command::Request(request) => {
+            let reply = execute_request(locked, alloc, session, request, kept)?;
             Ok(LineAnswer::Replied(reply))
         }
-        Asked::Collect { at, dry } => {
+        Command::Show {
+            request,
+            answer,
+            there,
+        } => execute_shown(locked, alloc, request, answer, there, kept),
+        Command::Collect { at, dry } => {
             let report = collect(&crew, locked, session, at, *dry)?;
             Ok(LineAnswer::Reported(report))
         }
-        Asked::Remove { removal, at } => {
+        Command::Remove { removal, at } => {
             let report = remove(&crew, locked, session, removal, at)?;
-            Ok(LineAnswer::Reported(report))
+            Ok(LineAnswer::Removed(report))
         }
-        Asked::Explain {
+        Command::Explain {
             ns,
             kind,
             resource,
@@ -230,14 +232,18 @@ pub fn do_asked<L: Ledger, R: Threads + Wait + Sync>(
             let told = explain(&crew, locked, ns, kind, resource, at)?;
             Ok(LineAnswer::Explained(told))
         }
-        Asked::Impact {
+        Command::Impact {
             ns,
             kind,
             resource,
             at,
         } => {
-            let found = foresee(&crew, locked, ns, kind, resource, at)?;
+            let found = impact(&crew, locked, ns, kind, resource, at)?;
             Ok(LineAnswer::Foreseen(found))
+        }
+        Command::BackList => {
+            let objects = list_objects(locked, alloc)?;
+            Ok(LineAnswer::Objects(objects))
         }
     }
 }

@@ -10,7 +10,7 @@ use Rattle.reply_line.proofs.blocks.put_item.Goals.{then-later+in_ok-push, else-
 pub returns-in_err-push-clause-err : goal.returns-in_err-push-clause-err
 returns-in_err-push-clause-err g c =
     let all = c.args.block.now.items ++ (comma_if c.args.later ++ compact_text
-    (g.T.WriteJson.as_data c.args.item.now)) in
+    (g.T.PutJson.as_data c.args.item.now)) in
     holds_on_err c.from_residual.result (
       all,
       WritesFront-none (g.W.Write.contents
@@ -29,7 +29,7 @@ returns-clause-ok g c =
     ] in
     on_ok_weaker c.put_named.result (λ p. puts_then h0 h0 (g.W.Write.contents
     c.put_named.new.writer) b0 c.if-later.block.items c.put_named.new.block.items (comma_if
-    c.args.later) (compact_text (g.T.WriteJson.as_data c.args.item.now)) first p)
+    c.args.later) (compact_text (g.T.PutJson.as_data c.args.item.now)) first p)
     c.put_named.ensures.ok
 
 pub returns-clause-err : goal.returns-clause-err
@@ -44,4 +44,4 @@ returns-clause-err g c =
     ] in
     on_err_weaker c.put_named.result (λ p. fails_then h0 h0 (g.W.Write.contents
     c.put_named.new.writer) b0 c.if-later.block.items (comma_if c.args.later) (compact_text
-    (g.T.WriteJson.as_data c.args.item.now)) first p) c.put_named.ensures.err
+    (g.T.PutJson.as_data c.args.item.now)) first p) c.put_named.ensures.err

@@ -26,14 +26,14 @@ pub returns-in_err-put_text-clause-err : goal.returns-in_err-put_text-clause-err
 returns-in_err-put_text-clause-err g c =
     holds_on_err c.from_residual.result (fails_first (g.W.Write.contents c.args.writer.now)
     (g.W.Write.contents c.put_text.new.writer) c.args.block.now.items (91 ∷ [])
-    (items_text false (items_of (map g.T.WriteJson.as_data c.args.list.now)))
+    (items_text false (items_of (map g.T.PutJson.as_data c.args.list.now)))
     c.in_err-put_text.ensures.err)
 
 -- one item more
 pub loop-item-preserved : goal.loop-item-preserved
 loop-item-preserved g c =
     let l = c.loop-item in
-    let as_data = g.T.WriteJson.as_data in
+    let as_data = g.T.PutJson.as_data in
     let h0 = g.W.Write.contents c.args.writer.now in
     let text = comma_if l.later ++ compact_text (as_data c.item-item.result) in
     let rest = items_text true (items_of (map as_data (drop (l.item-index + 1) c.args.list.now))) in
@@ -56,7 +56,7 @@ loop-item-preserved g c =
 pub returns-in_err-put_item-clause-err : goal.returns-in_err-put_item-clause-err
 returns-in_err-put_item-clause-err g c =
     let l = c.loop-item in
-    let as_data = g.T.WriteJson.as_data in
+    let as_data = g.T.PutJson.as_data in
     let h0 = g.W.Write.contents c.args.writer.now in
     let h2 = g.W.Write.contents c.put_item.new.writer in
     let b0 = c.args.block.now.items in
@@ -79,7 +79,7 @@ returns-in_err-put_item-clause-err g c =
 pub returns-clause-ok : goal.returns-clause-ok
 returns-clause-ok g c =
     let l = c.loop-item in
-    let as_data = g.T.WriteJson.as_data in
+    let as_data = g.T.PutJson.as_data in
     let h0 = g.W.Write.contents c.args.writer.now in
     let h2 = g.W.Write.contents c.put_text-2.new.writer in
     let none = drop_all l.item-index c.args.list.now (omega (arith, c.loop-item-test.false)) in
@@ -94,7 +94,7 @@ returns-clause-ok g c =
 pub returns-clause-err : goal.returns-clause-err
 returns-clause-err g c =
     let l = c.loop-item in
-    let as_data = g.T.WriteJson.as_data in
+    let as_data = g.T.PutJson.as_data in
     let h0 = g.W.Write.contents c.args.writer.now in
     let h2 = g.W.Write.contents c.put_text-2.new.writer in
     let none = drop_all l.item-index c.args.list.now (omega (arith, c.loop-item-test.false)) in

@@ -9,5 +9,5 @@ abbrev pub invariant-loop-item : goal.invariant-loop-item
 invariant-loop-item g l =
     (done : List ℕ) × Puts (g.W.Write.contents l.fn.writer) l.fn.block.items (g.W.Write.contents
     l.writer) l.block.items done
-    × (done ++ items_text l.later (items_of (map g.T.WriteJson.as_data (drop l.item-index l.list)))
-    ≡ 91 ∷ items_text false (items_of (map g.T.WriteJson.as_data l.list)))
+    × (done ++ items_text l.later (items_of (map g.T.PutJson.as_data (drop l.item-index l.list)))
+    ≡ 91 ∷ items_text false (items_of (map g.T.PutJson.as_data l.list)))

@@ -9,24 +9,24 @@ use Rattle.reply_line.proofs.blocks.put_member.Goals as goal
 pub returns-in_err-put_text-clause-err : goal.returns-in_err-put_text-clause-err
 returns-in_err-put_text-clause-err g c = holds_on_err c.from_residual.result (fails_first
     (g.W.Write.contents c.args.writer.now) (g.W.Write.contents c.put_text.new.writer)
-    (c.args.block.now.items) c.args.before.now (compact_text (list_data g.T.WriteJson.as_data
+    (c.args.block.now.items) c.args.before.now (compact_text (list_data g.T.PutJson.as_data
     c.args.list.now.items)) c.in_err-put_text.ensures.err)
 
 pub returns-clause-err : goal.returns-clause-err
 returns-clause-err g c = on_err_weaker c.put_list.result (λ w. fails_as (g.W.Write.contents
     c.args.writer.now) (g.W.Write.contents c.put_list.new.writer) (c.args.block.now.items) _ _ (ap
-    (λ l. c.args.before.now ++ compact_text (list_data g.T.WriteJson.as_data l))
+    (λ l. c.args.before.now ++ compact_text (list_data g.T.PutJson.as_data l))
     c.deref.ensures.value) (fails_then (g.W.Write.contents c.args.writer.now) (g.W.Write.contents
     c.put_text.new.writer) (g.W.Write.contents c.put_list.new.writer) (c.args.block.now.items)
-    (c.put_text.new.block.items) c.args.before.now (compact_text (list_data g.T.WriteJson.as_data
+    (c.put_text.new.block.items) c.args.before.now (compact_text (list_data g.T.PutJson.as_data
     c.deref.result.now)) c.in_ok-put_text.ensures.ok (w))) c.put_list.ensures.err
 
 pub returns-clause-ok : goal.returns-clause-ok
 returns-clause-ok g c = on_ok_weaker c.put_list.result (λ w. subst (Puts (g.W.Write.contents
     c.args.writer.now) (c.args.block.now.items) (g.W.Write.contents c.put_list.new.writer)
     (c.put_list.new.block.items)) (ap (λ l. c.args.before.now ++ compact_text (list_data
-    g.T.WriteJson.as_data l)) c.deref.ensures.value) (puts_then (g.W.Write.contents
+    g.T.PutJson.as_data l)) c.deref.ensures.value) (puts_then (g.W.Write.contents
     c.args.writer.now) (g.W.Write.contents c.put_text.new.writer) (g.W.Write.contents
     c.put_list.new.writer) (c.args.block.now.items) (c.put_text.new.block.items)
-    (c.put_list.new.block.items) c.args.before.now (compact_text (list_data g.T.WriteJson.as_data
+    (c.put_list.new.block.items) c.args.before.now (compact_text (list_data g.T.PutJson.as_data
     c.deref.result.now)) c.in_ok-put_text.ensures.ok (w))) c.put_list.ensures.ok

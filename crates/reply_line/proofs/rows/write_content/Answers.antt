@@ -1,12 +1,23 @@
+use Rattle.std.proofs.Common.{sym, subst}
 use Rattle.std.proofs.lemmas.Result.{on_ok_weaker}
+use Rattle.serde_json.specs.Data.{string}
+use Rattle.reply_line.specs.Replies.{extra_data, labels_data}
+use Rattle.gc_report.specs.Writing.{Adds}
 use Rattle.gc_report.proofs.Adding.{one, both}
+use Rattle.reply_line.proofs.ExtraTokens.{content_tokens}
 use Rattle.reply_line.proofs.rows.write_content.Goals as goal
 
--- member by member
+-- member by member, data left out where there is none
 pub returns : goal.returns
 returns c =
     on_ok_weaker c.end_object.result (λ e.
-    (both (one c.args.out.now c.begin_object.new.self c.in_ok-begin_object.ensures.room.0 c.in_ok-begin_object.ensures.ok)
+    subst (Adds c.args.out.now c.end_object.new.self) (sym (content_tokens
+    (extra_data c.args.row.now.extra) (string c.args.row.now.digest)
+    (labels_data c.args.row.now.labels)))
+    (both (one c.args.out.now c.begin_object.new.self c.in_ok-begin_object.ensures.room.0
+    c.in_ok-begin_object.ensures.ok)
+    (both c.in_ok-write_extra.ensures
     (both c.in_ok-write_member.ensures
     (both c.in_ok-write_labels.ensures
-    (one c.write_labels.new.out c.end_object.new.self c.end_object.ensures.room.0 e))))) c.end_object.ensures.ok
+    (one c.write_labels.new.out c.end_object.new.self c.end_object.ensures.room.0 e))))))
+    c.end_object.ensures.ok

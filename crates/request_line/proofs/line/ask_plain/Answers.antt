@@ -3,7 +3,7 @@ use Rattle.std.proofs.lemmas.Str.{is_utf8-from_IsUtf8}
 use Rattle.serde_json.specs.Data.{object}
 use Rattle.serde_json.specs.Read.{read}
 use Rattle.request_line.specs.LineMembers.{object_of}
-use Rattle.request_line.proofs.Asking.{asked_in-value, asked_from-object}
+use Rattle.request_line.proofs.Asking.{command_in-value, command_from-object}
 use Rattle.request_line.proofs.LineMembers.{plain_asks}
 use Rattle.request_line.proofs.line.ask_plain.Goals as goal
 
@@ -17,6 +17,6 @@ returns-clause-ok c =
     let in_text : read c.in-Ok.text.now ≡ Some (object ms) = search rules in
     let in_line : read line ≡ Some (object ms) = rw text.0 at in_text in
     let asks =
-    asked_in-value line (object ms) (is_utf8-from_IsUtf8 line text.1) in_line
-    ∙ asked_from-object (object ms) ms refl in
+    command_in-value line (object ms) (is_utf8-from_IsUtf8 line text.1) in_line
+    ∙ command_from-object (object ms) ms refl in
     plain_asks c.ask.result line items asks (rw c.deref.ensures.value at c.ask.ensures.ok)

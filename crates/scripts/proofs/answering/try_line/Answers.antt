@@ -6,15 +6,15 @@ use Rattle.scripts.proofs.answering.try_line.Goals as goal
 pub returns-in-Ok-clause-ok : goal.returns-in-Ok-clause-ok
 returns-in-Ok-clause-ok g c =
     served_call c.args.locked.now.store.state c.args.line.now c.requires.length line_answer_of
-    c.do_asked-done.result _ c.do_asked-done.new.locked.store.state c.in-Ok.ensures.ok
-    c.do_asked-done.ensures.ok
+    c.execute-done.result _ c.execute-done.new.locked.store.state c.in-Ok.ensures.ok
+    c.execute-done.ensures.ok
 
 -- what it asks for is refused
 pub returns-in-Ok-clause-err : goal.returns-in-Ok-clause-err
 returns-in-Ok-clause-err g c =
     refused_call c.args.locked.now.store.state c.args.line.now c.requires.length
-    c.do_asked-done.result _ c.do_asked-done.new.locked.store.state c.in-Ok.ensures.ok
-    c.do_asked-done.ensures.err
+    c.execute-done.result _ c.execute-done.new.locked.store.state c.in-Ok.ensures.ok
+    c.execute-done.ensures.err
 
 -- the line can't be read
 pub returns-else-eq-clause-err : goal.returns-else-eq-clause-err

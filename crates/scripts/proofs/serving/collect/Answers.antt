@@ -2,7 +2,7 @@ use Rattle.std.proofs.Common.{◌∙◌, ap, sym, refl}
 use Rattle.std.specs.Box.{box_value}
 use Rattle.meta_types.specs.Time.{instant_of}
 use Rattle.meta_types.specs.Steps.{collect}
-use Rattle.request_line.specs.declared.asked.Asked.TheVariants as A
+use Rattle.request_line.specs.declared.command.Command.TheVariants as A
 use Rattle.scripts.proofs.LineAnswers.{passed_on}
 use Rattle.scripts.proofs.Served.{no_memory, boxed_ok, boxed_err, no_collection, is_collection, report_ok, report_err}
 use Rattle.scripts.proofs.serving.collect.Goals as goal
