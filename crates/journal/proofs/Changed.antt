@@ -6,7 +6,7 @@ use Rattle.std.proofs.lemmas.List.Folds.{list_any-append}
 use Rattle.std.proofs.lemmas.Slice.Eq.{bytes_eq-Decides}
 use Rattle.std.specs.List.{AllByRecursion}
 use Rattle.journal.specs.Text.{is_line_feed, is_zero, is_torn, is_commit, lines_text, group_sum, group_text, group_lines, group_end, commit_line, lines_from, journal_text, journal_end, AreLines, AreGroups}
-use Rattle.journal.specs.Reading.{whole_lines, last_piece, stands, is_overlong, Found, with_group, found_in, found_from, found}
+use Rattle.journal.specs.Reading.{whole_lines, last_piece, stands, is_overlong, Found, with_group, found_in, found_from, parsed, found}
 use Rattle.journal.specs.Laws.{Collision}
 use Rattle.journal.proofs.TextLines.{HasNoFeed, or_false, parts, none_of_both, each_whole, lines_text-append, whole_lines-lines, last_piece-lines, whole_lines-line, last_piece-line, whole_lines-none, last_piece-none}
 use Rattle.journal.proofs.Sums.{length-commit, commit_is_marked, commit_has_none, same_place, same_sum}
@@ -14,6 +14,7 @@ use Rattle.journal.proofs.Groups.{zeros_have_none, whole_each, group_is_whole, f
 use Rattle.journal.specs.Reads.{held}
 use Rattle.journal.proofs.Told.{said, length-group, length-push, starts, has_feed}
 use Rattle.journal.proofs.Chain.{one_text}
+use Rattle.journal.proofs.Clear.{damage_is_found}
 
 -- ---- a commit line that stands tells all that stands before it
 
@@ -686,4 +687,8 @@ pub a_change_is_told : (first : List ℕ) (groups : List (List (List ℕ))) (fro
     → journal_text first groups ≡ front ++ byte ∷ back → other ≢ byte → other ≢ 0
     → ((found first (front ++ (other ∷ (back ++ replicate room 0)))).is_damaged ≡ true) ⊎ Collision
 a_change_is_told first groups front back byte other room all fits is differs some =
-    change_from first 0 groups front back byte other room all (omega (arith, fits)) is differs some
+    elim (change_from first 0 groups front back byte other room all (omega (arith, fits)) is differs
+    some) [
+      | inl told ↦ inl (damage_is_found first (front ++ (other ∷ (back ++ replicate room 0))) told)
+      | inr collision ↦ inr collision
+    ]

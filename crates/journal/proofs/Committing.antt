@@ -6,7 +6,7 @@ use Rattle.journal.specs.Reading.{found, sound}
 use Rattle.journal.specs.Crashes.{Only, Mixes, written, PutCrash}
 use Rattle.journal.specs.Groups.{added, HasGroups, LeavesEither}
 use Rattle.journal.proofs.TextLines.{lines_text-append}
-use Rattle.journal.proofs.Groups.{what_is_written_is_read, a_torn_group_is_not_there}
+use Rattle.journal.proofs.Noise.{what_is_written_is_read, a_torn_group_is_not_there}
 use Rattle.journal.proofs.Pushing.{journal_text-push, sum_after-push, are_pushed}
 
 -- a journal at rest is read as its groups

@@ -5,7 +5,7 @@ use Rattle.std.proofs.lemmas.List.{append-nil}
 use Rattle.std.proofs.lemmas.Slice.Eq.{bytes_eq-Decides}
 use Rattle.std.specs.List.{list_any}
 use Rattle.journal.specs.Text.{is_zero, is_torn, is_commit, lines_text, sum_of, group_sum, commit_of, commit_line, group_lines, group_text, group_end, sum_after, lines_from, journal_lines, journal_text, journal_end, place_text, AreLines, AreGroups}
-use Rattle.journal.specs.Reading.{whole_lines, last_piece, stands, is_overlong, is_stray, Found, with_group, with_groups, found_none, found_in, found_from, found, sound}
+use Rattle.journal.specs.Reading.{whole_lines, last_piece, stands, is_overlong, is_stray, Found, with_group, with_groups, found_none, found_in, found_from, parsed, sound}
 use Rattle.journal.specs.Crashes.{Holes, Mixes}
 use Rattle.journal.proofs.TextLines.{HasNoFeed, AreWhole, whole_lines-line, whole_lines-lines, last_piece-line, last_piece-lines, whole_lines-none, last_piece-none, lines_text-append}
 use Rattle.journal.proofs.Sums.{commit_has_none, commit_is_marked, length-commit, commit_place}
@@ -143,7 +143,7 @@ nothing_before n = omega arith
 -- groups, and a text behind them
 pub found_behind : (first : List ℕ) (groups : List (List (List ℕ))) (text : List ℕ)
     → AreGroups groups
-    → found first (journal_text first groups ++ text)
+    → parsed first (journal_text first groups ++ text)
     ≡ with_groups groups (found_from (sum_after first groups) (journal_end first groups) text)
 found_behind first groups text all =
     let lines = journal_lines first groups in
@@ -164,9 +164,9 @@ nothing_found before start n =
           (zeros_have_none n),
     ) (ap found_none (zeros_are_short n))
 
-pub what_is_written_is_read : (first : List ℕ) (groups : List (List (List ℕ))) (room : ℕ)
-    → AreGroups groups → found first (journal_text first groups ++ replicate room 0) ≡ sound groups
-what_is_written_is_read first groups room all =
+pub written_is_parsed : (first : List ℕ) (groups : List (List (List ℕ))) (room : ℕ)
+    → AreGroups groups → parsed first (journal_text first groups ++ replicate room 0) ≡ sound groups
+written_is_parsed first groups room all =
     found_behind first groups (replicate room 0) all
     ∙ ap (with_groups groups)
     (nothing_found (sum_after first groups) (journal_end first groups) room)
@@ -398,15 +398,15 @@ over_zeros [] (c ∷ mixed) mixes = absurd mixes
 over_zeros (b ∷ bytes) [] mixes = absurd mixes
 over_zeros (b ∷ bytes) (c ∷ mixed) mixes = (mixes.0, over_zeros bytes mixed mixes.1)
 
-pub a_torn_group_is_not_there : (first : List ℕ) (groups : List (List (List ℕ)))
+pub torn_is_parsed : (first : List ℕ) (groups : List (List (List ℕ)))
     (group : List (List ℕ)) (mixed : List ℕ) (room : ℕ)
     → AreGroups groups → AreLines group
     → let bytes = group_text (sum_after first groups) (journal_end first groups) group in
     let text = journal_text first groups ++ (mixed ++ replicate room 0) in
     Mixes (replicate (length bytes) 0) bytes mixed
-    → ((found first text ≡ sound groups) × (is_torn mixed ≡ true))
-    ⊎ ((found first text ≡ sound (groups ++ group ∷ [])) × (mixed ≡ bytes))
-a_torn_group_is_not_there first groups group mixed room all each mixes =
+    → ((parsed first text ≡ sound groups) × (is_torn mixed ≡ true))
+    ⊎ ((parsed first text ≡ sound (groups ++ group ∷ [])) × (mixed ≡ bytes))
+torn_is_parsed first groups group mixed room all each mixes =
     let before = sum_after first groups in
     let start = journal_end first groups in
     let bytes = group_text before start group in

@@ -2,14 +2,17 @@
 use Rattle.std.proofs.Common.{◌≡◌, ◌≢◌, ◌∙◌, ap, sym, refl, ℕ, zero, suc, ◌+◌, ◌<◌, List, [], ◌∷◌, ◌++◌, length, replicate, Bool, true, false, ◌&&◌, ◌||◌, not, inl, inr, bytes_eq, Result, Ok, Err, arith, append_assoc, length-append}
 use Rattle.std.specs.Prelude.{OnOk, IfErr}
 use Rattle.std.proofs.lemmas.Bool.{cases_Bool}
+use Rattle.std.proofs.lemmas.List.Folds.{list_any-append}
 use Rattle.std.proofs.lemmas.List.{append-nil, replicate-append-replicate, length-replicate}
-use Rattle.journal.specs.Text.{is_zero, is_torn, is_commit, lines_text, group_sum, group_end, commit_line, journal_text}
-use Rattle.journal.specs.Reading.{whole_lines, last_piece, stands, is_overlong, found_none, with_group, found_in, found, sound}
+use Rattle.journal.specs.Text.{is_zero, is_torn, is_commit, is_noise, has_noise, lines_text, group_sum, group_end, commit_line, journal_text}
+use Rattle.journal.specs.Reading.{whole_lines, last_piece, stands, is_overlong, found_none, with_group, found_in, parsed, found, sound}
 use Rattle.journal.specs.Crashes.{Only}
 use Rattle.journal.specs.Groups.{HasGroups}
 use Rattle.journal.specs.Growth.{Longer, ZerosChangeNothing}
 use Rattle.journal.proofs.TextLines.{HasNoFeed, none_of_both, whole_lines-none, last_piece-none, whole_lines-lines, last_piece-lines, parts, each_whole, piece_has_none}
-use Rattle.journal.proofs.Groups.{zeros_have_none, zeros_are_short, what_is_written_is_read}
+use Rattle.journal.proofs.Groups.{zeros_have_none, zeros_are_short}
+use Rattle.journal.proofs.Clear.{or_none, zeros_are_clear, found_alike}
+use Rattle.journal.proofs.Noise.{what_is_written_is_read}
 
 -- no zero stands for a byte of a commit line
 stands_zeros : (n : ℕ) (piece : List ℕ) (count : ℕ)
@@ -54,7 +57,7 @@ same_last before start pending true (line ∷ lines) a b same = elim (cases_Bool
 
 -- zeros end no line
 found_zeros : (first text : List ℕ) (count : ℕ)
-    → found first (text ++ replicate count 0) ≡ found first text
+    → parsed first (text ++ replicate count 0) ≡ parsed first text
 found_zeros first text count =
     let lines = whole_lines text in
     let piece = last_piece text in
@@ -75,7 +78,12 @@ found_zeros first text count =
 
 pub zeros_change_nothing : ZerosChangeNothing
 zeros_change_nothing first text longer more =
-    ap (found first) more.1 ∙ found_zeros first text more.0
+    ap (found first) more.1
+    ∙ found_alike first (text ++ replicate more.0 0) text
+    (list_any-append is_noise text (replicate more.0 0)
+    ∙ ap (λ (b : Bool). has_noise text || b) (zeros_are_clear more.0)
+    ∙ or_none (has_noise text))
+    (found_zeros first text more.0)
 
 -- ---- a journal whose file was made larger
 

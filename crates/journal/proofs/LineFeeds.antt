@@ -5,6 +5,7 @@ use Rattle.sha2.specs.declared.Sha256.{Sha256}
 use Rattle.journal.specs.Text.{is_torn, is_commit, sum_of, commit_of, place_text}
 use Rattle.journal.specs.Reading.{is_overlong, found}
 use Rattle.journal.specs.Reads.{ReadSo}
+use Rattle.journal.proofs.Clear.{damage_is_found, sound_is_found}
 use Rattle.journal.proofs.ReadOn.{over_damage, over_passes, stop_damage, stops, waits_on, commit_damage, commits_once, twice_damage, group_ends, Rests, over_ends, going_ends, long_end}
 
 -- whether the head of a line commits a group elsewhere
@@ -20,9 +21,10 @@ module _ (first text last : List ℕ) (end : ℕ) (sum : List ℕ) where
       → (found first (text ++ 10 ∷ rest)).is_damaged ≡ true
   damage_over once false at head torn hasher is told front tells same stray r rest = absurd (cc is)
   damage_over once true at head torn hasher is told front tells same stray r rest =
-      over_damage first text last end sum once at head torn hasher r
+      damage_is_found first (text ++ 10 ∷ rest)
+      (over_damage first text last end sum once at head torn hasher r
       (ap (λ (b : Bool). not torn && b) (ap (λ (h : List ℕ). is_there h end) (sym same) ∙ sym tells)
-      ∙ stray) rest
+      ∙ stray) rest)
 
   pub feed_over : (once over : Bool) (at : ℕ) (head : List ℕ) (torn : Bool) (hasher : Sha256)
       → over ≡ true
@@ -42,7 +44,8 @@ module _ (first text last : List ℕ) (end : ℕ) (sum : List ℕ) where
       → (found first (text ++ 10 ∷ rest)).is_damaged ≡ true
   damage_stops once true at head torn hasher is lost long r rest = absurd (cc is)
   damage_stops once false at head torn hasher is lost long r rest =
-      stop_damage first text last end sum once at head torn hasher r lost long rest
+      damage_is_found first (text ++ 10 ∷ rest)
+      (stop_damage first text last end sum once at head torn hasher r lost long rest)
 
   -- the reader is over from then on
   pub feed_stops : (once over : Bool) (at : ℕ) (head : List ℕ) (torn : Bool) (hasher : Sha256)
@@ -74,8 +77,9 @@ module _ (first text last : List ℕ) (end : ℕ) (sum : List ℕ) where
   damage_commits true false at head torn hasher is fresh stands commits r told sums differs rest =
       absurd (cc fresh)
   damage_commits false false at head torn hasher is fresh stands commits r told sums differs rest =
-      commit_damage first text last end sum at head torn hasher r stands told sums commits differs
-      rest
+      damage_is_found first (text ++ 10 ∷ rest)
+      (commit_damage first text last end sum at head torn hasher r stands told sums commits differs
+      rest)
 
   pub feed_commits : (once over : Bool) (at : ℕ) (head : List ℕ) (torn : Bool) (hasher : Sha256)
       → over ≡ false → once ≡ false → torn ≡ false → is_commit head ≡ true
@@ -100,7 +104,8 @@ module _ (first text last : List ℕ) (end : ℕ) (sum : List ℕ) where
   damage_ends once true at head torn hasher is twice stands r differs rest = absurd (cc is)
   damage_ends false false at head torn hasher is twice stands r differs rest = absurd (cc twice)
   damage_ends true false at head torn hasher is twice stands r differs rest =
-      twice_damage first text last end sum at head torn hasher r stands differs rest
+      damage_is_found first (text ++ 10 ∷ rest)
+      (twice_damage first text last end sum at head torn hasher r stands differs rest)
 
   pub feed_ends : (once over : Bool) (at : ℕ) (head : List ℕ) (torn : Bool) (hasher : Sha256)
       → over ≡ false → once ≡ true → torn ≡ false
@@ -122,8 +127,9 @@ module _ (first text last : List ℕ) (end : ℕ) (sum : List ℕ) where
       → (found first text).is_damaged ≡ true
   damage_at_end once true at head torn hasher told front tells same long r = absurd (cc long)
   damage_at_end once false at head torn hasher told front tells same long r =
-      long_end first text last end sum once at head torn hasher
-      (ap is_overlong (sym same) ∙ sym tells ∙ long) r
+      damage_is_found first text
+      (long_end first text last end sum once at head torn hasher
+      (ap is_overlong (sym same) ∙ sym tells ∙ long) r)
 
   pub sound_at_end : (once over : Bool) (at : ℕ) (head : List ℕ) (torn : Bool) (hasher : Sha256)
       → (told : Bool) (front : List ℕ) → told ≡ is_overlong front → front ≡ head
@@ -131,7 +137,9 @@ module _ (first text last : List ℕ) (end : ℕ) (sum : List ℕ) where
       → ReadSo first text last end sum once over at head torn hasher
       → ((found first text).is_damaged ≡ false) × Rests first text last end
   sound_at_end once true at head torn hasher told front tells same short r =
-      over_ends first text last end sum once at head torn hasher r
+      let ends = over_ends first text last end sum once at head torn hasher r in
+      (sound_is_found first text r.clear ends.0, ends.1)
   sound_at_end once false at head torn hasher told front tells same short r =
-      going_ends first text last end sum once at head torn hasher
-      (ap is_overlong (sym same) ∙ sym tells ∙ short) r
+      let ends = going_ends first text last end sum once at head torn hasher
+      (ap is_overlong (sym same) ∙ sym tells ∙ short) r in
+      (sound_is_found first text r.clear ends.0, ends.1)

@@ -7,10 +7,11 @@ use Rattle.std.proofs.lemmas.Slice.Eq.{bytes_eq-Decides}
 use Rattle.std.specs.List.{list_any}
 use Rattle.sha2.specs.Hashers.{Holds256}
 use Rattle.sha2.specs.declared.Sha256.{Sha256}
-use Rattle.journal.specs.Text.{is_zero, is_line_feed, is_torn, is_commit, lines_text, sum_of, group_sum, group_lines, group_text, commit_of, commit_line, sum_after, journal_text, journal_end, place_text, IsLine, AreLines, AreGroups}
-use Rattle.journal.specs.Reading.{whole_lines, last_piece, is_overlong, is_stray, Found, found_none, with_group, with_groups, found_in, found}
+use Rattle.journal.specs.Text.{is_zero, is_line_feed, is_torn, is_commit, has_noise, lines_text, sum_of, group_sum, group_lines, group_text, commit_of, commit_line, sum_after, journal_text, journal_end, place_text, IsLine, AreLines, AreGroups}
+use Rattle.journal.specs.Reading.{whole_lines, last_piece, is_overlong, is_stray, Found, found_none, with_group, with_groups, found_in, parsed}
 use Rattle.journal.specs.Reads.{held, summed, summed_of, Going, Over, ReadSo}
 use Rattle.journal.proofs.TextLines.{HasNoFeed, none_of_both, whole_lines-line, last_piece-line, whole_lines-none, last_piece-none, lines_text-append}
+use Rattle.journal.proofs.Clear.{clear_both, clear_feed, clear_last}
 use Rattle.journal.proofs.Pushing.{journal_text-push, sum_after-push, are_pushed}
 use Rattle.journal.proofs.Heads.{front_more, head_commit, head_overlong, head_equals, head_place}
 
@@ -26,6 +27,7 @@ reads_nothing first sum hasher holds = record {
   place = refl;
   starts = refl;
   zeros = refl;
+  clear = refl;
   ends = refl;
   last_is = refl;
   stage = record {
@@ -67,7 +69,7 @@ summed_more piece bytes head same = elim (cases_Bool (is_commit (piece ++ bytes)
 
 module _ (first text last : List ℕ) (end : ℕ) (sum : List ℕ) (once : Bool) (at : ℕ) (head : List ℕ)
     (torn : Bool) (hasher new : Sha256)
-    (bytes front : List ℕ) (none : HasNoFeed bytes)
+    (bytes front : List ℕ) (none : HasNoFeed bytes) (none_noise : has_noise bytes ≡ false)
     (starts : front ≡ head ++ take (83 - length head) bytes) where
   front_is : (piece : List ℕ) → head ≡ take 83 piece → front ≡ take 83 (piece ++ bytes)
   front_is piece is = starts ∙ ap (λ (h : List ℕ). h ++ take (83 - length h) bytes) is
@@ -98,6 +100,7 @@ module _ (first text last : List ℕ) (end : ℕ) (sum : List ℕ) (once : Bool)
         place = more_place place r.place is;
         starts = front_is r.piece r.starts;
         zeros = torn_is r.piece r.zeros;
+        clear = clear_both text bytes r.clear none_noise;
         ends = r.ends;
         last_is = r.last_is;
         stage = record {
@@ -119,7 +122,7 @@ module _ (first text last : List ℕ) (end : ℕ) (sum : List ℕ) (once : Bool)
               (summed_more r.piece bytes front
               (head_commit front (r.piece ++ bytes) (front_is r.piece r.starts))))
               (hashes both (summed last g.waiting once ++ summed_of r.piece) (g.hashes before));
-          holds = λ rest. ap (found first) (append_assoc text bytes rest) ∙ g.holds (bytes ++ rest)
+          holds = λ rest. ap (parsed first) (append_assoc text bytes rest) ∙ g.holds (bytes ++ rest)
               ∙ ap (λ (t : List ℕ). with_groups r.groups
               (found_in last end g.waiting once (whole_lines t) (last_piece t)))
               (sym (append_assoc r.piece bytes rest));
@@ -139,13 +142,14 @@ module _ (first text last : List ℕ) (end : ℕ) (sum : List ℕ) (once : Bool)
         place = more_place place r.place is;
         starts = front_is r.piece r.starts;
         zeros = torn_is r.piece r.zeros;
+        clear = clear_both text bytes r.clear none_noise;
         ends = r.ends;
         last_is = r.last_is;
         stage = record {
           behind = o.behind ++ bytes;
           is = ap (λ (t : List ℕ). t ++ bytes) o.is
               ∙ append_assoc (journal_text first r.groups) o.behind bytes;
-          holds = λ rest. ap (found first) (append_assoc text bytes rest) ∙ o.holds (bytes ++ rest)
+          holds = λ rest. ap (parsed first) (append_assoc text bytes rest) ∙ o.holds (bytes ++ rest)
               ∙ ap (λ (t : List ℕ). with_groups r.groups
               (found_none (list_any (is_stray end) (whole_lines t))))
               (sym (append_assoc r.piece bytes rest));
@@ -176,7 +180,7 @@ module _ (first text last : List ℕ) (end : ℕ) (sum : List ℕ) (once : Bool)
   over = r.stage
 
   over_feed : (rest : List ℕ)
-      → found first (text ++ 10 ∷ rest)
+      → parsed first (text ++ 10 ∷ rest)
       ≡ with_groups r.groups (found_none (list_any (is_stray end) (r.piece ∷ whole_lines rest)))
   over_feed rest =
       over.holds (10 ∷ rest)
@@ -196,9 +200,9 @@ module _ (first text last : List ℕ) (end : ℕ) (sum : List ℕ) (once : Bool)
 
   pub over_damage : (not torn && (is_commit head && not (bytes_eq (drop 65 head) (place_text end))))
       ≡ true → (rest : List ℕ)
-      → (found first (text ++ 10 ∷ rest)).is_damaged ≡ true
+      → (parsed first (text ++ 10 ∷ rest)).is_damaged ≡ true
   over_damage stray rest =
-      with_damage r.groups (found first (text ++ 10 ∷ rest)) _ (over_feed rest)
+      with_damage r.groups (parsed first (text ++ 10 ∷ rest)) _ (over_feed rest)
       (rw (sym stray_is ∙ stray) refl)
 
   passes : is_stray end r.piece ≡ false
@@ -211,13 +215,14 @@ module _ (first text last : List ℕ) (end : ℕ) (sum : List ℕ) (once : Bool)
     place = one_more text at r.place;
     starts = refl;
     zeros = refl;
+    clear = clear_feed text r.clear;
     ends = r.ends;
     last_is = r.last_is;
     stage = record {
       behind = over.behind ++ 10 ∷ [];
       is = ap (λ (t : List ℕ). t ++ 10 ∷ []) over.is
           ∙ append_assoc (journal_text first r.groups) over.behind (10 ∷ []);
-      holds = λ rest. ap (found first) (append_assoc text (10 ∷ []) rest) ∙ over_feed rest
+      holds = λ rest. ap (parsed first) (append_assoc text (10 ∷ []) rest) ∙ over_feed rest
           ∙ rw calm refl;
     };
   }
@@ -234,7 +239,7 @@ module _ (first text last : List ℕ) (end : ℕ) (sum : List ℕ) (once : Bool)
   going = r.stage
 
   feed : (rest : List ℕ)
-      → found first (text ++ 10 ∷ rest)
+      → parsed first (text ++ 10 ∷ rest)
       ≡ with_groups r.groups
       (found_in last end going.waiting once (r.piece ∷ whole_lines rest) (last_piece rest))
   feed rest =
@@ -247,15 +252,15 @@ module _ (first text last : List ℕ) (end : ℕ) (sum : List ℕ) (once : Bool)
       (last_piece-line r.piece rest)
 
   fed : (rest : List ℕ)
-      → found first ((text ++ 10 ∷ []) ++ rest)
+      → parsed first ((text ++ 10 ∷ []) ++ rest)
       ≡ with_groups r.groups
       (found_in last end going.waiting once (r.piece ∷ whole_lines rest) (last_piece rest))
-  fed rest = ap (found first) (append_assoc text (10 ∷ []) rest) ∙ feed rest
+  fed rest = ap (parsed first) (append_assoc text (10 ∷ []) rest) ∙ feed rest
 
   pub stop_damage : torn ≡ true → is_overlong head ≡ true → (rest : List ℕ)
-      → (found first (text ++ 10 ∷ rest)).is_damaged ≡ true
+      → (parsed first (text ++ 10 ∷ rest)).is_damaged ≡ true
   stop_damage lost long rest =
-      with_damage r.groups (found first (text ++ 10 ∷ rest)) _ (feed rest)
+      with_damage r.groups (parsed first (text ++ 10 ∷ rest)) _ (feed rest)
       (rw (sym r.zeros ∙ lost, sym (head_overlong head r.piece r.starts) ∙ long) refl)
 
   pub stops : torn ≡ true → is_overlong head ≡ false
@@ -270,6 +275,7 @@ module _ (first text last : List ℕ) (end : ℕ) (sum : List ℕ) (once : Bool)
         place = one_more text at r.place;
         starts = refl;
         zeros = refl;
+        clear = clear_feed text r.clear;
         ends = r.ends;
         last_is = r.last_is;
         stage = record {
@@ -337,12 +343,19 @@ module _ (first text last : List ℕ) (end : ℕ) (sum : List ℕ) (at : ℕ) (h
         place = one_more text at r.place;
         starts = refl;
         zeros = refl;
+        clear = clear_feed text r.clear;
         ends = r.ends;
         last_is = r.last_is;
         stage = record {
           waiting = lines ++ r.piece ∷ [];
           waits = lines_more lines r.piece open_group.waits
-              (record { whole = r.whole; marked = unmarked; plain = plain });
+              (record {
+                whole = r.whole;
+                marked = unmarked;
+                plain = plain;
+                clear = clear_last text (journal_text first r.groups) (lines_text lines) r.piece
+                    open_group.is r.clear;
+              });
           is = held_is (text ++ 10 ∷ []) (journal_text first r.groups) _
               (more_held text (journal_text first r.groups) lines r.piece open_group.is);
           sums = λ once. absurd (cc once);
@@ -376,9 +389,9 @@ module _ (first text last : List ℕ) (end : ℕ) (sum : List ℕ) (at : ℕ) (h
         ∙ head_equals head r.piece r.starts (last ++ lines_text lines) end
 
     pub commit_damage : bytes_eq head (commit_of sum' end) ≡ false → (rest : List ℕ)
-        → (found first (text ++ 10 ∷ rest)).is_damaged ≡ true
+        → (parsed first (text ++ 10 ∷ rest)).is_damaged ≡ true
     commit_damage differs rest =
-        with_damage r.groups (found first (text ++ 10 ∷ rest)) _
+        with_damage r.groups (parsed first (text ++ 10 ∷ rest)) _
         (feed first text last end sum false at head torn hasher r rest)
         (rw (unmarked, marked, sym test_is ∙ differs) refl)
 
@@ -396,6 +409,7 @@ module _ (first text last : List ℕ) (end : ℕ) (sum : List ℕ) (at : ℕ) (h
           place = one_more text at r.place;
           starts = refl;
           zeros = refl;
+          clear = clear_feed text r.clear;
           ends = r.ends;
           last_is = r.last_is;
           stage = record {
@@ -433,9 +447,9 @@ module _ (first text last : List ℕ) (end : ℕ) (sum : List ℕ) (at : ℕ) (h
       ∙ head_equals head r.piece r.starts (last ++ lines_text group) end
 
   pub twice_damage : bytes_eq head (commit_of sum end) ≡ false → (rest : List ℕ)
-      → (found first (text ++ 10 ∷ rest)).is_damaged ≡ true
+      → (parsed first (text ++ 10 ∷ rest)).is_damaged ≡ true
   twice_damage differs rest =
-      with_damage r.groups (found first (text ++ 10 ∷ rest)) _
+      with_damage r.groups (parsed first (text ++ 10 ∷ rest)) _
       (feed first text last end sum true at head torn hasher r rest)
       (rw (whole_piece, sym twice_is ∙ differs) refl)
 
@@ -487,6 +501,7 @@ module _ (first text last : List ℕ) (end : ℕ) (sum : List ℕ) (at : ℕ) (h
       place = one_more text at r.place;
       starts = refl;
       zeros = refl;
+      clear = clear_feed text r.clear;
       ends = one_more text at r.place ∙ ap length all_is;
       last_is = once_read.sums refl ∙ ap (λ (l : List ℕ). group_sum l group) r.last_is
           ∙ sym (sum_after-push first r.groups group);
@@ -516,14 +531,14 @@ module _ (first text last : List ℕ) (end : ℕ) (sum : List ℕ) (at : ℕ) (h
 
 -- what stands behind the groups isn't damage
 abbrev pub Rests : List ℕ → List ℕ → List ℕ → ℕ → Type 0
-Rests first text last end = AreGroups (found first text).groups × (end ≤ length text)
-    × (take end text ≡ journal_text first (found first text).groups)
-    × (last ≡ sum_after first (found first text).groups)
+Rests first text last end = AreGroups (parsed first text).groups × (end ≤ length text)
+    × (take end text ≡ journal_text first (parsed first text).groups)
+    × (last ≡ sum_after first (parsed first text).groups)
 
 rests_so : (first text last behind : List ℕ) (end : ℕ) (groups : List (List (List ℕ)))
     → AreGroups groups → text ≡ journal_text first groups ++ behind
     → end ≡ journal_end first groups → last ≡ sum_after first groups
-    → (found first text).groups ≡ groups → Rests first text last end
+    → (parsed first text).groups ≡ groups → Rests first text last end
 rests_so first text last behind end groups each is ends last_is found_is =
     rw found_is (
       each,
@@ -537,13 +552,13 @@ found_so : (groups : List (List (List ℕ))) (read : Found) (damage : Bool)
     → read ≡ with_groups groups (found_none damage) → read.groups ≡ groups
 found_so groups read damage is = ap (λ (f : Found). f.groups) is ∙ append-nil groups
 
-whole_text : (first text : List ℕ) → found first text ≡ found first (text ++ [])
-whole_text first text = ap (found first) (sym (append-nil text))
+whole_text : (first text : List ℕ) → parsed first text ≡ parsed first (text ++ [])
+whole_text first text = ap (parsed first) (sym (append-nil text))
 
 module _ (first text last : List ℕ) (end : ℕ) (sum : List ℕ) (once : Bool) (at : ℕ) (head : List ℕ)
     (torn : Bool) (hasher : Sha256) where
   over_all : (r : ReadSo first text last end sum once true at head torn hasher)
-      → found first text ≡ with_groups r.groups (found_none false)
+      → parsed first text ≡ with_groups r.groups (found_none false)
   over_all r =
       let o : Over first text end r.piece r.groups = r.stage in
       whole_text first text ∙ o.holds []
@@ -551,7 +566,7 @@ module _ (first text last : List ℕ) (end : ℕ) (sum : List ℕ) (once : Bool)
       (ap whole_lines (append-nil r.piece) ∙ whole_lines-none r.piece r.whole)
 
   going_all : (r : ReadSo first text last end sum once false at head torn hasher)
-      → found first text ≡ with_groups r.groups (found_none (is_overlong head))
+      → parsed first text ≡ with_groups r.groups (found_none (is_overlong head))
   going_all r =
       let g : Going first text last end sum once r.piece hasher r.groups = r.stage in
       whole_text first text ∙ g.holds []
@@ -565,30 +580,38 @@ module _ (first text last : List ℕ) (end : ℕ) (sum : List ℕ) (once : Bool)
       ∙ ap (λ (d : Bool). with_groups r.groups (found_none d))
       (sym (head_overlong head r.piece r.starts))
 
+  pub over_groups : (r : ReadSo first text last end sum once true at head torn hasher)
+      → (parsed first text).groups ≡ r.groups
+  over_groups r = found_so r.groups (parsed first text) false (over_all r)
+
+  pub going_groups : (r : ReadSo first text last end sum once false at head torn hasher)
+      → (parsed first text).groups ≡ r.groups
+  going_groups r = found_so r.groups (parsed first text) (is_overlong head) (going_all r)
+
   pub over_ends : ReadSo first text last end sum once true at head torn hasher
-      → ((found first text).is_damaged ≡ false) × Rests first text last end
+      → ((parsed first text).is_damaged ≡ false) × Rests first text last end
   over_ends r =
       let o : Over first text end r.piece r.groups = r.stage in (
         ap (λ (f : Found). f.is_damaged)
             (over_all r),
         rests_so first text last o.behind end r.groups r.each o.is r.ends r.last_is
-            (found_so r.groups (found first text) false (over_all r)),
+            (found_so r.groups (parsed first text) false (over_all r)),
       )
 
   pub going_ends : is_overlong head ≡ false
       → ReadSo first text last end sum once false at head torn hasher
-      → ((found first text).is_damaged ≡ false) × Rests first text last end
+      → ((parsed first text).is_damaged ≡ false) × Rests first text last end
   going_ends short r =
       let g : Going first text last end sum once r.piece hasher r.groups = r.stage in
-      let is : found first text ≡ with_groups r.groups (found_none false) = going_all r
+      let is : parsed first text ≡ with_groups r.groups (found_none false) = going_all r
       ∙ ap (λ (d : Bool). with_groups r.groups (found_none d)) short in (
         ap (λ (f : Found). f.is_damaged) is,
         rests_so first text last
             (lines_text (held last end g.waiting once) ++ r.piece) end r.groups r.each g.is r.ends
-            r.last_is (found_so r.groups (found first text) false is),
+            r.last_is (found_so r.groups (parsed first text) false is),
       )
 
   pub long_end : is_overlong head ≡ true
       → ReadSo first text last end sum once false at head torn hasher
-      → (found first text).is_damaged ≡ true
+      → (parsed first text).is_damaged ≡ true
   long_end long r = ap (λ (f : Found). f.is_damaged) (going_all r) ∙ long

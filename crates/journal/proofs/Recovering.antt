@@ -4,12 +4,13 @@ use Rattle.std.proofs.lemmas.Bool.{cases_Bool, false≢true}
 use Rattle.std.proofs.lemmas.List.{append-nil, append_cancel_left, take-append-drop, length-take-le, drop-drop, drop_more, length-replicate, drop-replicate, replicate-append-replicate}
 use Rattle.std.proofs.lemmas.Slice.Eq.{bytes_eq-Decides}
 use Rattle.std.specs.List.{list_any}
-use Rattle.journal.specs.Text.{is_torn, is_commit, lines_text, commit_line, sum_after, journal_text, journal_end, AreGroups}
-use Rattle.journal.specs.Reading.{whole_lines, last_piece, is_overlong, is_stray, Found, found_none, with_group, with_groups, found_in, found_from, found, sound}
+use Rattle.journal.specs.Text.{is_torn, is_commit, has_noise, lines_text, commit_line, sum_after, journal_text, journal_end, AreGroups}
+use Rattle.journal.specs.Reading.{whole_lines, last_piece, is_overlong, is_stray, Found, found_none, with_group, with_groups, found_in, found_from, parsed, found, sound}
 use Rattle.journal.specs.Crashes.{Holes, Only, Mixes, written, PutCrash}
 use Rattle.journal.specs.Groups.{HasGroups}
 use Rattle.journal.specs.Reads.{ZerosFrom}
 use Rattle.journal.proofs.TextLines.{HasNoFeed, AreWhole, or_false, parts, each_whole, piece_has_none, whole_lines-none, last_piece-none}
+use Rattle.journal.proofs.Clear.{clear_both, clear_parts, left_is_clear, sound_parts, found_alike}
 use Rattle.journal.proofs.Tearing.{cut_holes, both_holes, all_there, whole_or_torn, left_has_none, torn_is_not_stray, not_overlong, ends_here}
 use Rattle.journal.proofs.Groups.{Read, read_text, found_behind, line_is_not_stray, commit_is_not_stray, commit_is_short, line_is_short}
 
@@ -172,11 +173,12 @@ still before start pending once (line ∷ lines) last left all none is holes =
 
 -- ---- the file
 
-module _ (first text : List ℕ) (end : ℕ) (all : AreGroups (found first text).groups)
-    (within : end ≤ length text) (is : take end text ≡ journal_text first (found first text).groups)
-    (whole : (found first text).is_damaged ≡ false) where
+module _ (first text : List ℕ) (end : ℕ) (all : AreGroups (parsed first text).groups)
+    (within : end ≤ length text)
+    (is : take end text ≡ journal_text first (parsed first text).groups)
+    (whole : (parsed first text).is_damaged ≡ false) where
   abbrev groups : List (List (List ℕ))
-  groups = (found first text).groups
+  groups = (parsed first text).groups
 
   abbrev rest : List ℕ
   rest = drop end text
@@ -190,7 +192,7 @@ module _ (first text : List ℕ) (end : ℕ) (all : AreGroups (found first text)
   rest_found : found_from (sum_after first groups) (journal_end first groups) rest ≡ sound []
   rest_found =
       let read = found_from (sum_after first groups) (journal_end first groups) rest in
-      let both : found first text ≡ with_groups groups read = ap (found first) file_parts
+      let both : parsed first text ≡ with_groups groups read = ap (parsed first) file_parts
       ∙ found_behind first groups rest all in
       let none : read.groups ≡ [] =
       append_cancel_left groups read.groups []
@@ -200,7 +202,7 @@ module _ (first text : List ℕ) (end : ℕ) (all : AreGroups (found first text)
 
   -- a file of which bytes behind the groups are lost is read as it was
   pub lost_behind : (left : List ℕ) → Holes rest left
-      → found first (take end text ++ left) ≡ found first text
+      → parsed first (take end text ++ left) ≡ parsed first text
   lost_behind left holes =
       let read = found_from (sum_after first groups) (journal_end first groups) in
       let texts : Holes (lines_text (whole_lines rest) ++ last_piece rest) left =
@@ -208,9 +210,9 @@ module _ (first text : List ℕ) (end : ℕ) (all : AreGroups (found first text)
       let now = still (sum_after first groups) (journal_end first groups) [] false
       (whole_lines rest) (last_piece rest) left (each_whole rest)
       (piece_has_none rest) rest_found texts in
-      ap (λ (t : List ℕ). found first (t ++ left)) is ∙ found_behind first groups left all
+      ap (λ (t : List ℕ). parsed first (t ++ left)) is ∙ found_behind first groups left all
       ∙ ap (with_groups groups) now
-      ∙ sym (ap (found first) file_parts ∙ found_behind first groups rest all
+      ∙ sym (ap (parsed first) file_parts ∙ found_behind first groups rest all
       ∙ ap (with_groups groups) rest_found)
 
 pub mixed_zeros : (old mixed : List ℕ) → Mixes old (replicate (length old) 0) mixed
@@ -250,17 +252,17 @@ zeros_behind text till at le is =
     ∙ ap (drop (at - till)) is ∙ drop-replicate (at - till) (length text - till) 0
 
 module _ (first text zeros : List ℕ) (end till : ℕ) (last : List ℕ)
-    (all : AreGroups (found first text).groups) (within : end ≤ length text)
-    (is : take end text ≡ journal_text first (found first text).groups)
-    (last_is : last ≡ sum_after first (found first text).groups)
-    (whole : (found first text).is_damaged ≡ false)
+    (all : AreGroups (parsed first text).groups) (within : end ≤ length text)
+    (is : take end text ≡ journal_text first (parsed first text).groups)
+    (last_is : last ≡ sum_after first (parsed first text).groups)
+    (whole : (parsed first text).is_damaged ≡ false)
     (behind : drop till text ≡ replicate (length text - till) 0)
     (are : zeros ≡ replicate (till - end) 0) where
   long : length zeros ≡ till - end
   long = ap length are ∙ length-replicate (till - end) 0
 
   pub blanked : (new : List ℕ) (left : List ℕ → Type 0) → new ≡ written end zeros text
-      → Only new left → HasGroups new left last end first (found first text).groups
+      → Only new left → HasGroups new left last end first (parsed first text).groups
   blanked new left put only =
       let at = end + length zeros in
       let room = length text - till - (at - till) in
@@ -269,12 +271,12 @@ module _ (first text zeros : List ℕ) (end till : ℕ) (last : List ℕ)
         each = all;
         file = put
             ∙ ap (λ (t : List ℕ). t ++ (zeros ++ drop at text)) is
-            ∙ ap (λ (t : List ℕ). journal_text first (found first text).groups ++
+            ∙ ap (λ (t : List ℕ). journal_text first (parsed first text).groups ++
             (t ++ drop at text)) are
-            ∙ ap (λ (t : List ℕ). journal_text first (found first text).groups ++
+            ∙ ap (λ (t : List ℕ). journal_text first (parsed first text).groups ++
             (replicate (till - end) 0 ++ t))
             (zeros_behind text till at (omega (arith, long)) behind)
-            ∙ ap (λ (t : List ℕ). journal_text first (found first text).groups ++ t)
+            ∙ ap (λ (t : List ℕ). journal_text first (parsed first text).groups ++ t)
             (replicate-append-replicate (till - end) room 0);
         sum = last_is;
         ends = size first text end all within is whole;
@@ -294,7 +296,8 @@ pub recovered : (first text here last new : List ℕ) (end till : ℕ) (left : L
     → HasGroups new left last end first (found first text).groups
 recovered first text here last new end till left same read whole zeros put =
     blanked first text (replicate
-    (till - end) 0) end till last read.0 read.1 read.2 read.3 whole zeros.1 refl new left
+    (till - end) 0) end till last read.0 read.1 read.2 read.3
+    (sound_parts first text whole).1 zeros.1 refl new left
     (put.0 ∙ ap (written end (replicate (till - end) 0)) same) put.1
 
 -- what a crash leaves of it is read so too
@@ -305,5 +308,11 @@ pub read_left : (first text here last c : List ℕ) (end : ℕ) → here ≡ tex
 read_left first text here last c end same read whole out =
     let behind : Holes (drop end text) out.0 =
     subst (λ (t : List ℕ). Holes (drop end t) out.0) same out.1 in
+    let sound = sound_parts first text whole in
+    let parts = clear_parts (take end text) (drop end text)
+    (ap has_noise (take-append-drop end text) ∙ sound.0) in
+    let left = clear_both (take end text) out.0 parts.0
+    (left_is_clear (drop end text) out.0 parts.1 behind) in
     ap (found first) (out.2 ∙ ap (λ (t : List ℕ). take end t ++ out.0) same)
-    ∙ lost_behind first text end read.0 read.1 read.2 whole out.0 behind
+    ∙ found_alike first (take end text ++ out.0) text (left ∙ sym sound.0)
+    (lost_behind first text end read.0 read.1 read.2 sound.1 out.0 behind)

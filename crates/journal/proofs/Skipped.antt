@@ -9,6 +9,7 @@ use Rattle.journal.specs.Text.{is_torn, is_commit, lines_text, group_sum, group_
 use Rattle.journal.specs.Reading.{whole_lines, last_piece, is_overlong, is_stray, Found, found_none, with_group, found_in, found}
 use Rattle.journal.specs.Reads.{held}
 use Rattle.journal.proofs.TextLines.{or_false}
+use Rattle.journal.proofs.Clear.{sound_parts}
 use Rattle.journal.proofs.Groups.{end_of, end_of-more, nothing_before, line_is_not_stray, commit_is_not_stray}
 
 -- these lines are the groups that were found, and a rest
@@ -131,5 +132,6 @@ nothing_is_skipped first text =
       read.rest,
       read.is,
       λ none. ap (λ (n : ℕ). list_any (is_stray n) read.rest)
-          (sym (nothing_before (journal_end first (found first text).groups))) ∙ read.calm none,
+          (sym (nothing_before (journal_end first (found first text).groups))) ∙ read.calm
+          (sound_parts first text none).1,
     )

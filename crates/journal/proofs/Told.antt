@@ -5,8 +5,9 @@ use Rattle.std.proofs.lemmas.List.{append-nil}
 use Rattle.std.proofs.lemmas.Slice.Eq.{bytes_eq-Decides}
 use Rattle.std.specs.List.{list_any}
 use Rattle.journal.specs.Text.{is_line_feed, is_zero, is_torn, is_commit, lines_text, place_text, group_sum, group_text, group_end, commit_line, AreLines}
-use Rattle.journal.specs.Reading.{whole_lines, last_piece, is_overlong, is_stray, Found, found_none, found_in, found}
+use Rattle.journal.specs.Reading.{whole_lines, last_piece, is_overlong, is_stray, Found, found_none, found_in, parsed, found}
 use Rattle.journal.proofs.TextLines.{HasNoFeed, parts, some_lines, each_whole, piece_has_none, last_piece-line, none_of_both, lines_text-append, whole_lines-lines, whole_lines-line}
+use Rattle.journal.proofs.Clear.{damage_is_found}
 use Rattle.journal.proofs.Sums.{length-commit, commit_is_marked, commit_place, commit_has_none, one_place}
 use Rattle.journal.proofs.Tearing.{glue, whole_lines-glue, torn_more, torn_by}
 
@@ -175,7 +176,7 @@ has_feed (x ∷ a) b = elim (cases_Bool (is_line_feed x)) [
 ]
 
 abbrev IsTold : List ℕ → List ℕ → Type 0
-IsTold first text = (found first text).is_damaged ≡ true
+IsTold first text = (parsed first text).is_damaged ≡ true
 
 -- a front, a zero, bytes up to a line feed, and a commit line of a place behind the front
 told_text : (first front back line more : List ℕ) (k : ℕ) → length front < k → k < 2 ^ 64
@@ -250,6 +251,7 @@ a_zero_is_told first before front more group all torn fits =
     ((lines_text group ++ line) ++ 10 ∷ (line ++ 10 ∷ more))
     ∙ ap (λ (t : List ℕ). part.front ++ 0 ∷ t)
     (sym (append_assoc part.back (lines_text group ++ line) (10 ∷ (line ++ 10 ∷ more)))) in
-    ap (λ (t : List ℕ). (found first t).is_damaged) is
+    damage_is_found first (front ++ (group_text before k group ++ more))
+    (ap (λ (t : List ℕ). (parsed first t).is_damaged) is
     ∙ told_text first part.front (part.back ++ (lines_text group ++ line)) line more k
-    (omega (arith, size)) fits of (commit_has_none sum_text k)
+    (omega (arith, size)) fits of (commit_has_none sum_text k))

@@ -1,7 +1,7 @@
 -- What holds of the text of journals.
 use Rattle.std.specs.Prelude.{◌≡◌, ◌≢◌, ◌⊎◌, ◌<◌, ◌^◌, ℕ, List, [], ◌∷◌, ◌++◌, length, replicate, true, false}
 use Rattle.std.specs.List.{list_any}
-use Rattle.journal.specs.Text.{sum_of, sum_after, is_zero, is_torn, journal_lines, journal_text, journal_end, group_text, AreLines, AreGroups}
+use Rattle.journal.specs.Text.{sum_of, sum_after, is_zero, is_torn, has_noise, journal_lines, journal_text, journal_end, group_text, AreLines, AreGroups}
 use Rattle.journal.specs.Reading.{found, sound, whole_lines, is_stray}
 use Rattle.journal.specs.Crashes.{Mixes}
 
@@ -50,6 +50,11 @@ AChangeIsTold = (first : List ℕ) (groups : List (List (List ℕ))) (front back
     → AreGroups groups → journal_end first groups < 2 ^ 64
     → journal_text first groups ≡ front ++ byte ∷ back → other ≢ byte → other ≢ 0
     → ((found first (front ++ (other ∷ (back ++ replicate room 0)))).is_damaged ≡ true) ⊎ Collision
+
+-- A byte that no UTF-8 text has is found as damage, wherever it stands.
+abbrev pub NoiseIsTold : Type 0
+NoiseIsTold = (first text : List ℕ) → has_noise text ≡ true
+    → (found first text).is_damaged ≡ true
 
 -- The last sum tells all that stands before it: two journals of as many groups with one last sum
 -- are one, or here are two texts with one SHA-256.

@@ -1,7 +1,9 @@
 pub mod Crashes
 pub mod Groups
 pub mod Growth
+pub mod Head
 pub mod Laws
 pub mod Reading
 pub mod Reads
+pub mod Selector
 pub mod Text

@@ -1,7 +1,7 @@
 -- What a file is read as, whatever a crash or a worn disk made of it.
 use Rattle.std.specs.Prelude.{ℕ, zero, suc, ◌&&◌, ◌||◌, not, List, [], ◌∷◌, ◌++◌, drop, Bool, true, false, if◌then◌else◌, bytes_eq}
 use Rattle.std.specs.List.{list_any}
-use Rattle.journal.specs.Text.{is_line_feed, is_zero, is_torn, is_commit, commit_line, group_sum, group_end, place_text}
+use Rattle.journal.specs.Text.{is_line_feed, is_zero, is_torn, is_commit, has_noise, commit_line, group_sum, group_end, place_text}
 
 -- a byte at the front of the first whole line; a line that no line feed ends isn't whole
 abbrev pub onto_whole : ℕ → List (List ℕ) → List (List ℕ)
@@ -74,9 +74,17 @@ found_in before start pending once (line ∷ lines) last =
 abbrev pub found_from : List ℕ → ℕ → List ℕ → Found
 found_from before start text = found_in before start [] false (whole_lines text) (last_piece text)
 
--- what a file holds that begins with this first sum
+-- what the lines of a file hold that begins with this first sum
+abbrev pub parsed : List ℕ → List ℕ → Found
+parsed first text = found_from first 0 text
+
+-- What a file holds that begins with this first sum. Wherever a byte stands that no UTF-8 text has,
+-- that is damage: no write leaves one, be it whole or torn.
 abbrev pub found : List ℕ → List ℕ → Found
-found first text = found_from first 0 text
+found first text = record {
+  groups = (parsed first text).groups;
+  is_damaged = has_noise text || (parsed first text).is_damaged;
+}
 
 -- these groups, and no damage
 abbrev pub sound : List (List (List ℕ)) → Found

@@ -3,8 +3,8 @@ use Rattle.std.specs.Prelude.{◌≡◌, ◌≤◌, ◌-◌, ℕ, List, [], ◌�
 use Rattle.std.specs.List.{list_any}
 use Rattle.sha2.specs.Hashers.{Holds256}
 use Rattle.sha2.specs.declared.Sha256.{Sha256}
-use Rattle.journal.specs.Text.{is_line_feed, is_torn, is_commit, lines_text, group_sum, commit_line, sum_after, journal_text, journal_end, AreLines, AreGroups}
-use Rattle.journal.specs.Reading.{whole_lines, last_piece, is_stray, found_none, with_groups, found_in, found}
+use Rattle.journal.specs.Text.{is_line_feed, is_torn, is_commit, has_noise, lines_text, group_sum, commit_line, sum_after, journal_text, journal_end, AreLines, AreGroups}
+use Rattle.journal.specs.Reading.{whole_lines, last_piece, is_stray, found_none, with_groups, found_in, parsed}
 use Rattle.journal.specs.declared.reader.Reader.{Reader}
 
 -- the lines of a group that were read: those that wait, and its commit line where it was read once
@@ -29,7 +29,7 @@ pub record Going (first text last : List ℕ) (end : ℕ) (sum : List ℕ) (once
   pub is : text ≡ journal_text first groups ++ (lines_text (held last end waiting once) ++ piece)
   pub sums : once ≡ true → sum ≡ group_sum last waiting
   pub hashes : is_torn piece ≡ false → Holds256 hasher (summed last waiting once ++ summed_of piece)
-  pub holds : (rest : List ℕ) → found first (text ++ rest)
+  pub holds : (rest : List ℕ) → parsed first (text ++ rest)
       ≡ with_groups groups
       (found_in last end waiting once (whole_lines (piece ++ rest))
       (last_piece (piece ++ rest)))
@@ -39,7 +39,7 @@ pub record Over (first text : List ℕ) (end : ℕ) (piece : List ℕ)
     (groups : List (List (List ℕ))) : Type 0 where
   pub behind : List ℕ
   pub is : text ≡ journal_text first groups ++ behind
-  pub holds : (rest : List ℕ) → found first (text ++ rest)
+  pub holds : (rest : List ℕ) → parsed first (text ++ rest)
       ≡ with_groups groups (found_none (list_any (is_stray end) (whole_lines (piece ++ rest))))
 
 -- which of both
@@ -59,6 +59,7 @@ pub record ReadSo (first text last : List ℕ) (end : ℕ) (sum : List ℕ) (onc
   pub place : at ≡ length text
   pub starts : head ≡ take 83 piece
   pub zeros : torn ≡ is_torn piece
+  pub clear : has_noise text ≡ false
   pub ends : end ≡ journal_end first groups
   pub last_is : last ≡ sum_after first groups
   pub stage : Stage over first text last end sum once piece hasher groups

@@ -1,6 +1,6 @@
 -- The text of a journal. Lines stand in groups; a group was accepted at once, and ends by a commit
 -- line, twice, which has the sum of all that stands before it and the place where its group begins.
-use Rattle.std.specs.Prelude.{◌≡◌, ℕ, ◌+◌, ◌==◌, List, [], ◌∷◌, ◌++◌, length, Bool, false}
+use Rattle.std.specs.Prelude.{◌≡◌, ℕ, ◌+◌, ◌==◌, nat_lt, List, [], ◌∷◌, ◌++◌, length, Bool, false}
 use Rattle.std.specs.List.{list_any, AllByRecursion}
 use Rattle.std.specs.Int.{to_be_bytes, w64}
 use Rattle.sha2.specs.Sha256.{sha256}
@@ -17,6 +17,14 @@ is_zero byte = byte == 0
 -- a byte of this line isn't there
 abbrev pub is_torn : List ℕ → Bool
 is_torn line = list_any is_zero line
+
+-- a byte that no UTF-8 text has
+abbrev pub is_noise : ℕ → Bool
+is_noise byte = nat_lt 244 byte
+
+-- such a byte is in a text
+abbrev pub has_noise : List ℕ → Bool
+has_noise text = list_any is_noise text
 
 -- a commit line begins with '#', and no request does
 abbrev pub is_commit : List ℕ → Bool
@@ -85,11 +93,13 @@ journal_text first groups = lines_text (journal_lines first groups)
 abbrev pub journal_end : List ℕ → List (List (List ℕ)) → ℕ
 journal_end first groups = length (journal_text first groups)
 
--- what can stand in a group: a line without a line feed and without a zero that is no commit line
+-- what can stand in a group: a line without a line feed, a zero and a byte that no UTF-8 text has,
+-- and that is no commit line
 pub record IsLine (line : List ℕ) : Type 0 where
   pub whole : list_any is_line_feed line ≡ false
   pub marked : is_torn line ≡ false
   pub plain : is_commit line ≡ false
+  pub clear : has_noise line ≡ false
 
 -- each can stand in a group
 abbrev pub AreLines : List (List ℕ) → Type 0

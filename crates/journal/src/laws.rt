@@ -1,5 +1,5 @@
 //! What holds of the text of journals.
-ghost use Rattle.journal.specs.Laws.{WhatIsWrittenIsRead, ATornGroupIsNotThere, NothingIsSkipped, AZeroIsTold, AChangeIsTold, TheLastSumTellsAll};
+ghost use Rattle.journal.specs.Laws.{WhatIsWrittenIsRead, ATornGroupIsNotThere, NothingIsSkipped, AZeroIsTold, AChangeIsTold, NoiseIsTold, TheLastSumTellsAll};
 ghost use Rattle.journal.specs.Growth.{ZerosChangeNothing};
 
 /// A journal is read as it was written. One of whose last group a crash lost bytes is read without
@@ -16,10 +16,11 @@ pub fn nothing_is_skipped()
 {}
 
 /// A byte that is lost before the last group is found as damage, and so is each byte that is
-/// changed to another.
+/// changed to another, and each that no UTF-8 text has, wherever it stands.
 pub fn damage_is_told()
     ensures zero { AZeroIsTold }
     ensures change { AChangeIsTold }
+    ensures noise { NoiseIsTold }
 {}
 
 /// The last sum tells all that stands before it.

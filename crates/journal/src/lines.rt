@@ -1,7 +1,7 @@
 //! Where a line ends, and what a line is.
 ghost use Rattle.std.specs.Prelude.{◌≡◌, ◌++◌, ◌∷◌, [], IfSome, IfNone, false, true, position, bytes_eq, drop, ◌&&◌, not};
 ghost use Rattle.std.specs.List.{list_any};
-ghost use Rattle.journal.specs.Text.{is_line_feed, is_torn, is_commit, commit_of, place_text, IsLine};
+ghost use Rattle.journal.specs.Text.{is_line_feed, is_torn, is_commit, has_noise, commit_of, place_text, IsLine};
 ghost use Rattle.journal.specs.Reading.{stands, is_overlong};
 
 use crate::sum::place_of;
@@ -47,11 +47,18 @@ pub fn is_torn(text: &[u8]) -> bool
     text.iter().any(|b| *b == 0)
 }
 
+/// Whether a byte stands in a text that no UTF-8 text has.
+pub fn has_noise(text: &[u8]) -> bool
+    ensures { result ≡ has_noise text.now }
+{
+    text.iter().any(|b| *b > 244)
+}
+
 /// Whether a line can stand in a group.
 pub fn is_line(line: &[u8]) -> bool
     ensures { result ≡ true → IsLine line.now }
 {
-    !has_line_feed(line) && !is_torn(line) && !is_commit(line)
+    !has_line_feed(line) && !is_torn(line) && !is_commit(line) && !has_noise(line)
 }
 
 // Whether a text is a place.

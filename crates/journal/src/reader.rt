@@ -1,12 +1,14 @@
 //! Reads a file block by block.
 ghost use Rattle.std.specs.Prelude.{◌≡◌, ◌≤◌, ◌+◌, ◌++◌, ◌∷◌, [], List, ℕ, length, take, IfOk, IfErr, OnOk, IsErrOf, true, false};
 ghost use Rattle.std.specs.List.{list_any};
-ghost use Rattle.journal.specs.Text.{is_line_feed, is_torn, is_commit, sum_after, journal_text, AreGroups};
+ghost use Rattle.journal.specs.Text.{is_line_feed, is_torn, is_commit, has_noise, sum_after, journal_text, AreGroups};
 ghost use Rattle.journal.specs.Reading.{found};
 
 use crate::JournalError;
 use crate::line_head::{add_head, end_of, sum_part};
-use crate::lines::{cut_line, is_commit, is_commit_of, is_elsewhere, is_overlong, is_torn};
+use crate::lines::{
+    cut_line, has_noise, is_commit, is_commit_of, is_elsewhere, is_overlong, is_torn,
+};
 use crate::sum::{add_to, hasher_of, take_sum};
 use sha2::Sha256;
 use std::alloc::Global;
@@ -64,8 +66,11 @@ impl Reader {
         ensures ok { OnOk result ((first text : List ℕ) → HasRead first text self.old
             → list_any is_line_feed bytes.now ≡ false
             → HasRead first (text ++ bytes.now) self.new) }
-        ensures blind { IsErrOf result JournalError.Damaged → ⊥ }
+        ensures damaged { IsErrOf result JournalError.Damaged → has_noise bytes.now ≡ true }
     {
+        if has_noise(bytes) {
+            return Err(JournalError::Damaged);
+        }
         let Some(at) = end_of(self.at, bytes) else {
             return Err(JournalError::DiskFailed);
         };
@@ -254,6 +259,16 @@ impl Reader {
         }
         self.add(rest)?;
         Ok(())
+    }
+
+    /// Whether the blocks hold a group, whatever follows them.
+    pub fn has_group(&self) -> bool
+        ensures some { result ≡ true → (first text rest : List ℕ) → HasRead first text self.now
+            → (found first (text ++ rest)).groups ≡ [] → ⊥ }
+        ensures none { result ≡ false → (first text : List ℕ) → HasRead first text self.now
+            → (found first text).groups ≡ [] }
+    {
+        self.end > 0
     }
 
     /// What the blocks hold as one file. What follows its groups is no damage where a write that

@@ -1,5 +1,5 @@
 //! What a file holds.
-ghost use Rattle.std.specs.Prelude.{◌≡◌, ◌≤◌, ◌-◌, ◌+◌, ◌++◌, ℕ, List, length, take, drop, replicate, IsTrue, IfOk, IfSome, IsErrOf, OnOk, true, false};
+ghost use Rattle.std.specs.Prelude.{◌≡◌, ◌≤◌, ◌-◌, ◌+◌, ◌++◌, ℕ, List, [], length, take, drop, replicate, IsTrue, IfOk, IfSome, IsErrOf, OnOk, true, false};
 ghost use Rattle.journal.specs.Text.{sum_after, journal_text, AreGroups};
 ghost use Rattle.journal.specs.Reading.{found};
 ghost use Rattle.journal.specs.Reads.{HasRead, ZerosFrom};
@@ -113,4 +113,33 @@ pub fn check<D: Log>(alloc: Global, first: &[u8; 64], log: &mut D) -> Result<Ext
     }
     let sound = reader.end()?;
     Ok(Extent { sound, till })
+}
+
+/// Whether a file has a group. It is read up to the first one, and left as it is: so damage behind
+/// that isn't looked for.
+pub fn has_group<D: Log>(alloc: Global, first: &[u8; 64], log: &mut D) -> Result<bool, JournalError>
+    ensures some { IfOk result (λ has. IsTrue (D.is_clean log.new) → has ≡ true
+        → (found first.now (D.text log.old)).groups ≡ [] → ⊥) }
+    ensures none { IfOk result (λ has. IsTrue (D.is_clean log.new) → has ≡ false
+        → (found first.now (D.text log.old)).groups ≡ []) }
+    ensures damaged { IsErrOf result JournalError.Damaged → IsTrue (D.is_clean log.new)
+        → (found first.now (D.text log.old)).is_damaged ≡ true }
+    ensures clean { IsTrue (D.is_clean log.new) → IsTrue (D.is_clean log.old) }
+    ensures rests { D.rests log.old → D.rests log.new }
+    ensures same { D.text log.new ≡ D.text log.old }
+    ensures crash { (c : List ℕ) → D.may_leave log.new c → D.may_leave log.old c }
+{
+    let end = log.size()?;
+    let mut reader = Reader::new(alloc, first);
+    let mut block: Vec<u8> = Vec::new(alloc);
+    let mut at = 0usize;
+    'looking: while at < end {
+        let count = (end - at).min(BLOCK);
+        read_block(log, &mut reader, at, count, &mut block)?;
+        at += count;
+        if reader.has_group() {
+            return Ok(true);
+        }
+    }
+    Ok(reader.has_group())
 }

@@ -6,7 +6,7 @@ use Rattle.std.specs.Io.KnownBytes.{Appends, Consumes, Keeps}
 use Rattle.journal.specs.Text.{lines_text, AreLines}
 use Rattle.journal.specs.Reading.{found, sound}
 use Rattle.journal.specs.Groups.{HasGroups, added}
-use Rattle.journal.proofs.Groups.{what_is_written_is_read}
+use Rattle.journal.proofs.Noise.{what_is_written_is_read}
 use Rattle.journal.proofs.TextLines.{HasNoFeed, lines_text-append}
 use Rattle.kept_run.specs.Reads.{longer_line, heard, heard_whole, IsPiece, Reads}
 use Rattle.kept_run.specs.Runs.{Entry, asked, replies, accepted, Trace, lines_of, KeepsLine, Rests, Pauses}

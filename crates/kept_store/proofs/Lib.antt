@@ -1,5 +1,4 @@
 mod PassedOn
-mod Moves
 mod Unasked
 mod Stepping
 mod Replayed

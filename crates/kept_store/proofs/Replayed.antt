@@ -12,7 +12,8 @@ use Rattle.journal.proofs.TextLines.{HasNoFeed, whole_lines-text, whole_lines-li
 use Rattle.journal.proofs.Groups.{lines_are_whole}
 use Rattle.store_front.specs.NextNumber.{raised}
 use Rattle.kept_store.specs.Numbers.{number_in}
-use Rattle.kept_store.specs.Replays.{after_line, after_kept_line, store_after, requests_among, requests_in, LineSteps}
+use Rattle.scripts.specs.Changes.{after_line}
+use Rattle.kept_store.specs.Replays.{after_kept_line, store_after, requests_among, requests_in, LineSteps}
 use Rattle.kept_run.specs.Runs.{Entry, accepted, Trace, lines_of}
 
 pub store_after-append : (state : State) (lines more : List (List ℕ))

@@ -1,55 +1,36 @@
 -- A line that was answered is a step.
-use Rattle.std.proofs.Common.{◌≡◌, ◌∙◌, ap, sym, refl, ℕ, ◌<◌, ◌==◌, List, [], ◌∷◌, ◌++◌, length, Bool, true, false, Option, Some, None}
-use Rattle.std.proofs.lemmas.Bool.{false≢true, cases_Bool}
-use Rattle.std.specs.Prelude.{not}
-use Rattle.std.specs.Box.{box_value}
+use Rattle.std.proofs.Common.{◌≡◌, ap, sym, refl, ℕ, ◌<◌, ◌==◌, List, [], ◌∷◌, ◌++◌, length, Bool, true, false, Option, Some, None}
+use Rattle.std.proofs.lemmas.Bool.{false≢true}
 use Rattle.meta_types.specs.Rows.{State}
-use Rattle.meta_types.specs.Steps.{refused, reported}
+use Rattle.meta_types.specs.Steps.{refused}
 use Rattle.meta_types.specs.declared.fault.Fault.TheVariants.{OutOfMemory, TooLong}
 use Rattle.reply_line.specs.Replies.{answer_text}
 use Rattle.meta_types.specs.Questions.{of_event}
+use Rattle.scripts.specs.Changes.{Changes}
 use Rattle.scripts.specs.LineSteps.{Supplied, out_of_memory, line_step, IsTrueAt}
-use Rattle.scripts.specs.SaidLines.{said_bytes, reply_bytes}
-use Rattle.scripts.specs.DryRuns.{is_dry_run}
-use Rattle.scripts.specs.declared.said.Said.{Said}
-use Rattle.scripts.specs.declared.said.Said.TheVariants.{Text, Report}
+use Rattle.scripts.specs.ReplyTexts.{reply_bytes}
+use Rattle.scripts.specs.declared.reply_text.ReplyText.{ReplyText}
 use Rattle.scripts.proofs.LineAnswers.{line_step-answer, line_step-empty, line_step-long, true_at_empty, true_at_long, true_at_memory}
-use Rattle.kept_store.specs.Replays.{after_line, shows_change, is_logged, LineSteps}
-use Rattle.kept_store.proofs.Moves.{line_moves, line_unanswered, report_shows}
+use Rattle.kept_store.specs.Replays.{LineSteps}
 use Rattle.kept_store.proofs.Unasked.{raises_none}
 
-abbrev IsReply : State → List ℕ → Option Said → State → Type 0
+abbrev IsReply : State → List ℕ → Option ReplyText → State → Type 0
 IsReply state line reply new = (supplied : Option Supplied)
     × (line_step state supplied line ≡ (reply_bytes reply, new)) × IsTrueAt state supplied line
 
-pub answered_steps : (state new : State) (line : List ℕ) (reply : Option Said)
-    → IsReply state line reply new → (is_dry_run reply ≡ true → new ≡ state)
-    → LineSteps state line (reply_bytes reply) (is_logged reply) new
-answered_steps state new line None step dry = (
+pub answered_steps : (state new : State) (line : List ℕ) (reply : Option ReplyText) (changes : Bool)
+    → IsReply state line reply new → Changes state line changes new
+    → LineSteps state line (reply_bytes reply) changes new
+answered_steps state new line reply true step moved = (
+  step,
+  (λ log. (raises_none line moved.1, moved.0)),
+  λ none. absurd (false≢true (sym none)),
+)
+answered_steps state new line reply false step still = (
   step,
   (λ log. absurd (false≢true log)),
-  λ none. line_unanswered state new step.0 line step.1,
+  λ none. still,
 )
-answered_steps state new line (Some (Text text)) step dry =
-    let moves = line_moves state new step.0 line (said_bytes (Text text)) step.1 in (
-      step,
-      (λ log. (raises_none state new step.0 line (said_bytes (Text text)) step.1 log, moves.0 log)),
-      λ none. moves.1 none,
-    )
-answered_steps state new line (Some (Report report)) step dry =
-    let moves = line_moves state new step.0 line (said_bytes (Report report)) step.1 in
-    let shows = report_shows (box_value report) in (
-      step,
-      (λ log. (
-        raises_none state new step.0 line (said_bytes (Report report)) step.1 shows,
-        moves.0 shows,
-      )),
-      λ none. dry (not_false (box_value report).dry none),
-    )
-  where
-    not_false : (b : Bool) → not b ≡ false → b ≡ true
-    not_false true e = refl
-    not_false false e = absurd (false≢true (sym e))
 
 -- so is one that is too long
 pub long_steps : (state : State) (line : List ℕ) → 65536 < length line

@@ -1,27 +1,17 @@
 -- What holds of journals and stores. Each statement is the contract of a function of the module
 -- `laws`.
-use Rattle.std.specs.Prelude.{◌≡◌, ℕ, List, ◌++◌, codes, Bool, true, false, Option, None}
+use Rattle.std.specs.Prelude.{◌≡◌, ℕ, List, ◌++◌, codes, Option, None}
 use Rattle.meta_types.specs.Rows.{State}
 use Rattle.journal.specs.Text.{AreGroups, journal_text}
-use Rattle.request_line.specs.Lines.{asked_in}
+use Rattle.request_line.specs.Lines.{command_in}
 use Rattle.kept_run.specs.Runs.{Entry, accepted, Trace, lines_of, Pauses}
-use Rattle.scripts.specs.LineSteps.{Supplied, line_step}
-use Rattle.scripts.specs.Lines.{with_line_feed}
-use Rattle.kept_store.specs.Replays.{after_line, store_after, shows_change, requests_in, LineSteps}
+use Rattle.kept_store.specs.Replays.{store_after, requests_in, LineSteps}
 use Rattle.kept_store.specs.Restarts.{FindsAgain}
 
 -- The lines of a journal's text are those of its groups.
 abbrev pub JournalsReplay : Type 0
 JournalsReplay = (first : List ℕ) (groups : List (List (List ℕ))) → AreGroups groups
     → requests_in (journal_text first groups) ≡ lines_of groups
-
--- Where the text of a reply shows a change, the store is the one that the line leaves where
--- nothing is missing; else it is as before.
-abbrev pub RepliesShowChanges : Type 0
-RepliesShowChanges = (state new : State) (supplied : Option Supplied) (line text : List ℕ)
-    → line_step state supplied line ≡ (with_line_feed text, new)
-    → (shows_change text ≡ true → new ≡ after_line state line)
-    × (shows_change text ≡ false → new ≡ state)
 
 -- The store after a run is the one after its logged lines.
 abbrev pub RunsReplay : Type 0
@@ -30,7 +20,7 @@ RunsReplay = (from to : State) (entries : List Entry) → Trace LineSteps from e
 
 -- A line that begins by "number " asks for nothing, so each run refuses it.
 abbrev pub NumbersAskNothing : Type 0
-NumbersAskNothing = (rest : List ℕ) → asked_in (codes "number " ++ rest) ≡ None
+NumbersAskNothing = (rest : List ℕ) → command_in (codes "number " ++ rest) ≡ None
 
 -- Of a call that stopped, and of one that goes on from there, over whatever journal: what a next
 -- start finds of the second, it finds of both as of one call.

@@ -1,12 +1,7 @@
 //! What holds of journals and stores.
-ghost use Rattle.kept_store.specs.Laws.{JournalsReplay, RepliesShowChanges, RestartsJoin, RunsReplay, NumbersAskNothing};
+ghost use Rattle.kept_store.specs.Laws.{JournalsReplay, RestartsJoin, RunsReplay, NumbersAskNothing};
 
 use journal::Log;
-
-/// A reply's text tells whether its line changed the store.
-pub fn replies_show_changes()
-    ensures moves { RepliesShowChanges }
-{}
 
 /// A journal's lines are those of its groups, so a replay of one is a replay of the other.
 pub fn journals_replay()

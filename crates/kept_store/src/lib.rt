@@ -6,7 +6,6 @@ mod due;
 mod error;
 mod grouping;
 pub mod laws;
-mod logging;
 mod numbers;
 mod opening;
 mod replaying;

@@ -1,27 +1,41 @@
 //! Does the lines of a journal again.
 ghost use Rattle.std.specs.Prelude.{◌≡◌, ◌≤◌, ◌<◌, ◌+◌, ◌-◌, ◌++◌, ◌∷◌, ℕ, [], List, length, take, drop, IsTrue, IfOk, OnOk};
 ghost use Rattle.journal.specs.Reading.{whole_lines};
+ghost use Rattle.scripts.specs.Changes.{is_report};
 ghost use Rattle.kept_store.specs.Replays.{after_kept_line, store_after, requests_among, requests_in};
 
 use crate::StartError;
 use crate::error::start_error;
-use crate::logging::is_logged;
 use crate::numbers::number_in;
 use crate::store::{KeptStore, LINE_LIMIT};
 use journal::{Log, cut_line, is_commit, read_lines};
 use meta_types::Fault;
 use reply_line::refusal_text;
-use scripts::Said;
+use scripts::ReplyText;
 use std::alloc::Global;
 use std::sync::Wait;
 use std::sync::ledger::Ledger;
 use std::thread::Threads;
 
 // Whether a reply refuses its line for memory.
-fn is_for_memory(reply: &Option<Said>) -> bool {
+fn is_for_memory(reply: &Option<ReplyText>) -> bool {
     match reply {
-        Some(Said::Text(text)) => text.as_str() == refusal_text(Fault::OutOfMemory),
+        Some(ReplyText::Text(text)) => text.as_str() == refusal_text(Fault::OutOfMemory),
         _ => false,
+    }
+}
+
+// Whether a reply is a report. A collection that names nothing was logged by metad up to format 1, and
+// leaves the store as it did then.
+fn is_report(reply: &Option<ReplyText>) -> bool
+    ensures { result ≡ is_report reply.now }
+{
+    match reply {
+        None => false,
+        Some(ReplyText::Text(_)) => false,
+        Some(ReplyText::Rows(_)) => false,
+        Some(ReplyText::Objects(_)) => false,
+        Some(ReplyText::Report(_)) => true,
     }
 }
 
@@ -41,13 +55,16 @@ fn redo<L: Ledger, T: Threads + Wait + Sync>(
     if line.len() > LINE_LIMIT {
         return Err(StartError::Refused);
     }
-    let Ok(reply) = store.reply(rt, line) else {
+    let Ok(answered) = store.reply(rt, line) else {
         return Err(StartError::OutOfMemory);
     };
-    if is_logged(&reply) {
+    if answered.changes {
         return Ok(());
     }
-    if is_for_memory(&reply) {
+    if is_report(&answered.reply) {
+        return Ok(());
+    }
+    if is_for_memory(&answered.reply) {
         return Err(StartError::OutOfMemory);
     }
     Err(StartError::Refused)

@@ -4,15 +4,16 @@ ghost use Rattle.meta_types.specs.Faults.{Refuses};
 ghost use Rattle.meta_types.specs.Steps.{reported};
 ghost use Rattle.reply_line.specs.Replies.{answer_text};
 ghost use Rattle.meta_types.specs.Rows.{State};
+ghost use Rattle.meta_types.specs.Shown.{shows_rows};
+ghost use Rattle.reply_line.specs.Shown.{shows_text, objects_text};
 ghost use Rattle.scripts.specs.Lines.{with_line_feed};
-ghost use Rattle.scripts.specs.SaidLines.{said_bytes, reply_bytes};
-ghost use Rattle.kept_store.specs.Replays.{is_logged, LineSteps};
+ghost use Rattle.scripts.specs.ReplyTexts.{reply_text_bytes, reply_bytes};
+ghost use Rattle.kept_store.specs.Replays.{LineSteps};
 
-use crate::logging::is_logged;
-use gc_report::Report;
-use meta_types::Fault;
-use reply_line::{refusal_text, write_report};
-use scripts::Said;
+use gc_report::{Objects, Report};
+use meta_types::{Fault, ShownRow};
+use reply_line::{refusal_text, write_objects, write_report, write_rows};
+use scripts::ReplyText;
 use std::alloc::Global;
 
 /// At least the bytes of each reply that has one text: {"ok":true}, and each refusal.
@@ -45,15 +46,56 @@ fn put_report(
     }
 }
 
-// Puts what is said there.
-fn put_said(out: &mut Vec<u8>, alloc: Global, block: &mut Vec<u8>, said: &Said) -> Result<(), Fault>
+// Puts the rows of a listing and a line feed there.
+fn put_rows(
+    out: &mut Vec<u8>,
+    alloc: Global,
+    block: &mut Vec<u8>,
+    rows: &[ShownRow],
+) -> Result<(), Fault>
+    ensures fault { Refuses result None }
+    ensures ok { OnOk result (out.new.items
+        ≡ out.old.items ++ (shows_text (shows_rows rows.now) ++ 10 ∷ [])) }
+{
+    match write_rows(out, alloc, block, rows) {
+        Ok(()) => Ok(()),
+        Err(_) => Err(Fault::OutOfMemory),
+    }
+}
+
+// Puts all objects of the backend and a line feed there.
+fn put_objects(
+    out: &mut Vec<u8>,
+    alloc: Global,
+    block: &mut Vec<u8>,
+    objects: &Objects,
+) -> Result<(), Fault>
     ensures fault { Refuses result None }
     ensures ok { OnOk result
-        (out.new.items ≡ out.old.items ++ with_line_feed (said_bytes said.now)) }
+        (out.new.items ≡ out.old.items ++ (objects_text objects.now ++ 10 ∷ [])) }
+{
+    match write_objects(out, alloc, block, objects) {
+        Ok(()) => Ok(()),
+        Err(_) => Err(Fault::OutOfMemory),
+    }
+}
+
+// Puts what is said there.
+fn put_said(
+    out: &mut Vec<u8>,
+    alloc: Global,
+    block: &mut Vec<u8>,
+    said: &ReplyText,
+) -> Result<(), Fault>
+    ensures fault { Refuses result None }
+    ensures ok { OnOk result
+        (out.new.items ≡ out.old.items ++ with_line_feed (reply_text_bytes said.now)) }
 {
     match said {
-        Said::Text(text) => put_line(out, text.as_str().as_bytes()),
-        Said::Report(report) => put_report(out, alloc, block, report.as_ref()),
+        ReplyText::Text(text) => put_line(out, text.as_str().as_bytes()),
+        ReplyText::Report(report) => put_report(out, alloc, block, report.as_ref()),
+        ReplyText::Rows(rows) => put_rows(out, alloc, block, rows),
+        ReplyText::Objects(objects) => put_objects(out, alloc, block, objects.as_ref()),
     }
 }
 
@@ -62,7 +104,7 @@ pub(crate) fn put_reply(
     out: &mut Vec<u8>,
     alloc: Global,
     block: &mut Vec<u8>,
-    reply: &Option<Said>,
+    reply: &Option<ReplyText>,
 ) -> Result<(), Fault>
     ensures fault { Refuses result None }
     ensures ok { OnOk result (out.new.items ≡ out.old.items ++ reply_bytes reply.now) }
@@ -83,21 +125,21 @@ pub(crate) fn take_room(out: &mut Vec<u8>) -> Result<(), Fault>
 }
 
 // Takes room for a reply that is a text. A report takes its own while it is written.
-fn text_room(out: &mut Vec<u8>, reply: &Option<Said>) -> bool
+fn text_room(out: &mut Vec<u8>, reply: &Option<ReplyText>) -> bool
     ensures { out.new.items ≡ out.old.items }
 {
     match reply {
-        Some(Said::Text(text)) => out.reserve(text.as_str().len().saturating_add(1)).is_ok(),
+        Some(ReplyText::Text(text)) => out.reserve(text.as_str().len().saturating_add(1)).is_ok(),
         _ => true,
     }
 }
 
-/// Takes room for a reply whose line isn't logged. Any other line is done, so none is asked for.
-pub(crate) fn has_room(out: &mut Vec<u8>, reply: &Option<Said>) -> bool
+/// Takes room for a reply whose line changed nothing. Any other line is done, so none is asked for.
+pub(crate) fn has_room(out: &mut Vec<u8>, reply: &Option<ReplyText>, changes: bool) -> bool
     ensures same { out.new.items ≡ out.old.items }
-    ensures logged { result ≡ false → is_logged reply.now ≡ false }
+    ensures done { result ≡ false → changes ≡ false }
 {
-    if is_logged(reply) {
+    if changes {
         return true;
     }
     text_room(out, reply)

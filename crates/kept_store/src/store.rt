@@ -2,21 +2,20 @@
 ghost use Rattle.std.specs.Prelude.{◌≡◌, ◌≤◌, ◌++◌, ℕ, List, length, true, IfOk, OnOk, Option, None};
 ghost use Rattle.meta_types.specs.Faults.{Refuses};
 ghost use Rattle.meta_types.specs.Rows.{empty_store};
-ghost use Rattle.scripts.specs.DryRuns.{is_dry_run};
+ghost use Rattle.scripts.specs.Changes.{is_report, after_line, Changes};
 ghost use Rattle.scripts.specs.LineSteps.{Supplied, line_step, IsTrueAt};
-ghost use Rattle.scripts.specs.SaidLines.{reply_bytes};
+ghost use Rattle.scripts.specs.ReplyTexts.{reply_bytes};
 ghost use Rattle.store_front.specs.NextNumber.{raised};
-ghost use Rattle.kept_store.specs.Replays.{is_logged, LineSteps};
+ghost use Rattle.kept_store.specs.Replays.{LineSteps};
 
 use crate::due::is_due;
-use crate::logging::is_logged;
 use crate::replies::{has_room, put_line, put_refusal, put_reply, take_room};
 use back_model::{MemBackend, MemBlobs, MemIngests};
 use kept_run::Service;
 use meta_types::{Fault, Workers};
-use reply_line::{BLOCK_ROOM, refusal_text};
+use reply_line::refusal_text;
 use request_core::State;
-use scripts::{Fresh, LineMemory, Said, answer_line};
+use scripts::{Answered, Fresh, LineMemory, ReplyText, execute_line};
 use std::alloc::{AllocError, Global};
 use std::marker::Model;
 use std::sync::Wait;
@@ -28,9 +27,8 @@ use table_seed::Seed;
 /// The longest line that can be a request, in bytes without its line feed.
 pub(crate) const LINE_LIMIT: usize = 65536;
 
-/// A store in memory with its one session, and how many workers collect. The block has room for the
-/// text of a report while it is written. A run is due by the size of the last checkpoint. Its tables
-/// hash by the seed.
+/// A store in memory with its one session, and how many workers collect. A run is due by the size of
+/// the last checkpoint. Its tables hash by the seed.
 #[derive(Drop)]
 pub struct KeptStore<L: Ledger> {
     alloc: Global,
@@ -38,7 +36,6 @@ pub struct KeptStore<L: Ledger> {
     session: Session<L>,
     workers: Workers,
     memory: LineMemory,
-    block: Vec<u8>,
     checkpoint: Option<usize>,
     pub(crate) seed: Seed,
 }
@@ -62,7 +59,6 @@ impl<L: Ledger> KeptStore<L> {
         ensures fault { Refuses result None }
         ensures ok { IfOk result (λ store. store ≡ empty_store) }
     {
-        let block = Vec::with_capacity(alloc, BLOCK_ROOM)?;
         let memory = LineMemory::open(alloc)?;
         let Fresh { blank, seed } = fresh;
         let mut locked = Locked::open_without_history(alloc, blank, State::empty_with(alloc, seed));
@@ -75,7 +71,6 @@ impl<L: Ledger> KeptStore<L> {
             session,
             workers: Workers::ONE,
             memory,
-            block,
             checkpoint: None,
             seed,
         })
@@ -110,16 +105,19 @@ impl<L: Ledger> KeptStore<L> {
         self.locked.state()
     }
 
-    // The reply to a line that isn't too long, as `answer_line` gives it.
-    fn said<T: Threads + Wait + Sync>(&mut self, rt: &T, line: &[u8]) -> Result<Option<Said>, Fault>
+    // The answer to a line that isn't too long, as `execute_line` gives it.
+    fn execute<T: Threads + Wait + Sync>(&mut self, rt: &T, line: &[u8]) -> Result<Answered, Fault>
         requires { length line.now ≤ 65536 }
         ensures fault { Refuses result None }
-        ensures ok { IfOk result (λ reply. (supplied : Option Supplied)
-            × (line_step self.old supplied line.now ≡ (reply_bytes reply, self.new))
+        ensures ok { IfOk result (λ answered. (supplied : Option Supplied)
+            × (line_step self.old supplied line.now ≡ (reply_bytes answered.reply, self.new))
             × IsTrueAt self.old supplied line.now) }
-        ensures dry { IfOk result (λ reply. is_dry_run reply ≡ true → self.new ≡ self.old) }
+        ensures changes { IfOk result (λ answered.
+            Changes self.old line.now answered.changes self.new) }
+        ensures report { IfOk result (λ answered. is_report answered.reply ≡ true
+            → self.new ≡ after_line self.old line.now) }
     {
-        answer_line(
+        execute_line(
             &mut self.locked,
             rt,
             self.alloc,
@@ -130,31 +128,34 @@ impl<L: Ledger> KeptStore<L> {
         )
     }
 
-    /// The reply to a line that isn't too long.
+    /// The answer to a line that isn't too long. The line is logged where it may have changed the
+    /// store.
     pub(crate) fn reply<T: Threads + Wait + Sync>(
         &mut self,
         rt: &T,
         line: &[u8],
-    ) -> Result<Option<Said>, Fault>
+    ) -> Result<Answered, Fault>
         requires { length line.now ≤ 65536 }
         ensures fault { Refuses result None }
-        ensures ok { IfOk result (λ reply.
-            LineSteps self.old line.now (reply_bytes reply) (is_logged reply) self.new) }
+        ensures ok { IfOk result (λ answered.
+            LineSteps self.old line.now (reply_bytes answered.reply) answered.changes self.new) }
+        ensures report { IfOk result (λ answered. is_report answered.reply ≡ true
+            → self.new ≡ after_line self.old line.now) }
     {
-        let said = self.said(rt, line)?;
-        Ok(said)
+        let answered = self.execute(rt, line)?;
+        Ok(answered)
     }
 
     // Puts a reply behind what waits.
-    fn put(&mut self, out: &mut Vec<u8>, reply: &Option<Said>) -> Result<(), Fault>
+    fn put(&mut self, out: &mut Vec<u8>, reply: &Option<ReplyText>) -> Result<(), Fault>
         ensures same { self.new ≡ self.old }
         ensures fault { Refuses result None }
         ensures ok { OnOk result (out.new.items ≡ out.old.items ++ reply_bytes reply.now) }
     {
-        put_reply(out, self.alloc, &mut self.block, reply)
+        put_reply(out, self.alloc, &mut self.memory.block, reply)
     }
 
-    /// Answers a line: puts the reply behind what waits, and answers whether the line is to be
+    /// Answers a line: puts the reply behind what waits, and returns whether the line is to be
     /// logged. No line is done while there is no room for a short reply. A line that changes nothing
     /// is refused where there is no room for its text.
     pub(crate) fn take<T: Threads + Wait + Sync>(
@@ -164,8 +165,8 @@ impl<L: Ledger> KeptStore<L> {
         out: &mut Vec<u8>,
     ) -> Result<bool, Fault>
         ensures fault { Refuses result None }
-        ensures ok { IfOk result (λ is_logged. (reply : List ℕ)
-            × LineSteps self.old line.now reply is_logged self.new
+        ensures ok { IfOk result (λ changes. (reply : List ℕ)
+            × LineSteps self.old line.now reply changes self.new
             × (out.new.items ≡ out.old.items ++ reply)) }
     {
         take_room(out)?;
@@ -173,10 +174,10 @@ impl<L: Ledger> KeptStore<L> {
             put_line(out, refusal_text(Fault::TooLong).as_bytes())?;
             return Ok(false);
         }
-        let reply = self.reply(rt, line)?;
-        if has_room(out, &reply) {
-            self.put(out, &reply)?;
-            return Ok(is_logged(&reply));
+        let answered = self.reply(rt, line)?;
+        if has_room(out, &answered.reply, answered.changes) {
+            self.put(out, &answered.reply)?;
+            return Ok(answered.changes);
         }
         put_refusal(out, line)?;
         Ok(false)
@@ -194,10 +195,10 @@ impl<L: Ledger> Service for KeptStore<L> {
         line: &[u8],
         out: &mut Vec<u8>,
     ) -> Result<bool, AllocError> {
-        let Ok(is_logged) = self.take(rt, line, out) else {
+        let Ok(changes) = self.take(rt, line, out) else {
             return Err(AllocError);
         };
-        Ok(is_logged)
+        Ok(changes)
     }
 
     fn refuse(&mut self, line: &[u8], out: &mut Vec<u8>) -> Result<(), AllocError> {

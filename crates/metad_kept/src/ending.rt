@@ -1,17 +1,32 @@
 //! How a service ends that can't start, or ends early.
 
 use crate::finding::find;
-use crate::telling::{fault_of, tell, tell_at, tell_damage, tell_format, tell_found, tell_head};
+use crate::names::Names;
+use crate::plain_file::has_bytes;
+use crate::telling::{
+    fault_of, tell, tell_at, tell_damage, tell_format, tell_found, tell_head, tell_missing,
+    tell_no_store,
+};
 use journal::{JournalError, Log};
 use kept_run::RunError;
 use kept_store::StartError;
 use meta_types::Fault;
 use sqlite_std_file::OpenError;
-use std::io;
+use std::os::unix::fs::MetadataExt;
 use std::process::ExitCode;
+use std::{fs, io};
+
+// Whether a file is refused: it is a link or another thing, or has a second name.
+fn is_refused(rt: &HostRuntime, path: &str) -> bool {
+    match fs::symlink_metadata(rt, path) {
+        Ok(data) => !data.is_file() || data.nlink() != 1,
+        Err(_) => false,
+    }
+}
 
 /// How a start ends whose file can't be opened.
-pub fn not_opened(rt: &HostRuntime, path: &str, error: OpenError) -> ExitCode {
+pub fn not_opened(rt: &HostRuntime, names: Names<'_>, error: OpenError) -> ExitCode {
+    let path = names.first;
     match error {
         OpenError::Busy => {
             let _told = eprintln!(rt; "metad: {path} is in use by another program");
@@ -20,6 +35,11 @@ pub fn not_opened(rt: &HostRuntime, path: &str, error: OpenError) -> ExitCode {
         OpenError::OutOfMemory => tell(rt, Fault::OutOfMemory),
         OpenError::Io(error) if error.kind() == io::ErrorKind::OutOfMemory => {
             tell(rt, Fault::OutOfMemory)
+        }
+        OpenError::Io(error) if error.kind() == io::ErrorKind::Unsupported => {
+            let path = names.of(is_refused(rt, names.second));
+            let _told = eprintln!(rt; "metad: {path}: it is no file, a link, or has two names");
+            tell(rt, Fault::WriteFailed)
         }
         OpenError::Io(error) => {
             let _told = eprintln!(rt; "metad: {path}: {error}");
@@ -30,6 +50,15 @@ pub fn not_opened(rt: &HostRuntime, path: &str, error: OpenError) -> ExitCode {
             tell(rt, Fault::ReadFailed)
         }
     }
+}
+
+/// How a start ends whose first file isn't there: there is no store, or the second file is left of
+/// one.
+pub fn not_there(rt: &HostRuntime, names: Names<'_>) -> ExitCode {
+    if has_bytes(rt, names.second) {
+        return tell_missing(rt, names.first);
+    }
+    tell_no_store(rt, names.folder)
 }
 
 /// How a start ends whose file's head can't be read.

@@ -3,9 +3,8 @@ ghost use Rattle.std.specs.Prelude.{◌≡◌};
 
 use crate::names::{Names, OwnNames};
 use crate::telling_file::TellingFile;
-use journal::Journal;
+use journal::{Active, Journal, JournalFile};
 use sqlite_disk::Disk;
-use zero_file::{This, ZeroFile};
 
 /// The disk of the file that doesn't count.
 #[derive(Drop)]
@@ -27,7 +26,7 @@ impl<D: Disk + Drop> Spare<D> {
 }
 
 /// The journal of the file that counts.
-pub type Counting<D> = Journal<TellingFile<ZeroFile<D, This>>>;
+pub type Counting<D> = Journal<TellingFile<JournalFile<D, Active>>>;
 
 /// The journal of the file that counts, and the other file.
 #[derive(Drop)]
@@ -43,8 +42,8 @@ pub fn telling<D: Disk + Drop>(
     rt: &HostRuntime,
     names: OwnNames,
     is_second: bool,
-    log: ZeroFile<D, This>,
-) -> TellingFile<ZeroFile<D, This>>
+    log: JournalFile<D, Active>,
+) -> TellingFile<JournalFile<D, Active>>
     ensures { result.log ≡ log }
 {
     TellingFile {

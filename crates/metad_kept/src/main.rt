@@ -1,7 +1,6 @@
 //! The program: a store whose journal stands in a folder.
 #![tactic(auto)]
 
-mod choosing;
 mod ending;
 mod files;
 mod finding;
@@ -12,6 +11,7 @@ mod renewing;
 mod running;
 mod scripting;
 mod serving;
+mod starting;
 mod telling;
 mod telling_file;
 mod words;
@@ -19,8 +19,9 @@ mod words;
 use crate::names::{Names, first_name, second_name};
 use crate::reading::{check, script};
 use crate::serving::serve;
+use crate::starting::making::make;
 use crate::telling::tell;
-use crate::words::{Asked, Words, read_words};
+use crate::words::{Command, Words, read_words};
 use meta_types::Fault;
 use sqlite_std_file::Unknown;
 use std::env;
@@ -29,18 +30,20 @@ use std::process::ExitCode;
 use std::sync::Wait;
 use std::thread::Threads;
 
+// The words of a run.
+const SERVING: &str = "metad serve --dir DIR [--new] [--workers 1..16] [--checkpoint]";
+
 // How a program ends whose words ask for nothing.
 fn usage(rt: &HostRuntime) -> ExitCode {
-    let serving = "metad serve --dir DIR [--workers 1..16] [--checkpoint]";
-    let _told = eprintln!(rt; "usage: {serving} | check --dir DIR | script --dir DIR");
+    let others = "new --dir DIR | check --dir DIR | script --dir DIR";
+    let _told = eprintln!(rt; "usage: {SERVING} | {others}");
     ExitCode::from(2)
 }
 
 // What the words are.
 fn help(rt: &HostRuntime) -> ExitCode {
-    let serving = "metad serve --dir DIR [--workers 1..16] [--checkpoint]";
-    let others = "metad check --dir DIR\nmetad script --dir DIR";
-    if println!(rt; "{serving}\n{others}").is_err() {
+    let others = "metad new --dir DIR\nmetad check --dir DIR\nmetad script --dir DIR";
+    if println!(rt; "{SERVING}\n{others}").is_err() {
         return tell(rt, Fault::WriteFailed);
     }
     ExitCode::SUCCESS
@@ -55,13 +58,15 @@ fn answer<T: Threads + Wait + Sync>(rt: &HostRuntime, threads: &T, words: Words<
         return tell(rt, Fault::OutOfMemory);
     };
     let names = Names {
+        folder: words.dir,
         first: first.as_str(),
         second: second.as_str(),
     };
     match words.asked {
-        Asked::Serve(serving) => serve(rt, threads, names, Unknown, serving),
-        Asked::Check => check(rt, names),
-        Asked::Script => script(rt, names),
+        Command::Serve(serving) => serve(rt, threads, names, Unknown, serving),
+        Command::Check => check(rt, names),
+        Command::Script => script(rt, names),
+        Command::New => make(rt, names, Unknown),
     }
 }
 

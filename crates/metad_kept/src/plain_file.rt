@@ -1,11 +1,10 @@
 //! A journal's file that is only read, without its lock. No clause says what such a file gives.
 ghost use Rattle.std.specs.Prelude.{◌≡◌, ◌≤◌, [], length, false, OnOk};
 
-use journal::{JournalError, Log};
+use journal::{HEAD, JournalError, Log, STEP, is_blank, read_head};
 use std::alloc::{AllocError, Global};
 use std::fs;
 use std::os::unix::fs::FileExt;
-use zero_file::{HEAD, STEP, is_blank, read_head};
 
 /// Why a file can't be read.
 #[derive(Clone, Copy, Debug, PartialEq, Eq)]
@@ -18,6 +17,8 @@ pub enum PlainError {
     Damaged,
     /// It is missing or empty, and the other file isn't.
     Missing,
+    /// No head was ever whole in it.
+    NoHead,
 }
 
 /// A file as it is while it is read, be it that a program writes to it.
@@ -31,7 +32,7 @@ pub struct PlainFile {
 
 // What a head says: how many steps of its file are believed, and whether the other file counts.
 #[derive(Clone, Copy)]
-struct Said {
+struct HeadFields {
     steps: usize,
     names_other: bool,
 }
@@ -89,30 +90,28 @@ fn steps_of(file: &fs::File, head: &[u8]) -> Result<usize, PlainError>
     }
 }
 
-// Whether two of the three bytes of a choice are there at least (docs/JOURNAL.md, "The choice").
+// Whether two of the three bytes of a selector are there at least (docs/JOURNAL.md, "The
+// selector").
 fn names_other(head: &[u8]) -> bool {
-    let Some(choice) = head.get(4_091..4_094) else {
+    let Some(selector) = head.get(4_091..4_094) else {
         return false;
     };
-    choice.iter().filter(|byte| **byte == b'+').count() >= 2
+    selector.iter().filter(|byte| **byte == b'+').count() >= 2
 }
 
-// What the head of a file says. One that never had a whole head says nothing.
-fn read_said(alloc: Global, file: &fs::File) -> Result<Said, PlainError> {
+// What the head of a file says.
+fn read_fields(alloc: Global, file: &fs::File) -> Result<HeadFields, PlainError> {
     let count = size_of(file)?.min(HEAD);
     let mut head: Vec<u8> = Vec::new(alloc);
     read_front(file, &mut head, count)?;
     match steps_of(file, &head) {
-        Ok(steps) => Ok(Said {
+        Ok(steps) => Ok(HeadFields {
             steps,
             names_other: names_other(&head),
         }),
         Err(error) => {
             if is_blank(&head) && is_new(alloc, file)? {
-                return Ok(Said {
-                    steps: 0,
-                    names_other: false,
-                });
+                return Err(PlainError::NoHead);
             }
             Err(error)
         }
@@ -133,12 +132,12 @@ impl PlainFile {
         let Ok(file) = fs::open(rt, path) else {
             return Err(PlainError::ReadFailed);
         };
-        let said = read_said(rt.alloc(), &file)?;
-        let size = said.steps.saturating_mul(STEP);
+        let fields = read_fields(rt.alloc(), &file)?;
+        let size = fields.steps.saturating_mul(STEP);
         Ok(PlainFile {
             file,
             size,
-            names_other: said.names_other,
+            names_other: fields.names_other,
         })
     }
 }

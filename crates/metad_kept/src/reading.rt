@@ -1,12 +1,12 @@
 //! Reads the file that counts, without its lock, be it that a program writes meanwhile.
 
 use crate::finding::{Finding, find};
-use crate::names::{Names, second_place};
+use crate::names::{Names, is_missing, second_place};
 use crate::plain_file::{PlainError, PlainFile, has_bytes};
 use crate::scripting::{ScriptError, write_script};
 use crate::telling::{
     fault_of, print_found, tell, tell_at, tell_damage, tell_format, tell_head, tell_missing,
-    tell_renewed,
+    tell_no_store, tell_renewed,
 };
 use journal::JournalError;
 use meta_types::Fault;
@@ -50,6 +50,7 @@ fn tell_unread(rt: &HostRuntime, names: Names<'_>, unread: Unread) -> ExitCode {
         Cause::Plain(PlainError::UnknownFormat) => tell_format(rt, path),
         Cause::Plain(PlainError::Damaged) => tell_head(rt, path),
         Cause::Plain(PlainError::Missing) => tell_missing(rt, path),
+        Cause::Plain(PlainError::NoHead) => tell_no_store(rt, names.folder),
         Cause::Journal(error) => tell_at(rt, path, fault_of(error)),
     }
 }
@@ -73,6 +74,22 @@ fn missing(is_second: bool) -> Unread {
     }
 }
 
+// A folder without a store.
+fn no_store() -> Unread {
+    Unread {
+        is_second: false,
+        cause: Cause::Plain(PlainError::NoHead),
+    }
+}
+
+// Whether no head was ever whole in a file.
+fn is_headless(unread: Unread) -> bool {
+    match unread.cause {
+        Cause::Plain(error) => error == PlainError::NoHead,
+        Cause::Journal(_) => false,
+    }
+}
+
 // The file that counts.
 fn open_counting(rt: &HostRuntime, names: Names<'_>) -> Result<Counting, Unread> {
     let Ok(second) = second_place(rt, names.first) else {
@@ -82,17 +99,27 @@ fn open_counting(rt: &HostRuntime, names: Names<'_>) -> Result<Counting, Unread>
         });
     };
     let has_second = has_bytes(rt, second.as_str());
-    if has_second && !has_bytes(rt, names.first) {
+    let has_first = has_bytes(rt, names.first);
+    if has_second && !has_first {
         return Err(missing(false));
     }
-    let first = open(rt, names.first, false)?;
+    if is_missing(rt, names.folder, names.first) {
+        return Err(no_store());
+    }
+    let first = match open(rt, names.first, false) {
+        Err(unread) if has_second && is_headless(unread) => return Err(missing(false)),
+        opened => opened?,
+    };
     if !first.file.names_other {
         return Ok(first);
     }
     if !has_second {
         return Err(missing(true));
     }
-    open(rt, second.as_str(), true)
+    match open(rt, second.as_str(), true) {
+        Err(unread) if is_headless(unread) => Err(missing(true)),
+        opened => opened,
+    }
 }
 
 // Whether it is a second file in which no line stands: a checkpoint has one at least.

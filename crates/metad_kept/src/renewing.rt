@@ -5,7 +5,7 @@ ghost use Rattle.kept_store.specs.Checkpoints.{IsBlank, Makes};
 use crate::files::{Counting, Files, Spare, telling};
 use crate::names::Names;
 use crate::telling_file::TellingFile;
-use journal::{Journal, JournalError, Log};
+use journal::{Active, Journal, JournalError, JournalFile, Log, Selector, Standby, blank, select};
 use kept_run::RunError;
 use kept_store::{CheckpointError, KeptStore, NotTaken, take_checkpoint};
 use sqlite_disk::Disk;
@@ -14,7 +14,6 @@ use std::marker::Brand;
 use std::sync::Wait;
 use std::sync::ledger::{Blank, Ledger};
 use std::thread::Threads;
-use zero_file::{Choice, Other, This, ZeroFile, blank, choose};
 
 // A file has room for 2,037 MiB. So a larger checkpoint counts as one of this size: four times as
 // much has room as well.
@@ -92,17 +91,17 @@ fn take_over<L: Ledger, E: Log + Drop, T: Threads + Wait + Sync>(
     take_checkpoint::<L, Brand, E, T>(threads, alloc, parts, store, log)
 }
 
-// Takes a checkpoint into a file that doesn't count, and that has this choice. It has a line, since
-// a second file without one is told as missing.
-fn write_into<L: Ledger, C: Choice, D: Disk + Drop, T: Threads + Wait + Sync>(
+// Takes a checkpoint into a file that doesn't count, and that has this selector. It has a line,
+// since a second file without one is told as missing.
+fn write_into<L: Ledger, C: Selector, D: Disk + Drop, T: Threads + Wait + Sync>(
     threads: &T,
     alloc: Global,
     store: &KeptStore<L>,
     disk: D,
-) -> Result<Journal<ZeroFile<D, C>>, NotWritten<D>>
+) -> Result<Journal<JournalFile<D, C>>, NotWritten<D>>
     ensures empty { IfOk result (λ journal. journal.pending.items ≡ []) }
 {
-    let mut log = ZeroFile::<D, C>::new(alloc, disk);
+    let mut log = JournalFile::<D, C>::new(alloc, disk);
     match log.open() {
         Ok(()) => {}
         Err(error) => {
@@ -125,8 +124,8 @@ fn write_into<L: Ledger, C: Choice, D: Disk + Drop, T: Threads + Wait + Sync>(
     }
 }
 
-// How a run ends that can't choose a file.
-fn choose_error(error: JournalError) -> RunError {
+// How a run ends that can't select a file.
+fn select_error(error: JournalError) -> RunError {
     match error {
         JournalError::OutOfMemory => RunError::OutOfMemory,
         _ => RunError::JournalFailed,
@@ -134,19 +133,19 @@ fn choose_error(error: JournalError) -> RunError {
 }
 
 // Lets the second file count, which has the checkpoint, in place of the first.
-fn choose_second<D: Disk + Drop>(
+fn select_second<D: Disk + Drop>(
     rt: &HostRuntime,
     first: Counting<D>,
-    second: Journal<ZeroFile<D, This>>,
+    second: Journal<JournalFile<D, Active>>,
 ) -> Result<(Counting<D>, Spare<D>), RunError>
     requires { second.pending.items ≡ [] }
     ensures { IfOk result (λ both. both.0.pending.items ≡ []) }
 {
     let TellingFile { names, log, .. } = first.log;
     let mut disk = log.into_disk();
-    match choose(&mut disk, true) {
+    match select(&mut disk, true) {
         Ok(()) => {}
-        Err(error) => return Err(choose_error(error)),
+        Err(error) => return Err(select_error(error)),
     }
     let last = second.last;
     let journal = Journal {
@@ -159,23 +158,23 @@ fn choose_second<D: Disk + Drop>(
 }
 
 // Lets the first file count, which has the checkpoint, in place of the second.
-fn choose_first<D: Disk + Drop>(
+fn select_first<D: Disk + Drop>(
     rt: &HostRuntime,
-    first: Journal<ZeroFile<D, Other>>,
+    first: Journal<JournalFile<D, Standby>>,
     second: Counting<D>,
 ) -> Result<(Counting<D>, Spare<D>), RunError>
     requires { first.pending.items ≡ [] }
     ensures { IfOk result (λ both. both.0.pending.items ≡ []) }
 {
     let mut disk = first.log.into_disk();
-    match choose(&mut disk, false) {
+    match select(&mut disk, false) {
         Ok(()) => {}
-        Err(error) => return Err(choose_error(error)),
+        Err(error) => return Err(select_error(error)),
     }
-    let mut log = ZeroFile::<D, This>::new(rt.alloc(), disk);
+    let mut log = JournalFile::<D, Active>::new(rt.alloc(), disk);
     match log.open() {
         Ok(()) => {}
-        Err(error) => return Err(choose_error(error)),
+        Err(error) => return Err(select_error(error)),
     }
     let TellingFile {
         names,
@@ -204,9 +203,9 @@ fn renew_second<'a, L: Ledger, D: Disk + Drop, T: Threads + Wait + Sync>(
     requires { journal.pending.items ≡ [] }
     ensures { IfOk result (λ renewed. renewed.files.journal.pending.items ≡ []) }
 {
-    match write_into::<L, This, D, T>(threads, rt.alloc(), store, disk) {
+    match write_into::<L, Active, D, T>(threads, rt.alloc(), store, disk) {
         Ok(next) => {
-            let (journal, spare) = choose_second(rt, journal, next)?;
+            let (journal, spare) = select_second(rt, journal, next)?;
             Ok(Renewed {
                 files: Files {
                     rt,
@@ -241,9 +240,9 @@ fn renew_first<'a, L: Ledger, D: Disk + Drop, T: Threads + Wait + Sync>(
     requires { journal.pending.items ≡ [] }
     ensures { IfOk result (λ renewed. renewed.files.journal.pending.items ≡ []) }
 {
-    match write_into::<L, Other, D, T>(threads, rt.alloc(), store, disk) {
+    match write_into::<L, Standby, D, T>(threads, rt.alloc(), store, disk) {
         Ok(next) => {
-            let (journal, spare) = choose_first(rt, next, journal)?;
+            let (journal, spare) = select_first(rt, next, journal)?;
             Ok(Renewed {
                 files: Files {
                     rt,
@@ -267,7 +266,8 @@ fn renew_first<'a, L: Ledger, D: Disk + Drop, T: Threads + Wait + Sync>(
 }
 
 /// Writes a checkpoint into the file that doesn't count, and lets that one count. Where there is no
-/// checkpoint, the file that counts goes on. Where the choice fails, either file has the store.
+/// checkpoint, the file that counts goes on. Where the selector can't be put, either file has the
+/// store.
 pub fn renew<'a, L: Ledger, D: Disk + Drop, T: Threads + Wait + Sync>(
     threads: &T,
     store: &KeptStore<L>,

@@ -5,7 +5,7 @@ use crate::files::Files;
 use crate::renewing::{Why, next_size, renew};
 use crate::telling::{tell_checkpoint, tell_found, tell_no_checkpoint};
 use crate::telling_file::TellingFile;
-use journal::{JournalError, Sound};
+use journal::{Active, JournalError, JournalFile, Sound};
 use kept_run::{Input, RunError, Stop};
 use kept_store::{KeptStore, StartError, run_store};
 use sqlite_disk::Disk;
@@ -13,7 +13,6 @@ use std::io::{Read, Write};
 use std::sync::Wait;
 use std::sync::ledger::Ledger;
 use std::thread::Threads;
-use zero_file::{This, ZeroFile};
 
 /// What a service tells beside its replies.
 pub trait Teller {
@@ -56,7 +55,9 @@ pub enum Failure<'a, D: Disk + Drop> {
     Head(&'a str, JournalError),
     /// The second file counts, and no line stands in it.
     Empty(&'a str),
-    Start(&'a str, StartError, TellingFile<ZeroFile<D, This>>),
+    /// A new store was wanted, and one with lines is there.
+    Taken,
+    Start(&'a str, StartError, TellingFile<JournalFile<D, Active>>),
     Run(&'a str, RunError),
 }
 

@@ -1,22 +1,22 @@
 //! Serves a store whose journal is in one of two files.
-ghost use Rattle.std.specs.Prelude.{◌≡◌, [], true, IfOk};
+ghost use Rattle.std.specs.Prelude.{◌≡◌, []};
 
-use crate::choosing::choice_of;
-use crate::ending::{not_ended, not_opened, not_read, not_started};
+use crate::ending::{not_ended, not_opened, not_read, not_started, not_there};
 use crate::files::{Files, Spare, telling};
-use crate::finding::FIRST;
-use crate::names::{Names, OwnNames};
+use crate::names::{Names, OwnNames, is_missing, make_private};
 use crate::running::{Errors, Failure, Streams, Teller, run};
-use crate::telling::{tell, tell_missing};
+use crate::starting::beginning::{Cause, NotStarted, Wanted, begin};
+use crate::starting::selecting::{Selection, select_file};
+use crate::telling::{tell, tell_missing, tell_no_store, tell_taken};
+use crate::telling_file::TellingFile;
 use crate::words::Serving;
-use journal::{Journal, JournalError, Log, Sound};
+use journal::{Active, JournalError, JournalFile, Sound};
 use kept_run::Input;
-use kept_store::{KeptStore, StartError, open};
-use meta_types::{Fault, Workers};
+use kept_store::KeptStore;
+use meta_types::Fault;
 use scripts::Fresh;
 use sqlite_disk::Disk;
 use sqlite_std_file::Start;
-use std::alloc::Global;
 use std::io::{self, Read, Write};
 use std::marker::Brand;
 use std::mem::ManuallyDrop;
@@ -25,7 +25,6 @@ use std::sync::Wait;
 use std::sync::ledger::{Blank, Ledger};
 use std::thread::Threads;
 use table_seed::Seed;
-use zero_file::{This, ZeroFile};
 
 // What a start takes beside its store. A run keeps it free where it can be had, so that a store which
 // ran full starts again.
@@ -40,53 +39,7 @@ struct Disks<'a, D: Disk + Drop> {
     spare: Spare<D>,
 }
 
-// A store as its journal tells it, and the journal.
-#[derive(Drop)]
-struct Started<L: Ledger, E: Log + Drop> {
-    store: KeptStore<L>,
-    journal: Journal<E>,
-    lines: u64,
-}
-
-// Why a journal gives no store.
-#[derive(Drop)]
-struct NotStarted<E: Log + Drop> {
-    error: StartError,
-    log: E,
-}
-
-// Opens the store of a file. The blank has 65,536 parts.
-fn begin<L: Ledger, T: Threads + Wait + Sync, E: Log + Drop>(
-    threads: &T,
-    alloc: Global,
-    fresh: Fresh,
-    workers: Workers,
-    log: E,
-) -> Result<Started<L, E>, NotStarted<E>>
-    requires name { fresh.blank.name ≡ L.name }
-    requires parts { (fresh.blank.parts ≡ L.parts) × (fresh.blank.parts ≡ 65536) }
-    requires rests { E.rests log }
-    ensures { IfOk result (λ started. started.journal.pending.items ≡ []) }
-{
-    let mut log = log;
-    let opened = match open::<L, E, T>(threads, alloc, fresh, &FIRST, &mut log, workers) {
-        Ok(opened) => opened,
-        Err(error) => return Err(NotStarted { error, log }),
-    };
-    let last = opened.sound.last;
-    Ok(Started {
-        store: opened.store,
-        journal: Journal {
-            log,
-            last,
-            end: opened.sound.end,
-            pending: Vec::new(alloc),
-        },
-        lines: opened.lines,
-    })
-}
-
-// Tells what a start found, and answers lines. A second file that counts has a line.
+// Tells what a start found, and answers lines.
 fn answer_lines<
     'a,
     L: Ledger,
@@ -106,9 +59,6 @@ fn answer_lines<
     requires { files.journal.pending.items ≡ [] }
 {
     let path = files.names.of(!files.spare.is_second());
-    if files.journal.end == 0 && !files.spare.is_second() {
-        return Err(Failure::Empty(path));
-    }
     let last = files.journal.last;
     let sound = Sound {
         end: files.journal.end,
@@ -119,6 +69,29 @@ fn answer_lines<
     let result = run(threads, store, has_checkpoint, files, streams);
     drop(spare);
     result
+}
+
+// Which lines a start wants to find.
+fn wanted_lines(is_new: bool, is_second: bool) -> Wanted {
+    if is_new {
+        return Wanted::NoLines;
+    }
+    if is_second {
+        return Wanted::Lines;
+    }
+    Wanted::Any
+}
+
+// Why a service doesn't start.
+fn failure_of<'a, D: Disk + Drop>(
+    path: &'a str,
+    not: NotStarted<TellingFile<JournalFile<D, Active>>>,
+) -> Failure<'a, D> {
+    match not.cause {
+        Cause::Start(error) => Failure::Start(path, error, not.log),
+        Cause::Empty => Failure::Empty(path),
+        Cause::Taken => Failure::Taken,
+    }
 }
 
 // Opens the store of the file that counts, and serves it. The blank has 65,536 parts.
@@ -147,19 +120,20 @@ fn serve_named<
         spare,
     } = disks;
     let path = names.of(!spare.is_second());
-    let mut log = ZeroFile::<D, This>::new(rt.alloc(), disk);
+    let mut log = JournalFile::<D, Active>::new(rt.alloc(), disk);
     match log.open() {
         Ok(()) => {}
         Err(error) => return Err(Failure::Head(path, error)),
     }
-    let Ok(own) = OwnNames::new(rt.alloc(), names) else {
+    let Ok(own) = OwnNames::new(rt, names) else {
         return Err(Failure::Head(path, JournalError::OutOfMemory));
     };
     let file = telling(rt, own, !spare.is_second(), log);
+    let wanted = wanted_lines(serving.is_new, !spare.is_second());
     let workers = serving.workers;
-    let started = match begin::<L, T, _>(threads, rt.alloc(), fresh, workers, file) {
+    let started = match begin::<L, T, _>(threads, rt.alloc(), fresh, workers, wanted, file) {
         Ok(started) => started,
-        Err(not) => return Err(Failure::Start(path, not.error, not.log)),
+        Err(not) => return Err(failure_of(path, not)),
     };
     let files = Files {
         rt,
@@ -211,6 +185,7 @@ fn serve_streams<'a, T: Threads + Wait + Sync, D: Disk + Drop>(
     disks: Disks<'a, D>,
 ) -> ExitCode {
     let rt = disks.rt;
+    let folder = disks.names.folder;
     let Ok(input) = Input::new(rt.alloc(), rt.reader()) else {
         return tell(rt, Fault::OutOfMemory);
     };
@@ -226,6 +201,7 @@ fn serve_streams<'a, T: Threads + Wait + Sync, D: Disk + Drop>(
         Ok(()) => ExitCode::SUCCESS,
         Err(Failure::Head(path, error)) => not_read(rt, path, error),
         Err(Failure::Empty(path)) => tell_missing(rt, path),
+        Err(Failure::Taken) => tell_taken(rt, folder),
         Err(Failure::Run(path, error)) => not_ended(rt, path, error),
         Err(Failure::Start(path, error, mut file)) => not_started(rt, path, &mut file, error),
     }
@@ -243,14 +219,16 @@ fn serve_files<T: Threads + Wait + Sync, D: Disk + Drop>(
         log: mut second,
         db: mut first,
     } = files;
-    let choice = match choice_of(rt.alloc(), &mut first, &mut second) {
-        Ok(choice) => choice,
+    let is_second = match select_file(rt.alloc(), serving.is_new, &mut first, &mut second) {
+        Ok(Selection::Store { is_second: true }) if serving.is_new => {
+            return tell_taken(rt, names.folder);
+        }
+        Ok(Selection::Store { is_second }) => is_second,
+        Ok(Selection::Missing { is_second }) => return tell_missing(rt, names.of(is_second)),
+        Ok(Selection::Nothing) => return tell_no_store(rt, names.folder),
         Err(error) => return not_read(rt, names.first, error),
     };
-    if choice.is_missing {
-        return tell_missing(rt, names.of(choice.is_second));
-    }
-    let disks = if choice.is_second {
+    let disks = if is_second {
         Disks {
             rt,
             names,
@@ -269,7 +247,7 @@ fn serve_files<T: Threads + Wait + Sync, D: Disk + Drop>(
 }
 
 /// Serves the store of the two files with these names, which no other program may open until this
-/// one ends. Those that are missing are made.
+/// one ends. Where a new store is wanted it is made, for its owner alone.
 pub fn serve<S: Start, T: Threads + Wait + Sync>(
     rt: &HostRuntime,
     threads: &T,
@@ -277,8 +255,13 @@ pub fn serve<S: Start, T: Threads + Wait + Sync>(
     start_of: S,
     serving: Serving,
 ) -> ExitCode {
+    if serving.is_new {
+        make_private(rt, names.first);
+    } else if is_missing(rt, names.folder, names.first) {
+        return not_there(rt, names);
+    }
     match sqlite_std_file::open(rt, names.first, start_of) {
         Ok(files) => serve_files(rt, threads, names, serving, files),
-        Err(error) => not_opened(rt, names.first, error),
+        Err(error) => not_opened(rt, names, error),
     }
 }

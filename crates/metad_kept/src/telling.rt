@@ -5,6 +5,8 @@ use crate::renewing::Why;
 use journal::{JournalError, Sound};
 use kept_store::CheckpointError;
 use meta_types::Fault;
+use std::fs;
+use std::os::unix::fs::FileExt;
 use std::process::ExitCode;
 use std::str::from_utf8;
 
@@ -35,6 +37,13 @@ pub fn tell_at(rt: &HostRuntime, path: &str, fault: Fault) -> ExitCode {
 /// Tells that a file can't grow.
 pub fn tell_full(rt: &HostRuntime, path: &str) {
     let _told = eprintln!(rt; "metad: {path} can't grow: additions are refused until it can");
+}
+
+/// Tells that a file's name leads to no file, or to another.
+pub fn tell_gone(rt: &HostRuntime, path: &str) {
+    let _told = eprintln!(rt;
+        "metad: {path}: it was removed, moved or replaced while it was served"
+    );
 }
 
 // The digits of a sum.
@@ -80,6 +89,22 @@ pub fn tell_missing(rt: &HostRuntime, path: &str) -> ExitCode {
     ExitCode::from(3)
 }
 
+/// Tells that a folder has no store.
+pub fn tell_no_store(rt: &HostRuntime, folder: &str) -> ExitCode {
+    let _told = eprintln!(rt;
+        "metad: {folder}: no store is there: `metad new` or `serve --new` makes one"
+    );
+    ExitCode::from(3)
+}
+
+/// Tells that a folder that was to get a store has one with lines.
+pub fn tell_taken(rt: &HostRuntime, folder: &str) -> ExitCode {
+    let _told = eprintln!(rt;
+        "metad: {folder}: a store with lines is there: serve it without --new"
+    );
+    ExitCode::from(3)
+}
+
 /// Tells that a file was written anew while it was read.
 pub fn tell_renewed(rt: &HostRuntime, path: &str) -> ExitCode {
     let _told = eprintln!(rt; "metad: {path}: it was written anew meanwhile: ask again");
@@ -92,8 +117,28 @@ pub fn tell_damage(rt: &HostRuntime, path: &str, end: usize) -> ExitCode {
     ExitCode::from(3)
 }
 
+// Whether a newer metad wrote a file: its first line has another number.
+fn is_newer(rt: &HostRuntime, path: &str) -> bool {
+    let Ok(file) = fs::open(rt, path) else {
+        return false;
+    };
+    let mut line = [0u8; 17];
+    match file.read_exact_at(&mut line, 0) {
+        Ok(()) => {
+            &line[..15] == b"#metad journal ".as_slice()
+                && line[15].is_ascii_digit()
+                && (line[16] == b'\n' || line[16].is_ascii_digit())
+        }
+        Err(_) => false,
+    }
+}
+
 /// Tells that a file has another format.
 pub fn tell_format(rt: &HostRuntime, path: &str) -> ExitCode {
+    if is_newer(rt, path) {
+        let _told = eprintln!(rt; "metad: {path}: a newer metad wrote it, in another format");
+        return ExitCode::from(3);
+    }
     let _told = eprintln!(rt; "metad: {path}: its first line isn't that of a journal");
     ExitCode::from(3)
 }

@@ -1,10 +1,11 @@
-//! A journal's file that tells when it can't grow.
+//! A journal's file that tells when it can't grow, and when its name leads elsewhere.
 
 use crate::names::OwnNames;
-use crate::telling::tell_full;
+use crate::telling::{tell_full, tell_gone};
 use journal::{JournalError, Log};
 
-/// A file that tells on standard error that it can't grow: once, until it has grown again.
+/// A file that tells on standard error that it can't grow: once, until it has grown again. It takes
+/// no bytes once its name leads to no file or to another, and tells that too.
 #[derive(Drop)]
 pub struct TellingFile<D: Log + Drop> {
     pub rt: HostRuntime,
@@ -43,6 +44,10 @@ impl<D: Log + Drop> Log for TellingFile<D> {
     }
 
     fn put(&mut self, at: usize, bytes: &[u8]) -> Result<(), JournalError> {
+        if !self.names.are_there(&self.rt, self.is_second) {
+            tell_gone(&self.rt, self.names.of(self.is_second));
+            return Err(JournalError::DiskFailed);
+        }
         self.log.put(at, bytes)
     }
 

@@ -9,24 +9,28 @@ pub struct Serving {
     pub workers: Workers,
     /// It begins with a checkpoint.
     pub has_checkpoint: bool,
+    /// It makes the store, where its folder has none.
+    pub is_new: bool,
 }
 
 /// What the words ask for, in a folder.
 #[derive(Clone, Copy)]
-pub enum Asked {
+pub enum Command {
     /// A run.
     Serve(Serving),
     /// What the journal holds.
     Check,
     /// The lines of the journal.
     Script,
+    /// A store without a line.
+    New,
 }
 
 /// What the words ask for, and the folder that they name.
 #[derive(Clone, Copy)]
 pub struct Words<'a> {
     pub dir: &'a str,
-    pub asked: Asked,
+    pub asked: Command,
 }
 
 // The options as far as they were read.
@@ -35,6 +39,7 @@ struct Options<'a> {
     dir: Option<&'a str>,
     workers: Option<Workers>,
     has_checkpoint: bool,
+    is_new: bool,
 }
 
 // The number of workers that a text is.
@@ -50,36 +55,38 @@ fn with_option<'a>(options: Options<'a>, name: &str, value: &'a str) -> Option<O
     match name {
         "--dir" if options.dir.is_none() && !value.is_empty() => Some(Options {
             dir: Some(value),
-            workers: options.workers,
-            has_checkpoint: options.has_checkpoint,
+            ..options
         }),
         "--workers" if options.workers.is_none() => Some(Options {
-            dir: options.dir,
             workers: Some(number(value)?),
-            has_checkpoint: options.has_checkpoint,
+            ..options
         }),
         _ => None,
     }
 }
 
-// The options with a checkpoint, which stands once at most.
-fn with_checkpoint<'a>(options: Options<'a>) -> Option<Options<'a>> {
-    if options.has_checkpoint {
-        return None;
+// The options with one more that has no value. Each stands once at most.
+fn with_switch<'a>(options: Options<'a>, name: &str) -> Option<Options<'a>> {
+    match name {
+        "--checkpoint" if !options.has_checkpoint => Some(Options {
+            has_checkpoint: true,
+            ..options
+        }),
+        "--new" if !options.is_new => Some(Options {
+            is_new: true,
+            ..options
+        }),
+        _ => None,
     }
-    Some(Options {
-        dir: options.dir,
-        workers: options.workers,
-        has_checkpoint: true,
-    })
 }
 
-// Reads the options, each as `--name value` or `--name=value`, but for `--checkpoint`.
+// Reads the options, each as `--name value` or `--name=value`, but for those without a value.
 fn read_options<'a>(words: &[&'a str]) -> Option<Options<'a>> {
     let mut options = Options {
         dir: None,
         workers: None,
         has_checkpoint: false,
+        is_new: false,
     };
     let mut at = 0usize;
     'reading: for _ in 0..u64::MAX {
@@ -87,8 +94,8 @@ fn read_options<'a>(words: &[&'a str]) -> Option<Options<'a>> {
             return Some(options);
         };
         at = at.saturating_add(1);
-        if *word == "--checkpoint" {
-            options = with_checkpoint(options)?;
+        if *word == "--checkpoint" || *word == "--new" {
+            options = with_switch(options, word)?;
             continue;
         }
         if let Some((name, value)) = word.split_once('=') {
@@ -110,13 +117,15 @@ pub fn read_words<'a>(words: &[&'a str]) -> Option<Words<'a>> {
     let options = read_options(rest)?;
     let dir = options.dir?;
     let asked = match (*command, options.workers) {
-        ("serve", workers) => Asked::Serve(Serving {
+        ("serve", workers) => Command::Serve(Serving {
             workers: workers.unwrap_or(Workers::ONE),
             has_checkpoint: options.has_checkpoint,
+            is_new: options.is_new,
         }),
-        _ if options.has_checkpoint => return None,
-        ("check", None) => Asked::Check,
-        ("script", None) => Asked::Script,
+        _ if options.has_checkpoint || options.is_new => return None,
+        ("check", None) => Command::Check,
+        ("script", None) => Command::Script,
+        ("new", None) => Command::New,
         _ => return None,
     };
     Some(Words { dir, asked })

@@ -3,7 +3,7 @@ use Rattle.std.specs.Io.KnownBytes.{Appends}
 use Rattle.std.proofs.lemmas.List.{take_all}
 use Rattle.journal.specs.Reading.{found, sound}
 use Rattle.journal.specs.Groups.{HasGroups}
-use Rattle.journal.proofs.Groups.{what_is_written_is_read}
+use Rattle.journal.proofs.Noise.{what_is_written_is_read}
 use Rattle.kept_run.proofs.Writers.{Appends-none, Appends-Keeps, front_taken}
 use Rattle.kept_run.proofs.settling.settle.Goals as goal
 

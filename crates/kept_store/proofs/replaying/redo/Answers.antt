@@ -1,4 +1,4 @@
-use Rattle.std.proofs.Common.{◌∙◌, sym}
+use Rattle.std.proofs.Common.{◌∙◌, sym, refl}
 use Rattle.kept_store.proofs.Replayed.{unraised, raises}
 use Rattle.kept_store.proofs.replaying.redo.Goals as goal
 
@@ -10,7 +10,15 @@ returns-in-Some g c = record {
       (sym c.number_in.ensures ∙ c.in-Some.is);
 }
 
-pub returns-then-is_logged : goal.returns-then-is_logged
-returns-then-is_logged g c =
-    let told = c.in-Ok.ensures.ok.1 (sym c.is_logged.ensures ∙ c.if-is_logged.true) in
+-- the line may have changed the store
+pub returns-then-answered : goal.returns-then-answered
+returns-then-answered g c =
+    let told = (rw c.if-answered.true at c.in-Ok.ensures.ok.1) refl in
     record { ok = unraised c.args.store.now _ c.args.line.now told.0 told.1 }
+
+-- a collection that changed nothing
+pub returns-then-is_report : goal.returns-then-is_report
+returns-then-is_report g c = record {
+  ok = unraised c.args.store.now _ c.args.line.now (sym c.number_in.ensures ∙ c.in_default.is)
+      (c.in-Ok.ensures.report (sym c.is_report.ensures ∙ c.if-is_report.true));
+}

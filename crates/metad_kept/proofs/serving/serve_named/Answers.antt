@@ -1,6 +1,6 @@
 use Rattle.std.proofs.Common.{sym, subst}
 use Rattle.journal.specs.Crashes.{Only}
-use Rattle.zero_file.specs.Head.{believed, Texts}
+use Rattle.journal.specs.Head.{believed, Texts}
 use Rattle.metad_kept.proofs.serving.serve_named.Goals as goal
 
 -- what was just opened rests

@@ -1,6 +1,7 @@
 use Rattle.std.proofs.Common.{◌≡◌, ◌∙◌, ap, sym, ℕ, List, ◌++◌}
 use Rattle.journal.specs.Reading.{Found, found}
 use Rattle.journal.proofs.Blocks.{takes_nothing, takes_line, text_at, takes_all}
+use Rattle.journal.proofs.Clear.{noise_at_end}
 use Rattle.journal.proofs.Errors.{same_error}
 use Rattle.journal.proofs.reader.Reader.read.Goals as goal
 
@@ -25,6 +26,14 @@ returns-in_err-read_line-clause-damaged c is first text rest r =
     ∙ c.read_line.ensures.damaged
     (same_error _ _ _ _ c.in_err-read_line.was c.from_residual.ensures.1 is) cut.1 first
     (text ++ t.taken) (c.in-Some.later.now ++ rest) (t.reads first text r)
+
+-- a byte of the last part of a line is in no UTF-8 text
+pub returns-in_err-add-clause-damaged : goal.returns-in_err-add-clause-damaged
+returns-in_err-add-clause-damaged c is first text rest r =
+    let t = c.loop-line.invariant in
+    noise_at_end first text t.taken c.loop-line.rest.now c.args.block.now rest t.is
+    (c.add.ensures.damaged
+    (same_error _ _ _ _ c.in_err-add.was c.from_residual-in_err-add.ensures.1 is))
 
 pub returns-clause-ok : goal.returns-clause-ok
 returns-clause-ok c first text r =

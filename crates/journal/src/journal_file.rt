@@ -1,0 +1,18 @@
+//! A journal's file, over a disk: its head names the format, and it is written over in place and
+//! grows by zeros.
+
+mod blanking;
+mod file;
+mod growing;
+mod head;
+mod opening;
+mod selecting;
+mod selector;
+mod steps;
+
+pub use blanking::blank;
+pub use file::JournalFile;
+pub use head::{HEAD, STEP, is_blank, read_head};
+pub use opening::has_head;
+pub use selecting::{select, selected};
+pub use selector::{Active, Selector, Standby};

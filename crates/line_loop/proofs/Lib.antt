@@ -1,0 +1,12 @@
+pub mod Cutting
+pub mod Feeds
+pub mod FirstBytes
+pub mod Joining
+pub mod JournalLines
+pub mod Keeping
+pub mod Reading
+pub mod Scripts
+pub mod Settled
+pub mod Stops
+pub mod Taking
+pub mod Writers

@@ -1,0 +1,9 @@
+pub mod JournalLines
+pub mod Laws
+pub mod Modes
+pub mod Numbered
+pub mod Progress
+pub mod Reads
+pub mod Runs
+pub mod Scripts
+pub mod Settling
