@@ -1,0 +1,3 @@
+module metad
+
+go 1.19

@@ -1,0 +1,238 @@
+// Package metad speaks the lines of a metad process, or of a socket that one answers: a request is
+// a line of JSON, and so is its reply. The lines of concurrent callers share one stream.
+package metad
+
+import (
+	"bufio"
+	"bytes"
+	"context"
+	"errors"
+	"fmt"
+	"io"
+	"net"
+	"os"
+	"os/exec"
+	"sync"
+	"sync/atomic"
+	"syscall"
+
+	"github.com/containerd/containerd/errdefs"
+)
+
+// Client sends lines to one process or socket.
+type Client struct {
+	closeInput func() error
+	// wait returns how the other side ended. It is called once, behind its last reply.
+	wait func() error
+	done chan struct{}
+
+	// sendL gives the lines the order of their calls.
+	sendL sync.Mutex
+	in    io.Writer
+
+	callsL sync.Mutex
+	calls  []*call // those that still miss replies, in the order of their lines
+	err    error   // why no line is taken any more
+
+	trips, lines uint64
+}
+
+// call has the replies to lines that were sent together.
+type call struct {
+	replies [][]byte
+	missing int
+	done    chan struct{}
+}
+
+// Start runs a program that answers each line of its input by a line. Signals of the terminal don't
+// reach it: its input ends when this process does.
+func Start(program string, args ...string) (*Client, error) {
+	cmd := exec.Command(program, args...)
+	cmd.Stderr = os.Stderr
+	cmd.SysProcAttr = &syscall.SysProcAttr{Setpgid: true}
+	in, err := cmd.StdinPipe()
+	if err != nil {
+		return nil, err
+	}
+	out, err := cmd.StdoutPipe()
+	if err != nil {
+		return nil, err
+	}
+	if err := cmd.Start(); err != nil {
+		return nil, err
+	}
+	widen(out)
+	return newClient(in, out, in.Close, func() error {
+		cmd.Wait()
+		return errors.New(cmd.ProcessState.String())
+	}), nil
+}
+
+// widest is the size of the pipe of replies: a listing needs few turns of both sides.
+const widest = 1 << 20
+
+// widen gives a pipe more room, if the system allows it.
+func widen(pipe io.Reader) {
+	const setSize = 1031 // F_SETPIPE_SZ
+	if file, ok := pipe.(*os.File); ok {
+		if conn, err := file.SyscallConn(); err == nil {
+			conn.Control(func(fd uintptr) {
+				syscall.Syscall(syscall.SYS_FCNTL, fd, setSize, widest)
+			})
+		}
+	}
+}
+
+// Dial connects to a Unix socket on which lines are answered.
+func Dial(path string) (*Client, error) {
+	conn, err := net.Dial("unix", path)
+	if err != nil {
+		return nil, err
+	}
+	return newClient(conn, conn, conn.(*net.UnixConn).CloseWrite, func() error {
+		conn.Close()
+		return errors.New("the connection is closed")
+	}), nil
+}
+
+func newClient(in io.Writer, out io.Reader, closeInput, wait func() error) *Client {
+	c := &Client{in: in, closeInput: closeInput, wait: wait, done: make(chan struct{})}
+	go c.read(bufio.NewReaderSize(out, 1<<16))
+	return c
+}
+
+// Done is closed when the other side has ended.
+func (c *Client) Done() <-chan struct{} { return c.done }
+
+// Close ends the input of the other side, which answers what it has, and waits for its end.
+func (c *Client) Close() error {
+	err := c.closeInput()
+	<-c.done
+	return err
+}
+
+// Trips returns how many groups of lines were sent, and how many lines.
+func (c *Client) Trips() (trips, lines uint64) {
+	return atomic.LoadUint64(&c.trips), atomic.LoadUint64(&c.lines)
+}
+
+func (c *Client) read(out *bufio.Reader) {
+	for {
+		line, err := out.ReadBytes('\n')
+		if err != nil {
+			break
+		}
+		if !c.deliver(line) {
+			// No caller may get another's reply, so nothing is read any more.
+			c.fail(errors.New("metad sent a reply that no line asked for"))
+			c.closeInput()
+			io.Copy(io.Discard, out)
+			break
+		}
+	}
+	c.fail(fmt.Errorf("metad has ended: %v", c.wait()))
+	close(c.done)
+}
+
+// deliver hands a reply to the first call that misses one. It returns false if there is none.
+func (c *Client) deliver(line []byte) bool {
+	c.callsL.Lock()
+	defer c.callsL.Unlock()
+	if len(c.calls) == 0 {
+		return false
+	}
+	first := c.calls[0]
+	first.replies = append(first.replies, line)
+	if first.missing--; first.missing == 0 {
+		c.calls = c.calls[1:]
+		close(first.done)
+	}
+	return true
+}
+
+// fail ends all calls. The first reason counts.
+func (c *Client) fail(reason error) {
+	c.callsL.Lock()
+	defer c.callsL.Unlock()
+	if c.err == nil {
+		c.err = fmt.Errorf("%v: %w", reason, errdefs.ErrUnavailable)
+	}
+	for _, call := range c.calls {
+		close(call.done)
+	}
+	c.calls = nil
+}
+
+// Do sends the lines next to each other, so no other caller's line comes between, and returns their
+// replies. A refusal isn't an error of Do. If ctx has ended nothing is sent; afterwards ctx isn't
+// asked, since lines that were sent are done.
+func (c *Client) Do(ctx context.Context, lines ...Line) ([]Reply, error) {
+	if err := ctx.Err(); err != nil {
+		return nil, err
+	}
+	if len(lines) == 0 {
+		return nil, nil
+	}
+	var text bytes.Buffer
+	for _, line := range lines {
+		if err := line.encode(&text); err != nil {
+			return nil, err
+		}
+	}
+	texts, err := c.send(text.Bytes(), len(lines))
+	if err != nil {
+		return nil, err
+	}
+	replies := make([]Reply, len(lines))
+	for i, b := range texts {
+		if err := readReply(b, &replies[i]); err != nil {
+			return nil, fmt.Errorf("reply to %v: %w", lines[i]["op"], err)
+		}
+		replies[i].line = lines[i]
+	}
+	return replies, nil
+}
+
+// Call sends one line and returns its reply. A refusal is an error.
+func (c *Client) Call(ctx context.Context, line Line) (Reply, error) {
+	replies, err := c.Do(ctx, line)
+	if err != nil {
+		return Reply{}, err
+	}
+	return replies[0], replies[0].Err()
+}
+
+// send writes lines, and returns as many replies.
+func (c *Client) send(text []byte, lines int) ([][]byte, error) {
+	call := &call{missing: lines, done: make(chan struct{})}
+	if err := c.write(text, call); err != nil {
+		return nil, err
+	}
+	<-call.done
+	if len(call.replies) < lines {
+		c.callsL.Lock()
+		defer c.callsL.Unlock()
+		return nil, c.err
+	}
+	return call.replies, nil
+}
+
+func (c *Client) write(text []byte, call *call) error {
+	c.sendL.Lock()
+	defer c.sendL.Unlock()
+
+	c.callsL.Lock()
+	if err := c.err; err != nil {
+		c.callsL.Unlock()
+		return err
+	}
+	c.calls = append(c.calls, call)
+	c.callsL.Unlock()
+
+	atomic.AddUint64(&c.trips, 1)
+	atomic.AddUint64(&c.lines, uint64(call.missing))
+	if _, err := c.in.Write(text); err != nil {
+		return fmt.Errorf("metad takes no lines: %v: %w", err, errdefs.ErrUnavailable)
+	}
+	return nil
+}

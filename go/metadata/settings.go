@@ -1,0 +1,128 @@
+package metadata
+
+import (
+	"context"
+	"errors"
+	"fmt"
+	"os"
+	"os/exec"
+	"path/filepath"
+	"strconv"
+
+	"github.com/containerd/containerd/log"
+	"github.com/containerd/containerd/plugin"
+
+	"metad/metad"
+	"metad/store"
+)
+
+// PluginType and PluginID name the settings in containerd's config.toml:
+// [plugins."io.metad.v1.store"].
+const (
+	PluginType plugin.Type = "io.metad.v1"
+	PluginID               = "store"
+)
+
+// Config is how metad is started, and where its store is.
+type Config struct {
+	// Command is the program that keeps the store, with its first words.
+	Command []string `toml:"command"`
+	// Folder is that of the store, else "metad" in containerd's root.
+	Folder string `toml:"folder"`
+	// Workers is how many threads mark and sweep, 1 to 16.
+	Workers int `toml:"workers"`
+	// Questions is the socket on which metad-why asks, else "metad.sock" in containerd's root.
+	Questions string `toml:"questions"`
+	// Forget removes at this start what is in lost/.
+	Forget bool `toml:"-"`
+}
+
+// Settings are those of this process. They are read before containerd opens its store.
+var Settings = Config{Command: []string{"metad", "serve"}, Workers: 1}
+
+// Containerd prints these settings with those of its plugins. The plugin itself does nothing.
+func init() {
+	plugin.Register(&plugin.Registration{
+		Type:   PluginType,
+		ID:     PluginID,
+		Config: &Settings,
+		InitFn: func(ic *plugin.InitContext) (interface{}, error) {
+			ic.Meta.Exports = map[string]string{"command": fmt.Sprint(Settings.Command)}
+			return &Settings, nil
+		},
+	})
+}
+
+func (c Config) folder(root string) string {
+	if c.Folder != "" {
+		return c.Folder
+	}
+	return filepath.Join(root, "metad")
+}
+
+func (c Config) socket(root string) string {
+	if c.Questions != "" {
+		return c.Questions
+	}
+	return filepath.Join(root, "metad.sock")
+}
+
+// start starts the program over its folder. If no file says that it is of a store, it makes a store
+// first, and otherwise the store has to be there.
+func (c Config) start(ctx context.Context, root string, files store.Folders) (*metad.Client,
+	error) {
+	if len(c.Command) == 0 {
+		return nil, errors.New(`command of [plugins."io.metad.v1.store"] names no program`)
+	}
+	folder := c.folder(root)
+	if err := os.MkdirAll(folder, 0700); err != nil {
+		return nil, err
+	}
+	path, has := files.Identity()
+	if has {
+		stored, err := filepath.Glob(filepath.Join(folder, "metad.journal*"))
+		if err != nil {
+			return nil, err
+		}
+		if len(stored) == 0 {
+			return nil, fmt.Errorf("%s has no store, and %s is of one: put it back, or begin in a new root",
+				folder, path)
+		}
+	} else if err := c.makeStore(ctx, folder); err != nil {
+		return nil, err
+	}
+	words := append(append([]string{}, c.Command[1:]...), "--dir", folder, "--workers",
+		strconv.Itoa(c.Workers))
+	return metad.Start(c.Command[0], words...)
+}
+
+// These are how a metad program ends to words that it doesn't know, and if it can't make a store
+// where one is already: what is wrong with that one it tells when it serves it.
+const (
+	usage   = 2
+	isThere = 3
+)
+
+// makeStore has the program make a store by its word for that. A program that has none makes it
+// when it serves a folder without a store.
+func (c Config) makeStore(ctx context.Context, folder string) error {
+	for _, words := range [][]string{
+		append(append([]string{}, c.Command[1:]...), "--new", "--dir", folder),
+		{"new", "--dir", folder},
+	} {
+		output, err := exec.CommandContext(ctx, c.Command[0], words...).CombinedOutput()
+		var exit *exec.ExitError
+		if errors.As(err, &exit) && exit.ExitCode() == usage {
+			continue
+		}
+		if errors.As(err, &exit) && exit.ExitCode() == isThere {
+			return nil
+		}
+		if err != nil {
+			return fmt.Errorf("no store is made in %s: %w: %s", folder, err, output)
+		}
+		log.G(ctx).Infof("a store is made in %s", folder)
+		return nil
+	}
+	return nil
+}
