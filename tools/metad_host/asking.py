@@ -11,6 +11,7 @@ from .faults import BadInput, Missing
 
 DONE = b'{"ok":true}\n'
 PART = 1 << 16  # bytes that are written at once
+MANY = 1000  # replies that are read at once
 
 
 def program(named: Optional[str]) -> str:
@@ -68,8 +69,31 @@ class Metad:
         writer.join()
 
     def load(self, lines: List[bytes]) -> None:
-        """Lines that are answered with `ok`."""
-        for line, reply in zip(lines, self.replies(lines)):
+        """Lines that are answered with `ok`, and most of them with that alone."""
+        stdin, stdout = self.process.stdin, self.process.stdout
+        assert stdin and stdout
+        writer = threading.Thread(target=write, args=(stdin, lines), daemon=True)
+        writer.start()
+        for place in range(0, len(lines), MANY):
+            part = lines[place:place + MANY]
+            # no reply is shorter than that
+            found = stdout.read(len(part) * len(DONE))
+            if found != len(part) * DONE:
+                self.look_at(part, found, place, len(lines))
+        writer.join()
+
+    def look_at(self, lines: List[bytes], begin: bytes, place: int, count: int) -> None:
+        """The replies to these lines one by one; so many bytes of them were read."""
+        stdout = self.process.stdout
+        assert stdout
+        replies = begin.splitlines(keepends=True)
+        for number, line in enumerate(lines):
+            reply = replies[number] if number < len(replies) else b""
+            if not reply.endswith(b"\n"):
+                reply += stdout.readline()
+            if not reply.endswith(b"\n"):
+                told = "metad ended before its reply to request %d of %d"
+                raise BadInput(told % (place + number + 1, count))
             if reply != DONE:
                 answer(line, reply)
 

@@ -7,7 +7,7 @@ from typing import Dict, List, NamedTuple, Optional
 from . import pages
 from .buckets import bucket, buckets_in, show, value
 from .faults import BadInput
-from .numbers import uvarint, varint
+from .numbers import go_moment, uvarint, varint
 from .remarks import Remarks
 
 METADATA = os.path.join("io.containerd.metadata.v1.bolt", "meta.db")
@@ -30,6 +30,7 @@ class Backends:
     def __init__(self) -> None:
         self.blobs: Dict[str, int] = {}
         self.ingests: Dict[bytes, Optional[int]] = {}
+        self.started: Dict[bytes, int] = {}  # when an ingest began, where its folder tells it
         self.snapshots: Dict[str, Dict[bytes, Stored]] = {}
 
 
@@ -37,7 +38,7 @@ def read(folder: str, remarks: Optional[Remarks] = None) -> Backends:
     """What a daemon's folder holds beside meta.db; what isn't there counts as empty."""
     found = Backends()
     read_blobs(os.path.join(folder, CONTENT, "blobs"), found.blobs)
-    read_ingests(os.path.join(folder, CONTENT, "ingest"), found.ingests)
+    read_ingests(os.path.join(folder, CONTENT, "ingest"), found.ingests, found.started)
     for name in sorted(os.listdir(folder)):
         path = os.path.join(folder, name, "metadata.db")
         if name.startswith(SNAPSHOTTER) and os.path.exists(path):
@@ -57,12 +58,22 @@ def read_blobs(folder: str, into: Dict[str, int]) -> None:
                 into["%s:%s" % (algorithm, name)] = size
 
 
-def read_ingests(folder: str, into: Dict[bytes, Optional[int]]) -> None:
-    """The size of what each ingest has written, by the name that the content store gives it."""
+def read_ingests(
+    folder: str, into: Dict[bytes, Optional[int]], started: Dict[bytes, int]
+) -> None:
+    """The size of what each ingest has written, by the name that the content store gives it.
+
+    `started` gets when each began.
+    """
     for name in listed(folder):
         try:
             with open(os.path.join(folder, name, "ref"), "rb") as file:
-                into[file.read()] = size_of(os.path.join(folder, name, "data"))
+                ref = file.read()
+            into[ref] = size_of(os.path.join(folder, name, "data"))
+            with open(os.path.join(folder, name, "startedat"), "rb") as file:
+                moment = go_moment(file.read(100).decode("ascii", "replace").strip())
+            if moment is not None:
+                started[ref] = moment
         except OSError:
             pass
 

@@ -2,7 +2,7 @@
 
 A row is a bucket in the bucket of its kind; values there are passed over, as the daemon's collector
 does. Versions 1 to 4 of the schema are read: containerd 1.6 and 1.7 write 3, containerd 2 writes 4,
-in which images expire, leases hold images, and sandboxes stand beside containers.
+with images of leases, and sandboxes beside the containers.
 """
 from __future__ import annotations
 
@@ -12,9 +12,10 @@ from .faults import BadInput
 from .numbers import binary_time, varint
 from .pages import Bucket
 from .remarks import Remarks
+from .versions import chosen
 
 NEWEST = 4  # of the versions of the schema
-EXPIRING_IMAGES = 4  # the version from which images expire, with what else came with it
+WITH_SANDBOXES = 4  # the version from which sandboxes and images of leases stand in a namespace
 WITH_INGESTS = 2  # the version from which ingests stand where they are read here
 
 
@@ -24,6 +25,7 @@ class Image(NamedTuple):
     name: bytes
     target: bytes
     labels: Bucket
+    made: Optional[int]
 
 
 class Container(NamedTuple):
@@ -34,6 +36,7 @@ class Container(NamedTuple):
     key: bytes
     labels: Bucket
     image: bytes
+    made: Optional[int]
 
 
 class Sandbox(NamedTuple):
@@ -78,6 +81,7 @@ class Lease(NamedTuple):
     ingests: List[bytes]
     images: List[bytes]
     labels: Bucket
+    made: Optional[int]
 
 
 class Place(NamedTuple):
@@ -102,7 +106,7 @@ READ: Dict[str, Set[bytes]] = {
     "snapshot": {b"name", b"createdat", b"updatedat", b"parent", b"children", b"labels"},
     "lease": {b"createdat", b"updatedat", b"labels", b"snapshots", b"content", b"ingests"},
 }
-# what else is read where images expire
+# what else stands in version 4
 READ_LATER: Dict[str, Set[bytes]] = {"namespace": {b"sandboxes"}, "lease": {b"images"}}
 NOT_CARRIED = {b"createdat": "times of rows", b"updatedat": "times of rows",
                b"annotations": "annotations of images",
@@ -139,6 +143,19 @@ def buckets_in(parent: Bucket) -> List[Tuple[bytes, Bucket]]:
     return [(key, found) for key, found in parent.items() if isinstance(found, dict)]
 
 
+def made(row: Bucket) -> Optional[int]:
+    """When a row was made or last changed, in nanoseconds; None where it has no readable time."""
+    found = []
+    for key in (b"createdat", b"updatedat"):
+        data = row.get(key)
+        if isinstance(data, bytes):
+            try:
+                found.append(binary_time(data, "a time"))
+            except BadInput:
+                pass
+    return max(found) if found else None
+
+
 def sandboxes_alone(found: object) -> bool:
     """Whether this is a namespace of containerd 1.7's own sandboxes, which stands beside v1."""
     return isinstance(found, dict) and list(found) == [b"sandboxes"]
@@ -162,10 +179,13 @@ def version_of(top: object) -> int:
 class Metadata:
     """The rows of the daemon, by namespace; what it meets and doesn't know goes to the remarks."""
 
-    def __init__(self, root: Bucket, remarks: Remarks) -> None:
+    def __init__(self, root: Bucket, remarks: Remarks, told: Tuple[str, str] = ("", "")) -> None:
+        """`told` is the version of containerd that collects, and who told it."""
         self.remarks = remarks
         self.version = version_of(root.get(b"v1"))
-        self.images_expire = self.version >= EXPIRING_IMAGES
+        self.choice = chosen(self.version, *told)
+        self.rules = self.choice.rules
+        self.images_expire = self.rules.images_expire
         if self.version < WITH_INGESTS:
             remarks.add("metadata of an old version, whose ingests aren't read",
                         "version %d" % self.version, plan=True)
@@ -176,7 +196,8 @@ class Metadata:
                 remarks.add("unknown buckets", show(key), plan=True)
         self.namespaces = buckets_in(bucket(root, b"v1", "the file"))
         self.read = dict(READ)
-        for kind in READ_LATER if self.images_expire else ():
+        later = self.version >= WITH_SANDBOXES or self.rules.sandboxes
+        for kind in READ_LATER if later else ():
             self.read[kind] = READ[kind] | READ_LATER[kind]
 
     def known(self, kind: str, row: Bucket, where: str) -> None:
@@ -211,7 +232,7 @@ class Metadata:
         found = self.objects(namespace, space, b"images")
         for name, row, called in self.each("image", found, namespace):
             target = value(bucket(row, b"target", called), b"digest", called)
-            yield Image(name, target, bucket(row, b"labels", called))
+            yield Image(name, target, bucket(row, b"labels", called), made(row))
 
     def containers(self, namespace: bytes, space: Bucket) -> Iterator[Container]:
         """The containers of a namespace."""
@@ -219,11 +240,11 @@ class Metadata:
         for name, row, called in self.each("container", found, namespace):
             yield Container(name, value(row, b"snapshotter", called),
                             value(row, b"snapshotKey", called), bucket(row, b"labels", called),
-                            value(row, b"image", called))
+                            value(row, b"image", called), made(row))
 
     def sandboxes(self, namespace: bytes, space: Bucket) -> Iterator[Sandbox]:
-        """The sandboxes of a namespace; before images expire there are none."""
-        if self.images_expire:
+        """The sandboxes of a namespace; a daemon that doesn't read them has none."""
+        if self.rules.sandboxes:
             found = self.objects(namespace, space, b"sandboxes")
             for name, row, called in self.each("sandbox", found, namespace):
                 yield Sandbox(name, bucket(row, b"labels", called))
@@ -267,10 +288,10 @@ class Metadata:
         for name, row, called in self.each("lease", found, namespace):
             snapshots = [(snapshotter, list(held))
                          for snapshotter, held in buckets_in(bucket(row, b"snapshots", called))]
-            images = list(bucket(row, b"images", called)) if self.images_expire else []
+            images = list(bucket(row, b"images", called)) if self.rules.leases_hold_images else []
             yield Lease(name, list(bucket(row, b"content", called)), snapshots,
                         list(bucket(row, b"ingests", called)), images,
-                        bucket(row, b"labels", called))
+                        bucket(row, b"labels", called), made(row))
 
     def labelled(self, namespace: bytes, space: Bucket) -> Iterator[Tuple[Place, Bucket]]:
         """The labels of each row whose labels may reference, and no remark."""

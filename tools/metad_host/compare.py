@@ -17,11 +17,13 @@ SHOWN = 20
 
 def run(words: Any, progress: Progress) -> int:
     """Prints what differs; status 1 where a row went that the plan keeps."""
-    store = Store(
-        argparse.Namespace(root=words.before, at=words.at, metad=words.metad, sizes=None), progress
+    asked = argparse.Namespace(
+        root=words.before, at=words.at, metad=words.metad, sizes=None, containerd=words.containerd
     )
+    store = Store(asked, progress)
     progress.say("reading %s" % words.after)
-    script, remarks = exporting.script_of(words.after, store.at)
+    told = exporting.told_version(words.containerd, store.daemon)
+    script, remarks = exporting.script_of(words.after, store.at, told=told)
     after = real(store, Rows(script.lines.written).rows, set(script.sizes["between"]))
     store.remarks += [text for text in remarks.texts() if text.startswith("may change the plan")]
     with store.metad() as metad:

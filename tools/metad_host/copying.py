@@ -5,14 +5,14 @@ import os
 import tempfile
 from typing import Any, Dict, List
 
-from . import exporting, pages
+from . import daemon, disk, exporting, measuring, pages
 from .faults import BadInput, Missing
 from .printing import Printer
 from .progress import Progress
 
 
 def run(words: Any, progress: Progress) -> int:
-    """Copies meta.db to FILE, and each snapshotter's file to a name beside it."""
+    """Copies meta.db to FILE, each snapshotter's file to a name beside it, and what is known."""
     path, beside = exporting.files(words.root)
     refuse_inside(words.root, words.file)
     copied: List[Dict[str, Any]] = []
@@ -23,6 +23,7 @@ def run(words: Any, progress: Progress) -> int:
         copied.append({"file": target, "of": source, "bytes": copy(source, target)})
     for name in stale(words.file, [item["file"] for item in copied]):
         os.unlink(name)
+    daemon.write_record(words.file, record(words, progress))
     out = Printer(words, progress)
     remarks = (
         ["the %d files are states of their own, which may be a transaction apart" % len(copied)]
@@ -40,6 +41,17 @@ def run(words: Any, progress: Progress) -> int:
             + remarks
         )
     return 0
+
+
+def record(words: Any, progress: Progress) -> Dict[str, Any]:
+    """What is known of the daemon, and what was measured of its folder."""
+    found = daemon.as_record(exporting.daemon_of(words.root))
+    if words.measure:
+        script, _ = exporting.script_of(words.root, None)
+        looked = disk.look(words.root, script.listed, script)
+        found["measured"] = measuring.measure(words.root, script.sizes, progress)
+        found["disk"] = disk.as_record(measuring.whole(words.root, looked, progress))
+    return found
 
 
 def refuse_inside(root: str, target: str) -> None:

@@ -5,7 +5,8 @@ import os
 import sys
 from typing import Any, List, Optional, Tuple
 
-from . import backends, buckets, pages, sizes
+from . import backends, buckets, daemon, disk, pages, sizes, versions
+from .daemon import Daemon
 from .faults import BadInput
 from .numbers import moment_text
 from .progress import Progress
@@ -51,17 +52,38 @@ def stored(root: str, remarks: Remarks) -> Any:
     return found
 
 
-def script_of(root: str, at: Optional[str], all_labels: bool = False) -> Tuple[Script, Remarks]:
-    """The script of a store, which ends in a plan at the moment, and what it can't say."""
+def daemon_of(root: str) -> Daemon:
+    """The daemon that has a store open, else what a copy's record tells of it."""
+    path = files(root)[0]
+    found = daemon.running(path)
+    return found if found.by else daemon.recorded(path)
+
+
+def told_version(named: Optional[str], of: Daemon) -> Tuple[str, str]:
+    """The version that counts, and who told it."""
+    return (named, versions.NAMED) if named else of.told()
+
+
+def script_of(
+    root: str, at: Optional[str], all_labels: bool = False, told: Tuple[str, str] = ("", ""),
+    keep: bool = False,
+) -> Tuple[Script, Remarks]:
+    """The script of a store, which ends in a plan at the moment, and what it can't say.
+
+    `told` is the version of its daemon, and who told it; `keep` keeps what each line says.
+    """
     remarks = Remarks()
+    listed = disk.listing(root) if os.path.isdir(root) else {}
     # before meta.db: an object is there before its row, so that none looks as if it had no row
     found = stored(root, remarks)
     path = files(root)[0]
     try:
         script = Script(
-            buckets.Metadata(pages.read(path, remarks), remarks), found, remarks, all_labels
+            buckets.Metadata(pages.read(path, remarks), remarks, told), found, remarks, all_labels,
+            keep,
         )
         script.write(at or now())
+        script.listed = listed
     except BadInput as bad:
         raise BadInput("%s: %s" % (path, bad))
     return script, remarks
@@ -70,7 +92,8 @@ def script_of(root: str, at: Optional[str], all_labels: bool = False) -> Tuple[S
 def run(words: Any, progress: Progress) -> int:
     """Writes the script to standard output, whole or not at all."""
     progress.say("reading %s" % words.root)
-    script, remarks = script_of(words.root, words.at, words.labels)
+    told = told_version(words.containerd, daemon_of(words.root))
+    script, remarks = script_of(words.root, words.at, words.labels, told)
     if words.sizes:
         sizes.write(words.sizes, script.sizes)
     for text in remarks.texts():

@@ -62,7 +62,7 @@ class Picture:
     def node(self, key: Key, is_root: bool, asked: Key, steps: int) -> None:
         """Adds a node, or what a further path tells of it."""
         old = self.nodes.get(key)
-        name = printable(self.store.name(key))
+        name = printable(self.store.called(key))
         new = Node(why.kind(self.store, key), name, is_root, key == asked, steps)
         if old:
             new = new._replace(

@@ -2,11 +2,12 @@
 
 - A back reference, the label `gc.bref.KIND` on a row, is the reference label `gc.ref.KIND` of the
   row that it names, towards this row.
-- An image that a lease holds stays to the later of its own end and the lease's, so its `gc.expire`
-  is the later one.
+- An image that a lease holds, or that a label `gc.ref.image` leads to, stays to the later of its
+  own end and of what keeps it, so its `gc.expire` is the later one.
 
-What neither says gets a remark: a reference to an image that expires, and an image that is past its
-own end when a flat lease still holds it, whose references the daemon doesn't follow any more.
+Which of these count is a matter of the daemon's version. Where it isn't sure, each row whose stay
+depends on it gets a remark, as does an image that is past its own end when a flat lease still holds
+it, whose references the daemon doesn't follow any more.
 """
 from __future__ import annotations
 
@@ -15,13 +16,15 @@ from typing import Dict, List, NamedTuple, Optional, Tuple
 
 from .buckets import Metadata, Place, bucket, show
 from .pages import Bucket
+from .reach import NEVER, Kept, Reach
 from .remarks import Remarks
-from .texts import (BACK_REFERENCE, CONTENT_REFERENCE, EXPIRE, FLAT, IMAGE_REFERENCE,
+from .texts import (BACK_REFERENCE, CONTENT_REFERENCE, EXPIRE, FLAT, IMAGE_REFERENCE, PREFIX,
                     SNAPSHOT_REFERENCE, Texts, is_named)
 
 # the kinds that a back reference names, by what its key has after BACK_REFERENCE
 NAMED = ("content", "image", "container")
 MAY_GO = ("content", "snapshot", "image")  # the kinds of which a row goes where nothing leads to it
+BY_VERSION = "whether these count depends on the daemon's version (--containerd VERSION names it)"
 
 
 class Hold(NamedTuple):
@@ -38,14 +41,22 @@ class Later:
 
     def __init__(self, metadata: Metadata, texts: Texts, remarks: Remarks) -> None:
         self.metadata, self.texts, self.remarks = metadata, texts, remarks
+        self.rules, self.is_sure = metadata.rules, metadata.choice.is_sure()
+        self.start()
+
+    def start(self) -> None:
+        """Nothing is found yet."""
         self.added: Dict[Place, Dict[bytes, bytes]] = {}
         self.holds: Dict[bytes, List[Hold]] = {}
         self.expiring: Dict[bytes, bytes] = {}  # the expiry of each image that has one
+        self.leads: Dict[Place, List[Place]] = {}  # back references of images that expire
+        self.is_led_to = False  # whether a label leads to an image that expires
+        self.kept: Dict[bytes, Kept] = {}  # what keeps an image that a label leads to
 
     def read(self, namespace: bytes, space: Bucket) -> None:
         """Looks through a namespace; what was found in another one goes."""
-        self.added, self.holds, self.expiring = {}, {}, {}
-        if not self.metadata.images_expire:
+        self.start()
+        if not self.rules.images_expire:
             return
         self.read_expiries(namespace, space)
         self.read_holds(namespace, space)
@@ -53,6 +64,8 @@ class Later:
             for key, value in labels.items():
                 if isinstance(value, bytes):
                     self.read_label(namespace, place, key, value)
+        if self.is_led_to:
+            self.kept = Reach(space, self.texts.end, self.leads).images()
 
     def read_expiries(self, namespace: bytes, space: Bucket) -> None:
         """Finds the images that expire."""
@@ -61,6 +74,9 @@ class Later:
                 expiry = bucket(row, b"labels", "image").get(EXPIRE)
                 if isinstance(expiry, bytes) and self.texts.end(expiry) is not None:
                     self.expiring[name] = expiry
+                    if not self.is_sure:
+                        self.remarks.add("images that expire: " + BY_VERSION,
+                                         "image %s %s" % (show(namespace), show(name)), plan=True)
 
     def read_holds(self, namespace: bytes, space: Bucket) -> None:
         """Finds the leases that hold them."""
@@ -77,17 +93,21 @@ class Later:
     def read_label(self, namespace: bytes, place: Place, key: bytes, value: bytes) -> None:
         """Takes in a label of a row that references, or that is referenced by who it names."""
         example = "%s %s %s: %s" % (place.kind, show(namespace), show(place.name), show(key))
+        if place.kind == "sandbox" and key.startswith(PREFIX + b"ref.") and not self.is_sure:
+            self.remarks.add("labels of sandboxes: " + BY_VERSION, example, plan=True)
         if is_named(key, IMAGE_REFERENCE):
-            if value in self.expiring:
-                self.remarks.add("references to images that expire", example, plan=True)
-        elif key.startswith(BACK_REFERENCE) and place.kind in MAY_GO:
+            self.is_led_to = self.is_led_to or value in self.expiring
+        elif key.startswith(BACK_REFERENCE) and place.kind in MAY_GO and self.rules.back_references:
             by = self.named_by(key[len(BACK_REFERENCE):], value)
+            if not self.is_sure:
+                self.remarks.add("back references: " + BY_VERSION, example, plan=True)
             if by is None:
                 self.remarks.add("back references of an unknown kind", example, plan=True)
             elif place.kind != "image":
                 self.add(by, place)
-            elif place.name in self.expiring:
-                self.remarks.add("references to images that expire", example, plan=True)
+            if by is not None:
+                self.leads.setdefault(by, []).append(place)
+                self.is_led_to = self.is_led_to or place.name in self.expiring
 
     @staticmethod
     def named_by(key: bytes, value: bytes) -> Optional[Place]:
@@ -111,21 +131,39 @@ class Later:
     def labels(self, place: Place, labels: Bucket) -> Bucket:
         """A row's labels as the script has them."""
         added = self.added.get(place)
-        held = self.holds.get(place.name) if place.kind == "image" else None
-        if not added and not held:
+        expires = place.kind == "image" and place.name in self.expiring
+        if not added and not expires:
             return labels
         found: Bucket = dict(labels)
         for key, value in (added or {}).items():
             while key in labels:
                 key += b"-"
             found[key] = value
-        if held:
-            expiry = self.latest(place.name, held)
+        if expires:
+            expiry = self.expiry(place.name)
             if expiry is None:
                 del found[EXPIRE]
             else:
                 found[EXPIRE] = expiry
         return found
+
+    def expiry(self, image: bytes) -> Optional[bytes]:
+        """An image's last end, of itself and of all that keeps it; None where it never comes."""
+        expiry = self.latest(image, self.holds.get(image, []))
+        kept = self.kept.get(image)
+        if kept is None or expiry is None:
+            return expiry
+        end = self.texts.end(expiry)
+        return expiry if end is not None and end >= kept.end else kept.expiry
+
+    def led_by(self, image: bytes) -> Optional[Place]:
+        """The row whose label keeps an image longer than itself and all leases that hold it."""
+        kept = self.kept.get(image)
+        if kept is None or kept.by.kind == "lease" or image not in self.expiring:
+            return None
+        expiry = self.latest(image, self.holds.get(image, []))
+        end = NEVER if expiry is None else self.texts.end(expiry)
+        return kept.by if end is not None and kept.end > end else None
 
     def latest(self, image: bytes, holds: List[Hold]) -> Optional[bytes]:
         """The later of an image's own end and those of the leases; None where it never comes."""
@@ -144,7 +182,7 @@ class Later:
         There is at most one: the one that ends after the image itself and after all the others.
         """
         holds = self.holds.get(image, [])
-        if not holds:
+        if not holds or self.led_by(image):
             return None
         end = self.texts.end(self.latest(image, holds))
         last = [hold for hold in holds if hold.end == end]

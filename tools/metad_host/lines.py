@@ -6,7 +6,7 @@ from __future__ import annotations
 
 import hashlib
 import json
-from typing import Callable, Dict, List, Tuple
+from typing import Any, Callable, Dict, List, Optional, Tuple
 
 LINE_BYTES = 65000  # below metad's 65,536, with room for the braces
 MOST_LABELS = 256
@@ -18,13 +18,24 @@ JSON = json.JSONEncoder(ensure_ascii=False, separators=(",", ":")).encode
 class Lines:
     """The lines of one script in `written`, and in `between` rows that only carry references."""
 
-    def __init__(self) -> None:
+    def __init__(self, keep: bool = False) -> None:
+        """`keep` keeps in `asked` what each line says, so that no one has to read it again."""
         self.written: List[bytes] = []
+        self.asked: Optional[List[Dict[str, Any]]] = [] if keep else None
         self.between: Dict[str, bool] = {}
 
     def say(self, op: str, **members: object) -> None:
         """A request of these members, in their order."""
-        self.written.append(JSON({"op": op, **members}).encode())
+        asked: Dict[str, object] = {"op": op, **members}
+        self.written.append(JSON(asked).encode())
+        if self.asked is not None:
+            self.asked.append(asked)
+
+    def unsay(self) -> None:
+        """Takes the last request back."""
+        self.written.pop()
+        if self.asked is not None:
+            self.asked.pop()
 
     def add(
         self, op: str, labels: List[Label], label_op: Tuple[str, Dict[str, str]], **members: object

@@ -6,7 +6,7 @@ from __future__ import annotations
 
 from typing import Any, Dict, List, Set, Tuple
 
-from .requests import QUESTIONS
+from .requests import MAKES, QUESTIONS
 
 # the member that names a row, by the first word of an op
 OWN = {"image": "name", "container": "name", "content": "digest", "ingest": "ref", "snap": "key",
@@ -35,14 +35,18 @@ class Names:
         if op in ("lease.drop",) and ("lease", ns, request["id"]) in self.rows:
             return ["resource"]  # the lease is there
         own = "name" if op == "snap.label" else OWN.get(kind)
-        makes = verb in ("add", "begin", "prepare", "view")
-        if own in request and not makes and self.key(kind, request, own) not in self.rows:
+        if own in request and verb not in MAKES and self.key(kind, request, own) not in self.rows:
             found.append(own)
         if "parent" in request and self.key(kind, request, "parent") not in self.rows:
             found.append("parent")
         if "lease" in request and ("lease", ns, request["lease"]) not in self.rows:
             found.append("lease")
         return found
+
+    def has(self, op: str, request: Dict[str, Any]) -> bool:
+        """Whether the row is there that a request names first."""
+        kind = op.split(".")[0]
+        return self.key(kind, request, OWN[kind]) in self.rows
 
     @staticmethod
     def key(kind: str, request: Dict[str, Any], member: str) -> Tuple[str, ...]:
@@ -57,10 +61,12 @@ class Names:
             self.namespaces.add(request["ns"])
         elif op == "ns.remove":
             self.namespaces.discard(request["ns"])
-        elif verb in ("add", "begin", "prepare", "view"):
+        elif verb in MAKES:
             self.rows.add(self.key(kind, request, OWN[kind]))
         elif verb in ("remove", "abort"):
             self.rows.discard(self.key(kind, request, OWN[kind]))
+        elif reply.get("there"):
+            pass  # the object was there before, and stays; so does what was to be committed
         elif op == "ingest.commit":
             self.rows.discard(self.key(kind, request, "ref"))
             self.rows.add(("content", request["ns"], request["digest"]))

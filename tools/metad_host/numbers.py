@@ -2,7 +2,6 @@
 from __future__ import annotations
 
 import re
-import struct
 from typing import Optional, Tuple
 
 from .faults import BadInput
@@ -40,7 +39,8 @@ def binary_time(data: bytes, what: str) -> int:
     """Nanoseconds since 1970 of a time in Go's binary form."""
     if len(data) < 15 or data[0] not in (1, 2):
         raise BadInput("%s is no time" % what)
-    seconds, nanoseconds = struct.Struct(">qi").unpack(data[1:13])
+    seconds = int.from_bytes(data[1:9], "big", signed=True)
+    nanoseconds = int.from_bytes(data[9:13], "big", signed=True)
     return (seconds - YEAR_ONE) * SECOND + nanoseconds
 
 

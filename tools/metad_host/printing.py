@@ -38,7 +38,7 @@ class Printer:
         """A line that fits the terminal, if there is one."""
         if self.width is None or len(line) <= self.width or isinstance(line, Whole):
             return line
-        return line[: max(self.width - 3, 0)] + "..."
+        return shorter(line, self.width)
 
     def lines(self, lines: Iterable[str]) -> None:
         """Prints these lines."""
@@ -49,6 +49,16 @@ class Printer:
         """Prints a JSON object."""
         sys.stdout.write(json.dumps(members, ensure_ascii=False, indent=1) + "\n")
         sys.stdout.flush()
+
+
+def shorter(line: str, width: int) -> str:
+    """A line of this width: its longest word loses its middle, since the ends of names differ."""
+    word = max(line.split(), key=len, default="")
+    left = len(word) - (len(line) - width) - 3
+    if left < 8:  # a word of a few letters says nothing: the line's end goes
+        return line[: max(width - 3, 0)] + "..."
+    end = left - left // 2
+    return line.replace(word, word[: left // 2] + "..." + word[len(word) - end:], 1)
 
 
 def first(items: List[Any], limit: int) -> List[Any]:

@@ -28,6 +28,7 @@ MADE = {
 FORBIDDEN = {
     "ns.remove": "ns: an object or a lease is in it",
     "ingest.begin": "ref: no number is left for it",
+    "ingest.open": "ref: no number is left for it",
     "ingest.commit": "digest: the ingest expects another",
     "snap.prepare": "parent: not committed",
     "snap.view": "parent: not committed",
@@ -96,13 +97,15 @@ def reason(op: str, request: Dict[str, Any], reply: Dict[str, Any], names: Names
     fault = reply["fault"]
     found = []
     if fault == 1:
-        found = list(requests.broken_rules(op, request)) or ["key: new, and the row has 256 labels"]
+        found = list(requests.broken_rules(op, request)) or [too_many_labels(op)]
     elif fault == 2:
         found = ["%s: not there" % member for member in names.missing(op, request)]
     elif fault == 3 and op in MADE:
         found = ["%s: there already" % MADE[op]]
     elif fault == 4 and op in ("snap.prepare", "snap.view") and "parent" not in request:
         found = ["key: no number is left for it"]
+    elif fault == 4 and op == "ingest.open" and names.has(op, request):
+        found = ["expected: the ingest has another, or none"]
     elif fault == 4 and op in FORBIDDEN:
         found = [FORBIDDEN[op]]
     elif fault in OTHER:
@@ -110,3 +113,10 @@ def reason(op: str, request: Dict[str, Any], reply: Dict[str, Any], names: Names
     return "; ".join(found) or "%s, for a reason that isn't known here" % reply.get(
         "name", "refused"
     )
+
+
+def too_many_labels(op: str) -> str:
+    """The rule that only the row shows: it would have more labels than a row may have."""
+    if op.endswith(".set"):
+        return "put: the row would have over 256 labels"
+    return "key: new, and the row has 256 labels"

@@ -13,6 +13,7 @@ from .texts import CONTROL, DIGEST, LABEL_BYTES, NAME_BYTES, SHORT_NAME
 
 LINE_BYTES = 65536
 MOST_LABELS = 256
+DATA_BYTES = 49152
 NESTING = 127
 # by the name of an op its members, and those of them that may be left out
 OPS: Dict[str, Tuple[List[str], Set[str]]] = {}
@@ -21,39 +22,46 @@ for _row in """
 ns.add ns
 ns.remove ns
 ns.list
-image.add ns name target [labels]
-image.target ns name target
+image.add ns name target [labels] [data] [answer]
+image.set ns name [target] [labels] [put] [data] [answer]
+image.target ns name target [answer]
 image.remove ns name [sync]
-image.get ns name
-image.list ns
-image.label ns name key value
-container.add ns name [snapshotter] [key] [labels]
+image.get ns name [answer]
+image.list ns [answer]
+image.label ns name key value [answer]
+container.add ns name [snapshotter] [key] [labels] [data] [answer]
+container.set ns name [snapshotter] [key] [labels] [put] [data] [answer]
 container.remove ns name
-container.get ns name
-container.list ns
-container.label ns name key value
-content.add ns digest [labels] [lease]
-content.remove ns digest
-content.get ns digest
-content.list ns
-content.label ns digest key value
-ingest.begin ns ref at [expected] [lease]
-ingest.commit ns ref digest [labels] [lease]
-ingest.abort ns ref
-ingest.get ns ref
-ingest.list ns
-snap.prepare ns snapshotter key [parent] [labels] [lease]
-snap.view ns snapshotter key [parent] [labels] [lease]
-snap.commit ns snapshotter key name [labels] [lease]
-snap.remove ns snapshotter key
-snap.get ns snapshotter key
-snap.list ns snapshotter
-snap.label ns snapshotter name key value
-lease.add ns id [labels]
+container.get ns name [answer]
+container.list ns [answer]
+container.label ns name key value [answer]
+content.add ns digest [labels] [data] [lease] [there] [answer]
+content.set ns digest [labels] [put] [data] [answer]
+content.remove ns digest [drop]
+content.get ns digest [answer]
+content.list ns [answer]
+content.label ns digest key value [answer]
+ingest.begin ns ref at [expected] [data] [lease] [answer]
+ingest.open ns ref at [expected] [data] [lease] [answer]
+ingest.commit ns ref digest [labels] [data] [lease] [drop] [there] [answer]
+ingest.abort ns ref [drop]
+ingest.get ns ref [answer]
+ingest.list ns [answer]
+snap.prepare ns snapshotter key [parent] [labels] [data] [lease] [there] [answer]
+snap.view ns snapshotter key [parent] [labels] [data] [lease] [there] [answer]
+snap.commit ns snapshotter key name [labels] [data] [lease] [drop] [there] [answer]
+snap.set ns snapshotter key [labels] [put] [data] [answer]
+snap.remove ns snapshotter key [drop]
+snap.get ns snapshotter key [answer]
+snap.list ns snapshotter [answer]
+snap.label ns snapshotter name key value [answer]
+snap.snapshotters ns
+lease.add ns id [labels] [data] [answer]
+lease.set ns id [labels] [put] [data] [answer]
 lease.remove ns id [sync]
-lease.get ns id
-lease.list ns
-lease.label ns id key value
+lease.get ns id [answer]
+lease.list ns [answer]
+lease.label ns id key value [answer]
 lease.hold ns id type resource
 lease.drop ns id type resource
 lease.resources ns id
@@ -62,16 +70,20 @@ gc.run at
 gc.plan at
 gc.explain ns type resource at
 gc.impact ns type resource at
+back.list
 """.strip().split("\n"):
     _op, *_members = _row.split()
     OPS[_op] = ([_name.strip("[]") for _name in _members],
                 {_name[1:-1] for _name in _members if _name.startswith("[")})
+
+MAKES = ("add", "begin", "open", "prepare", "view")  # the second words of ops that make a row
 
 SHORT_RULE = ("not 1 to 76 letters, digits, '.', '_' or '-', of which the first is a letter or a "
               "digit")
 NAME_RULE = "not 1 to 1,024 bytes without control characters"
 TIME_RULE = "no time such as 2024-03-01T00:00:00Z"
 TYPE_RULE = "neither content, nor ingests, nor snapshots/ with a snapshotter"
+DATA_RULE = "over 49,152 bytes as a reply writes it"
 QUESTIONS = ("gc.explain", "gc.impact")  # they ask of a row of any kind
 ROW_RULE = ("neither images, containers, leases, content, nor ingests, nor snapshots/ with a "
             "snapshotter")
@@ -155,7 +167,7 @@ def wrong_kind(name: str, value: object) -> Optional[str]:
     """Why a member's value is of another kind than its own; None where it isn't."""
     if name == "v":
         return None if type(value) is int else "not a whole number from 0 to 2^64 - 1"
-    if name == "labels":
+    if name in ("labels", "put"):
         texts = isinstance(value, dict) and all(isinstance(text, str) for text in value.values())
         return None if texts else "not an object of texts"
     return None if isinstance(value, str) else "not a text"
@@ -196,9 +208,14 @@ def broken_rules(op: str, request: Dict[str, Any]) -> Iterator[str]:
             fault = broken(op, name, request)
             if fault:
                 yield "%s: %s" % (name, fault)
-    if op == "container.add" and ("snapshotter" in request) != ("key" in request):
+    of_snapshot = op in ("container.add", "container.set")
+    if of_snapshot and ("snapshotter" in request) != ("key" in request):
         here, gone = ("snapshotter", "key") if "snapshotter" in request else ("key", "snapshotter")
         yield "%s: missing beside %s" % (gone, here)
+    if "there" in request and "lease" not in request:
+        yield "lease: missing beside there"
+    if "labels" in request and "put" in request:
+        yield "put: not beside labels"
 
 
 def broken(op: str, name: str, request: Dict[str, Any]) -> Optional[str]:
@@ -212,8 +229,13 @@ def broken(op: str, name: str, request: Dict[str, Any]) -> Optional[str]:
         return digest_rule(text)
     if name in ("at", "sync"):
         return None if is_moment(text) else TIME_RULE
-    if name == "labels":
+    if name in ("labels", "put"):
         return labels_rule(text)
+    if name == "data":
+        return None if written_bytes(text) <= DATA_BYTES else DATA_RULE
+    if name in ("answer", "there"):
+        known = "hold" if name == "there" else "rows" if op.endswith(".list") else "row"
+        return None if text == known else "not %s" % known
     if name == "v":
         return None if text in (1, 2) else "neither 1 nor 2"
     if name == "type" and op in QUESTIONS:
@@ -232,6 +254,12 @@ def name_rule(text: str) -> Optional[str]:
     """The rule that a name breaks."""
     data = text.encode()
     return None if 0 < len(data) <= NAME_BYTES and not CONTROL.search(data) else NAME_RULE
+
+
+def written_bytes(text: str) -> int:
+    """How many bytes a reply line has of a text, quotes apart."""
+    escaped = re.findall(r'["\\\x00-\x1f]', text)
+    return len(text.encode()) + sum(1 if char in '"\\\b\t\n\f\r' else 5 for char in escaped)
 
 
 def digest_rule(text: str) -> Optional[str]:

@@ -2,7 +2,7 @@
 from __future__ import annotations
 
 import json
-from typing import Any, Dict, Iterator, List, NamedTuple, Optional, Tuple
+from typing import Any, Dict, Iterator, List, NamedTuple, Optional, Set, Tuple
 
 from .faults import BadInput
 from .lines import JSON
@@ -21,6 +21,8 @@ TYPES = {
 OWN = {"image": "name", "container": "name", "lease": "id", "content": "digest", "ingest": "ref"}
 OPS = {"images": ("image", "name"), "containers": ("container", "name"), "leases": ("lease", "id")}
 CONTENT, SNAPSHOT = CONTENT_REFERENCE.decode(), SNAPSHOT_REFERENCE.decode()
+CONFIG = CONTENT + ".config"  # what a manifest's label that names its config is called
+CRI = "k8s.io"  # the namespace of Kubernetes' images
 ROOT, FLAT, EXPIRE = "containerd.io/gc.root", "containerd.io/gc.flat", "containerd.io/gc.expire"
 
 
@@ -40,25 +42,47 @@ class Row:
 
 
 class Group(NamedTuple):
-    """What an operator removes as one thing: the images of one target, a container or a lease."""
+    """What an operator removes as one thing: names of one image, a container or a lease."""
 
     kind: str
     ns: str
     keys: List[Key]
 
 
+class Joins:
+    """Keys that are joined to one: `first` is the same for all that were."""
+
+    def __init__(self) -> None:
+        self.above: Dict[Key, Key] = {}
+
+    def first(self, key: Key) -> Key:
+        """The key that stands for all that are joined to this one."""
+        while key in self.above:
+            higher = self.above[key]
+            self.above[key] = self.above.get(higher, higher)
+            key = higher
+        return key
+
+    def join(self, one: Key, other: Key) -> None:
+        """Joins two keys."""
+        one, other = self.first(one), self.first(other)
+        if one != other:
+            self.above[one] = other
+
+
 class Rows:
     """The rows of a store by their keys, in the order of the script."""
 
-    def __init__(self, lines: List[bytes]) -> None:
+    def __init__(self, lines: List[bytes], said: Optional[List[Dict[str, Any]]] = None) -> None:
+        """`said` is what each line says, if it is known; the rows take its labels over."""
         self.rows: Dict[Key, Row] = {}
         self.numbers = 0
         self.profile = 1
         self.without: Dict[Key, str] = {}  # of images that a lease holds: their own expiry
         self.at = ""
         try:
-            for line in lines:
-                self.take(line, json.loads(line))
+            for line, asked in zip(lines, said or map(json.loads, lines)):
+                self.take(line, asked)
             if not self.at:
                 raise ValueError
         except (ValueError, KeyError, TypeError, IndexError, AttributeError, RecursionError):
@@ -168,17 +192,47 @@ class Rows:
             row.labels[asked["key"]] = asked["value"]
 
     def groups(self) -> List[Group]:
-        """Images by their target, containers and leases; images of no digest stay apart."""
+        """Images by their target, containers and leases; images of no digest stay apart.
+
+        To CRI an image is a config: in its namespace targets of one config are one image.
+        """
         found: Dict[Key, Group] = {}
+        joins = Joins()
+        joined: List[Tuple[Key, Key]] = []
+        targets: Set[Key] = set()
         for key, row in self.rows.items():
-            kind, ns, name = key
+            kind, ns, _ = key
             if kind not in OPS:
                 continue
-            joined = key
+            target = key
             if kind == "images" and row.member and row.member[2] != NO_DIGEST:
-                joined = (kind, ns, row.member[2])
-            found.setdefault(joined, Group(OPS[kind][0], ns, [])).keys.append(key)
+                target = row.member
+                if ns == CRI and target not in targets:
+                    targets.add(target)
+                    for config in self.configs(target):
+                        joins.join(config, target)
+            joined.append((key, target))
+        for key, target in joined:
+            group = Group(OPS[key[0]][0], key[1], [])
+            found.setdefault(joins.first(target), group).keys.append(key)
         return list(found.values())
+
+    def configs(self, target: Key) -> List[Key]:
+        """The configs of a target: those of its manifests, where it is an index."""
+        found: List[Key] = []
+        seen = {target}
+        todo = [target]
+        while todo:
+            key = todo.pop()
+            row = self.rows.get(key)
+            for label, value in row.labels.items() if row else ():
+                held = reference(label, key[1], value)
+                if held and label == CONFIG:
+                    found.append(held)
+                elif held and held[0] == "content" and held not in seen:
+                    seen.add(held)
+                    todo.append(held)
+        return found
 
     def expiry(self, key: Key) -> Optional[str]:
         """The text of the expiry that counts for this row, None where it has none."""

@@ -7,7 +7,7 @@ from __future__ import annotations
 
 from typing import Dict, List, NamedTuple, Optional, Set, Tuple
 
-from . import sizes
+from . import people, sizes
 from .backends import ACTIVE, COMMITTED, VIEW, Backends, Stored
 from .buckets import (Container, Content, Image, Ingest, Lease, Metadata, Place, Sandbox, Snapshot,
                       show)
@@ -51,17 +51,19 @@ class Snapshots(NamedTuple):
 class Script:
     """The script of one daemon; `lines.written` are its lines and `sizes` its sizes."""
 
-    def __init__(self, metadata: Metadata, backends: Backends, remarks: Remarks, all_labels: bool
-                 ) -> None:
+    def __init__(self, metadata: Metadata, backends: Backends, remarks: Remarks, all_labels: bool,
+                 keep: bool = False) -> None:
+        """`keep` keeps in `lines.asked` what each line says."""
         self.metadata, self.backends, self.remarks = metadata, backends, remarks
-        self.lines = Lines()
-        self.texts = Texts(remarks, all_labels, metadata.images_expire)
+        self.lines = Lines(keep)
+        self.texts = Texts(remarks, all_labels, metadata.choice)
         self.later = Later(metadata, self.texts, remarks)
         self.sizes = sizes.empty()
         self.number = 0  # of the backend, as metad counts: one for each snapshot and each ingest
         self.blobs: Set[str] = set()  # of those that rows own, as ingests and snapshots
         self.ingests: Set[bytes] = set()
         self.snapshots: Set[Tuple[str, bytes]] = set()
+        self.listed: Dict[str, List[str]] = {}  # the folders that were there before the reading
 
     def write(self, at: str) -> None:
         """Says all, and a plan at the moment."""
@@ -75,6 +77,8 @@ class Script:
         self.lines.say("gc.plan", at=at)
         self.sizes["renamed"] = self.texts.renamed
         self.sizes["between"] = list(self.lines.between)
+        choice = self.metadata.choice
+        self.sizes["containerd"] = [choice.version, choice.by, choice.rules.line]
 
     def namespace(self, ns: str, name: bytes, space: Bucket) -> None:
         """Says a namespace with all that is in it."""
@@ -110,6 +114,17 @@ class Script:
         self.sizes["numbers"][str(self.number)] = {"kind": kind, "backend": show(backend),
                                                    "row": row}
         return str(self.number)
+
+    def made(self, kind: str, ns: str, name: str, moment: Optional[int]) -> None:
+        """Keeps when a row was made or last changed."""
+        if moment is not None:
+            self.sizes["made"].append([kind, ns, name, moment_text(moment)])
+
+    def owner(self, kind: str, ns: str, name: str, labels: Bucket) -> None:
+        """Keeps who made a row."""
+        found = people.owner(labels)
+        if found:
+            self.sizes["owners"].append([kind, ns, name, found])
 
     def labels(self, ns: str, place: Place, labels: Bucket, what: str) -> List[Label]:
         """The labels of a row, within metad's bounds.
@@ -162,7 +177,9 @@ class Script:
             self.remarks.add("snapshots whose parent isn't there, made without one", what,
                              plan=True)
         stored = None if found.stored is None else found.stored.get(row.backend)
+        number = self.next_number("snapshot", row.backend, [ns, snapshotter, name])
         if stored is None:
+            self.sizes["guessed"].append(int(number))
             self.remarks.add("kinds of snapshots, guessed (the daemon's folder tells them)", what)
         kind = stored.kind if stored else ACTIVE
         if row.name in found.parents:
@@ -170,7 +187,6 @@ class Script:
         place = Place("snapshot", snapshotter.encode(), row.name)
         labels = self.labels(ns, place, row.labels, what)
         label = ("snap.label", {"ns": ns, "snapshotter": snapshotter, "name": name})
-        number = self.next_number("snapshot", row.backend, [ns, snapshotter, name])
         self.measure(number, snapshotter, kind, stored)
         self.snapshots.add((snapshotter, row.backend))
         if kind == COMMITTED:
@@ -208,6 +224,10 @@ class Script:
         """An image; its expiry is the later one of its own and of the leases that hold it."""
         name = self.texts.name(row.name, "image")
         what = "image %s %s" % (ns, name)
+        self.made("images", ns, name, row.made)
+        if people.is_pinned(row.labels):
+            self.sizes["pinned"].append([ns, name])
+        self.owner("images", ns, name, row.labels)
         target = self.texts.digest(row.target, what) or NO_DIGEST
         labels = self.labels(ns, Place("image", b"", row.name), row.labels, what)
         label = ("image.label", {"ns": ns, "name": name})
@@ -219,6 +239,11 @@ class Script:
                              what)
             lease, without = self.texts.name(held[0], "lease"), self.texts.expiry(held[1], what)
             self.sizes["held"].append([ns, lease, name, without, expiry])
+        by = self.later.led_by(row.name)
+        if by is not None:
+            self.remarks.add("images that a label keeps longer, which have the later end as their "
+                             "own", what)
+            self.sizes["led"].append([ns, name, by.kind, show(by.name)])
         if self.later.is_flat(row.name):
             self.remarks.add("images that only a flat lease holds at their end, kept in full until "
                              "its own", what, plan=True)
@@ -227,6 +252,11 @@ class Script:
         """A container with its snapshot."""
         name = self.texts.name(row.name, "container")
         what = "container %s %s" % (ns, name)
+        self.made("containers", ns, name, row.made)
+        known = people.known_name(row.labels)
+        if known:
+            self.sizes["people"].append([ns, name, known])
+        self.owner("containers", ns, name, row.labels)
         members = {"ns": ns, "name": name}
         if row.snapshotter and row.key:
             snapshotter = self.texts.short_name(row.snapshotter, what)
@@ -260,6 +290,7 @@ class Script:
         """A lease and what it holds; images of it are said with their own ends."""
         name = self.texts.name(row.name, "lease")
         what = "lease %s %s" % (ns, name)
+        self.made("leases", ns, name, row.made)
         labels = self.labels(ns, Place("lease", b"", row.name), row.labels, what)
         self.lines.add("lease.add", labels, ("lease.label", {"ns": ns, "id": name}), ns=ns, id=name)
         if EXPIRE not in row.labels:
@@ -275,6 +306,8 @@ class Script:
                           self.texts.name(key, what + " snapshot"))
         for held in row.ingests:
             self.hold(ns, name, "ingests", self.texts.name(held, what + " ingest"))
+        for held in row.images:
+            self.sizes["leased"].append([ns, name, self.texts.name(held, what + " image")])
 
     def hold(self, ns: str, lease: str, kind: str, resource: str) -> None:
         """Gives a lease a resource."""
@@ -287,6 +320,10 @@ class Script:
         """
         name = self.texts.name(row.name, "ingest")
         what = "ingest %s %s" % (ns, name)
+        began = self.backends.started.get(row.backend)
+        if began is None and row.end is not None:
+            began = row.end - DAY
+        self.made("ingests", ns, name, began)
         number = self.next_number("ingest", row.backend, [ns, name])
         self.sizes["ingests"][number] = self.backends.ingests.get(row.backend)
         self.ingests.add(row.backend)
@@ -335,7 +372,7 @@ class Script:
         self.lone_ingests(namespace)
         self.lone_snapshots(namespace)
         if len(self.lines.written) == before + 1:
-            self.lines.written.pop()
+            self.lines.unsay()
         else:
             self.lines.say("ns.remove", ns=namespace)
 

@@ -18,9 +18,18 @@ A JSON object of these members:
 - `sandboxes`: `[ns, name]` of containers of the script that are sandboxes;
 - `uses`: `[ns, container, image]` of containers that name their image;
 - `held`: `[ns, lease, image, without, with]` of images that a lease keeps longer: their `gc.expire`
-  without that lease, and the script's own, empty where it has none.
+  without that lease, and the script's own, empty where it has none;
+- `led`: `[ns, image, kind, name]` of images that the label of a row keeps longer;
+- `leased`: `[ns, lease, image]` of images that a lease holds;
+- `pinned`: `[ns, image]` of images that are pinned by their label;
+- `people`: `[ns, container, text]`: what people call a container, by its labels;
+- `owners`: `[type, ns, name, tool]` of images and containers of nerdctl, and of pods' sandboxes;
+- `made`: `[type, ns, name, time]`: when an image, container, lease or ingest was made or changed;
+- `guessed`: numbers of snapshots whose state was guessed;
+- `containerd`: the version that was told and who told it, empty texts where it was guessed, and the
+  line of versions whose rules counted.
 
-A file of an older tool lacks the last three.
+A file of an older tool lacks those from `sandboxes` on.
 """
 from __future__ import annotations
 
@@ -31,7 +40,11 @@ from .faults import BadInput
 
 FORM = 1
 LISTS = ("between", "waiting", "endless")
-LATER_LISTS = ("sandboxes", "uses", "held")  # an older file has none of these
+# an older file has none of these
+LATER_LISTS = (
+    "sandboxes", "uses", "held", "led", "leased", "pinned", "people", "owners", "made",
+    "guessed", "containerd",
+)
 OBJECTS = ("blobs", "snapshots", "ingests", "numbers", "renamed", "awaited")
 
 
@@ -126,7 +139,7 @@ class Measure:
 
     def name(self, text: str) -> str:
         """The daemon's own text for a name of the script."""
-        return self.sizes["renamed"].get(text, text)
+        return str(self.sizes["renamed"].get(text, text))
 
 
 def known(sizes: Iterable[Optional[int]]) -> int:

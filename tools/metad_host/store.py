@@ -3,16 +3,19 @@ from __future__ import annotations
 
 import os
 import sys
+import time
 from typing import Any, Container, Dict, Iterator, List, Optional, Set, Tuple
 
-from . import asking, exporting, sizes
+from . import asking, daemon, disk, exporting, measuring, sizes
 from .asking import Metad
+from .disk import Disk
 from .faults import BadInput, Missing
 from .freed import NOTHING, Freed, Later
 from .lines import JSON
 from .progress import Progress
 from .remarks import printable
 from .rows import EXPIRE, Group, Key, Rows, remove_line
+from .script import Script
 
 SANDBOX = "sandbox:"  # what the name of a sandbox begins with in a script
 
@@ -20,30 +23,40 @@ SANDBOX = "sandbox:"  # what the name of a sandbox begins with in a script
 class Store:
     """A store, of a daemon's folder, of a meta.db, or of what `export` wrote elsewhere."""
 
-    def __init__(self, words: Any, progress: Progress, program: bool = True) -> None:
+    def __init__(
+        self, words: Any, progress: Progress, program: bool = True, look: bool = False
+    ) -> None:
+        """`look` looks at the disk too, as far as ROOT is a daemon's folder."""
         self.progress = progress
+        self.disk: Optional[Disk] = None
         self.program = asking.program(words.metad) if program else ""
         self.remarks: List[str] = []  # what may change the plan
         self.notes: List[str] = []  # what else is told on standard error
         self.root = words.root
+        self.daemon = daemon.NONE
         progress.say("reading %s" % words.root)
+        said = None
         if words.sizes:
             self.read_export(words)
         else:
-            script, remarks = exporting.script_of(words.root, words.at)
-            self.lines, found = script.lines.written, script.sizes
+            self.daemon = exporting.daemon_of(words.root)
+            told = exporting.told_version(words.containerd, self.daemon)
+            script, remarks = exporting.script_of(words.root, words.at, told=told, keep=True)
+            self.lines, said, found = script.lines.written, script.lines.asked, script.sizes
+            self.look(words, script, look)
             del script  # with the whole tree of the file
             texts = remarks.texts()
             self.remarks = [text for text in texts if text.startswith("may change the plan")]
             self.notes = [text for text in texts if text.startswith("files that memory")]
         self.read_seconds = progress.seconds()
+        self.read_at = round(time.time(), 3)
         progress.say("taking in %d lines" % len(self.lines))
         try:
             self.measure = sizes.Measure(found if not words.sizes else sizes.read(words.sizes))
         except BadInput as bad:
             raise BadInput("%s: %s" % (words.sizes, bad))
         try:
-            self.rows = Rows(self.lines)
+            self.rows = Rows(self.lines, said)
         except BadInput as bad:
             raise BadInput("%s: %s" % (words.root, bad))
         self.at: str = words.at or self.rows.at
@@ -52,8 +65,24 @@ class Store:
         self.take_in_held()
         self.set_uses()
 
+    def look(self, words: Any, script: Script, look: bool) -> None:
+        """Measures what no one recorded, and looks at the disk, or takes both from a copy."""
+        if not os.path.isdir(words.root):
+            record = daemon.record(exporting.files(words.root)[0])
+            measuring.take_in(script.sizes, record.get("measured"))
+            self.disk = disk.of_record(record.get("disk"))
+        elif look:
+            self.progress.say("looking at the disk")
+            self.disk = disk.look(words.root, script.listed, script)
+        if getattr(words, "measure", False):
+            measuring.measure(words.root, script.sizes, self.progress)
+            if self.disk and look:
+                self.disk = measuring.whole(words.root, self.disk, self.progress)
+
     def read_export(self, words: Any) -> None:
         """The lines that `export` wrote to a file."""
+        if getattr(words, "measure", False):
+            raise Missing(measuring.WANTS)
         if os.path.isdir(words.root):
             raise Missing(
                 "--sizes goes with a script that export wrote, and %s is a folder" % words.root
@@ -83,7 +112,7 @@ class Store:
         return self.rows.rows[key].lines + [expiry_line(image, later) for image, later in held]
 
     def remark_shared_holds(self) -> None:
-        """An image that several leases hold loses the end of one when several go."""
+        """An image that several things keep longer loses the end of one when several go."""
         images = [image for held in self.held.values() for image, _, _ in held]
         shared = sorted({image for image in images if images.count(image) > 1})
         if shared:
@@ -91,12 +120,25 @@ class Store:
                 "may change what goes: images that several leases hold: %d, such as %s"
                 % (len(shared), printable(self.name(shared[0])))
             )
+        led = self.measure.sizes["led"]
+        if led:
+            self.remarks.append(
+                "may change what goes: images that the label of another row keeps: %d, such as %s"
+                % (len(led), printable("%s/%s" % (led[0][0], self.measure.name(led[0][1]))))
+            )
 
     def set_uses(self) -> None:
-        """Which containers name which image."""
-        self.used: Dict[Tuple[str, str], List[str]] = {}
-        for ns, container, image in self.measure.sizes["uses"]:
-            self.used.setdefault((ns, image), []).append(self.measure.name(container))
+        """Which image each container names, and what else is known of the rows."""
+        sizes = self.measure.sizes
+        self.image_of: Dict[Tuple[str, str], str] = {
+            (ns, container): image for ns, container, image in sizes["uses"]
+        }
+        self.pinned = {(ns, image) for ns, image in sizes["pinned"]}
+        self.people = {(ns, container): text for ns, container, text in sizes["people"]}
+        self.made = {(kind, ns, name): time for kind, ns, name, time in sizes["made"]}
+        self.told: Tuple[str, str] = ("", "")
+        if sizes["containerd"]:
+            self.told = (sizes["containerd"][0], sizes["containerd"][1])
 
     def metad(self) -> Metad:
         """A run of metad that holds the store."""
@@ -148,20 +190,23 @@ class Store:
             return "sandbox"
         return {"images": "image", "containers": "container", "leases": "lease"}[key[0]]
 
+    def called(self, key: Key) -> str:
+        """A row as people read it, with the name that they know of a container."""
+        known = self.people.get((key[1], key[2])) if key[0] == "containers" else None
+        return "%s (%s)" % (self.name(key), known) if known else self.name(key)
+
     def group_name(self, group: Group) -> str:
         """A group by its first name, and how many more it has."""
         names = sorted((self.text(key) for key in group.keys), key=name_order)
         more = len(names) - 1
+        if group.kind != "image":
+            return printable(self.called(group.keys[0]))
         told = " and %d more name%s" % (more, "s" * (more > 1)) if more else ""
         return printable("%s/%s" % (group.ns, names[0])) + told
 
     def group_names(self, group: Group) -> List[str]:
         """All names of a group."""
         return sorted((self.text(key) for key in group.keys), key=name_order)
-
-    def users(self, group: Group) -> List[str]:
-        """The containers that name an image of this group."""
-        return [user for key in group.keys for user in self.used.get((key[1], key[2]), ())]
 
     # what stands in the backends
 

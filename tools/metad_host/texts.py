@@ -13,6 +13,7 @@ from .buckets import show
 from .numbers import go_moment, is_moment, is_offset_of_go_119, moment_text
 from .pages import Bucket
 from .remarks import Remarks
+from .versions import Choice, chosen
 
 Label = Tuple[str, str]
 
@@ -68,8 +69,10 @@ def hashed(data: bytes) -> str:
 class Texts:
     """The texts of one export: `renamed` tells the old text of each new one."""
 
-    def __init__(self, remarks: Remarks, all_labels: bool, images_expire: bool = False) -> None:
-        self.remarks, self.all_labels, self.images_expire = remarks, all_labels, images_expire
+    def __init__(self, remarks: Remarks, all_labels: bool, choice: Optional[Choice] = None) -> None:
+        self.remarks, self.all_labels = remarks, all_labels
+        self.choice = choice or chosen(0)
+        self.images_expire = self.choice.rules.images_expire
         self.renamed: Dict[str, str] = {}
 
     def name(self, data: bytes, what: str) -> str:
@@ -122,21 +125,27 @@ class Texts:
             meaning = meaning_of(kind, key, self.images_expire)
             if meaning is not None:
                 self.read(meaning, key, value, what, read)
-            elif not self.later(key, what) or self.all_labels:
+            elif not self.later(kind, key, what) or self.all_labels:
                 self.unread(key, value, what, unread)
         return read, unread
 
-    def later(self, key: bytes, what: str) -> bool:
-        """Whether a label is one that containerd 2 reads, and a script says otherwise.
+    def later(self, kind: str, key: bytes, what: str) -> bool:
+        """Whether a label is one that the daemon reads, and a script says otherwise.
 
-        Where images don't expire, nothing says it, and it gets a remark.
+        One that another version reads gets a remark, unless the daemon's own version is sure.
         """
+        rules, example = self.choice.rules, "%s: %s" % (what, show(key))
+        if key == EXPIRE and kind in ("content", "snapshot") and rules.images_expire:
+            self.remarks.add("expiries of content and snapshots, which no version that was tried "
+                             "reads", example, plan=not self.choice.is_sure())
         if not key.startswith((BACK_REFERENCE, IMAGE_REFERENCE)):
             return False
-        if not self.images_expire:
-            self.remarks.add("labels that later versions read", "%s: %s" % (what, show(key)),
-                             plan=True)
-        return self.images_expire
+        is_read = rules.image_references
+        if key.startswith(BACK_REFERENCE):
+            is_read = rules.back_references
+        if not is_read and not self.choice.is_sure():
+            self.remarks.add("labels that later versions read", example, plan=True)
+        return is_read
 
     def unread(self, key: bytes, value: bytes, what: str, into: List[Label]) -> None:
         """Adds a label that the collector doesn't read, where all are wanted, if it is allowed."""

@@ -2,12 +2,10 @@
 from __future__ import annotations
 
 import json
-import os
 from typing import Any, Container, Dict, Iterator, List, NamedTuple, Optional, Tuple
 
-from . import backends
+from . import disk_page
 from .asking import Metad
-from .faults import Missing
 from .freed import Freed, Later, awaited_by
 from .lines import JSON
 from .numbers import go_moment
@@ -107,37 +105,6 @@ def namespaces(store: Store) -> List[Dict[str, Any]]:
     return [found[ns] for ns in sorted(found)]
 
 
-def measured(store: Store) -> None:
-    """Measures the folders of active snapshots, whose sizes no one recorded."""
-    if not os.path.isdir(store.root):
-        raise Missing("--measure wants the daemon's folder, where the snapshots stand")
-    sizes = store.measure.sizes
-    for number, size in sizes["snapshots"].items():
-        folder = store.folder(int(number))
-        if size is None and folder is not None:
-            snapshotter, _, name = folder.partition("/")
-            path = os.path.join(store.root, backends.SNAPSHOTTER + snapshotter, "snapshots", name)
-            store.progress.say("measuring %s" % folder)
-            sizes["snapshots"][number] = bytes_below(path)
-
-
-def bytes_below(folder: str) -> Optional[int]:
-    """The bytes on the disk below a folder, a file once; None where it isn't there."""
-    if not os.path.isdir(folder):
-        return None
-    total, seen = 0, set()
-    for path, folders, files in os.walk(folder):
-        for name in files + folders:
-            try:
-                about = os.lstat(os.path.join(path, name))
-            except OSError:
-                continue
-            if (about.st_dev, about.st_ino) not in seen:
-                seen.add((about.st_dev, about.st_ino))
-                total += about.st_blocks * 512
-    return total
-
-
 def ranked(store: Store, groups: List[Group], limit: int) -> Tuple[List[Group], int]:
     """The groups that keep most, by walks, and how many weren't walked."""
     at = go_moment(store.at)
@@ -222,10 +189,8 @@ def holders(store: Store, later: Later, metad: Metad, limit: int) -> Tuple[List[
 def run(words: Any, progress: Progress) -> int:
     """Prints the page, or its object."""
     limit = SHOWN if words.limit is None else words.limit
-    store = Store(words, progress)
+    store = Store(words, progress, look=True)
     store.remark_shared_holds()
-    if words.measure:
-        measured(store)
     with store.metad() as metad:
         later = store.collected(metad)
         found, total = holders(store, later, metad, limit)
@@ -235,6 +200,7 @@ def run(words: Any, progress: Progress) -> int:
         out.object(
             dict(
                 store.head("usage"),
+                disk=disk_page.as_object(store),
                 kinds=by_kind,
                 namespaces=by_namespace,
                 holders_total=total,
@@ -270,6 +236,7 @@ def page(
     limit: int,
 ) -> Iterator[str]:
     """The lines of the page."""
+    yield from disk_page.lines(store, out)
     form = "%-20s %8s %12s %12s%s"
     yield form % ("KIND", "OBJECTS", "SIZE", "RECLAIMABLE", "")
     for kind, of in by_kind.items():

@@ -4,7 +4,7 @@ A walk is at a row in full, or flat, where the row's labels aren't followed.
 """
 from __future__ import annotations
 
-from typing import Dict, List, Optional, Set, Tuple
+from typing import Dict, Iterable, List, Optional, Sequence, Set, Tuple
 
 from .freed import awaited_by
 from .numbers import go_moment
@@ -61,8 +61,11 @@ class Walks:
         ]
         self.owner: Dict[State, int] = {}
 
-    def next(self, state: State) -> List[State]:
-        """What a state leads to, found once."""
+    def next(self, state: State) -> Sequence[State]:
+        """What a state leads to, found once; most rows are content that leads to nothing."""
+        key = state[0]
+        if key[0] == "content" and not self.rows.rows[key].labels:
+            return ()
         found = self.edges.get(state)
         if found is None:
             found = self.edges[state] = below(self.rows, state)
@@ -73,13 +76,10 @@ class Walks:
         owner = self.owner
         todo: List[State] = []
         for number, keys in [(OTHER, self.others)] + list(enumerate(self.roots)):
-            for key in keys:
-                self.claim((key, False), number, todo)
+            self.claim([(key, False) for key in keys], number, todo)
         while todo:
             state = todo.pop()
-            number = owner[state]
-            for held in self.next(state):
-                self.claim(held, number, todo)
+            self.claim(self.next(state), owner[state], todo)
         of_row: Dict[Key, int] = {}
         for (key, _), number in owner.items():
             of_row[key] = number if of_row.get(key, number) == number else MANY
@@ -89,16 +89,18 @@ class Walks:
                 found[number] += size
         return found
 
-    def claim(self, state: State, number: int, todo: List[State]) -> None:
-        """A root reaches this state: it is that root's alone, or of many."""
-        before = self.owner.get(state)
-        if before is None:
-            self.owner[state] = number
-        elif before == number or before == MANY:
-            return
-        else:
-            self.owner[state] = MANY
-        todo.append(state)
+    def claim(self, states: Iterable[State], number: int, todo: List[State]) -> None:
+        """A root reaches these states: each is that root's alone, or of many."""
+        owner = self.owner
+        for state in states:
+            before = owner.get(state)
+            if before is None:
+                owner[state] = number
+            elif before == number or before == MANY:
+                continue
+            else:
+                owner[state] = MANY
+            todo.append(state)
 
     def objects(self, of_row: Dict[Key, int]) -> List[Tuple[int, int]]:
         """The bytes of each object with the group that alone keeps it, or another number."""

@@ -8,6 +8,7 @@ from __future__ import annotations
 import json
 from typing import Any, Dict, Iterator, List, NamedTuple, Optional
 
+from . import ages, disk_page, people
 from .asking import Metad
 from .faults import BadInput
 from .numbers import is_moment
@@ -16,7 +17,7 @@ from .progress import Progress
 from .remarks import printable
 from .rows import OPS, ROOT, Key
 from .script import LONG_AGO, free_name
-from .store import Store
+from .store import Store, name_order
 
 MATCHES = 20
 Path = List[Dict[str, Any]]  # the things of a path as gc.explain tells them, from the root on
@@ -40,7 +41,7 @@ class Kept(NamedTuple):
 
 
 def find(store: Store, what: str) -> Found:
-    """The rows of this name or folder, else those that begin so, else images that end so."""
+    """The rows of this name or folder, else those that people call so or that begin so."""
     rows = store.rows.rows
     exact = [key for key in rows if what in (key[2], store.text(key), store.name(key))]
     if exact:
@@ -48,18 +49,37 @@ def find(store: Store, what: str) -> Found:
     owned, folders = in_folder(store, what)
     if owned or folders:
         return Found(owned, folders)
+    known = [
+        ("containers",) + container
+        for container, text in store.people.items() if people.answers_to(text, what)
+    ]
+    if known:
+        return Found(known, [])
     starts = (what, "sha256:" + what, "sha512:" + what)
     found = [key for key in rows if store.text(key).startswith(starts)]
-    found = found or [
-        key for key in rows if key[0] == "images" and store.text(key).endswith("/" + what)
-    ]
+    found = found or images_called(store, what)
     return Found([key for key in found if key[2] not in store.measure.between], [])
+
+
+def images_called(store: Store, what: str) -> List[Key]:
+    """The images of this end of a name, with or without a tag: one name of each image."""
+    found = []
+    for group in store.rows.groups():
+        if group.kind == "image":
+            names = sorted(group.keys, key=lambda key: name_order(store.text(key)))
+            ends = [(store.text(key), people.short_name(store.text(key))) for key in names]
+            found += [
+                key for key, its in zip(names, ends)
+                if any(end == what or end.endswith("/" + what) for end in its)
+            ][:1]
+    return found
 
 
 def in_folder(store: Store, what: str) -> Any:
     """The rows whose snapshot is in this folder, and the folder where no row owns it."""
     by_number = {number: key for key, number in store.snapshot_rows()}
-    keys, folders = [], []
+    keys: List[Key] = []
+    folders: List[str] = []
     for number, about in store.measure.sizes["numbers"].items():
         if about.get("folder") == what:
             key = by_number.get(int(number))
@@ -67,6 +87,8 @@ def in_folder(store: Store, what: str) -> Any:
                 keys.append(key)
             else:
                 folders.append(what)
+    if not keys and not folders and store.disk:
+        folders = [item.name for item in store.disk.nobody if item.name == what]
     return keys, folders
 
 
@@ -131,8 +153,8 @@ def sought(store: Store, what: str) -> Found:
     found = find(store, what)
     if not found.keys and not found.folders:
         raise BadInput(
-            "nothing in the store is called %s: it takes a name, a digest or its beginning, or a "
-            "snapshot's folder such as overlayfs/4711" % what
+            "nothing in the store is called %s: it takes a name, an image's short name, a pod, a "
+            "digest or its beginning, or a snapshot's folder such as overlayfs/4711" % what
         )
     return found
 
@@ -145,7 +167,7 @@ def is_ambiguous(store: Store, found: Found) -> bool:
 def run(words: Any, progress: Progress) -> int:
     """Prints the paths, or the names that begin so."""
     limit = words.limit or 0
-    store = Store(words, progress)
+    store = Store(words, progress, look=True)
     store.remark_shared_holds()
     found = sought(store, words.what)
     matches = (
@@ -246,7 +268,7 @@ def steps(store: Store, ns: str, path: Path) -> Iterator[str]:
     """A path as lines, each further in than the one before."""
     for depth, step in enumerate(path):
         key = (step["type"], ns, step["name"])
-        name = store.name(key) if depth == 0 else store.text(key)
+        name = store.called(key) if depth == 0 else store.text(key)
         yield "%s%s %s  [%s]" % (
             "  " * (depth + 1),
             kind(store, key),
@@ -258,9 +280,9 @@ def steps(store: Store, ns: str, path: Path) -> Iterator[str]:
 def page(store: Store, out: Printer, found: Found, things: List[Kept]) -> Iterator[str]:
     """The lines of the page."""
     for folder in found.folders:
-        yield "%s belongs to no row: a collection that looks there removes it" % folder
+        yield Whole(disk_page.folder_line(store, out, folder))
     for thing in things:
-        name, more = printable(store.name(thing.key)), about(store, out, thing.key)
+        name, more = printable(store.called(thing.key)), about(store, out, thing.key)
         yield Whole("%s %s%s" % (kind(store, thing.key), name, more))
         for path in thing.paths:
             yield from steps(store, thing.key[1], path)
@@ -268,9 +290,9 @@ def page(store: Store, out: Printer, found: Found, things: List[Kept]) -> Iterat
 
 
 def about(store: Store, out: Printer, key: Key) -> str:
-    """The folder and the size of a row's object."""
+    """The folder and the size of a row's object, or how old a row is that has none."""
     if key[0] in OPS:
-        return ""
+        return "  (%s)" % ages.told(ages.age(store, key)) if key in store.made else ""
     folder, found = store.folder(store.rows.rows[key].number), size(store, key)
     return "  (%s%s)" % (
         folder + ", " if folder else "",

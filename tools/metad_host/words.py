@@ -13,10 +13,13 @@ import subprocess
 import sys
 from typing import Any, Dict, List, NamedTuple, Tuple
 
+from . import demo
+from .amounts import age_of, bytes_of
 from .faults import BadInput, Missing
 from .numbers import is_moment
 from .progress import Progress
 from .remarks import printable
+from .versions import line_of
 
 
 class Word(NamedTuple):
@@ -28,30 +31,60 @@ class Word(NamedTuple):
     options: Tuple[str, ...]
 
 
-QUESTION = ("--at", "--metad", "--sizes", "--json", "--limit", "--bytes")
+QUESTION = (
+    "--at", "--containerd", "--measure", "--metad", "--sizes", "--json", "--limit", "--bytes"
+)
 WORDS: Dict[str, Word] = {
     "usage": Word(
         "usage",
         "what fills the disk, by kind, by namespace and by holder",
         ("ROOT",),
-        QUESTION + ("--measure",),
+        QUESTION,
     ),
     "plan": Word("plan", "what a collection would free", ("ROOT",), QUESTION),
     "prune": Word(
-        "prune", "images that no container uses, and what goes without them", ("ROOT",), QUESTION
+        "prune",
+        "images that are used, held or free, and what goes without them",
+        ("ROOT",),
+        QUESTION + ("--commands", "--leases"),
+    ),
+    "free": Word(
+        "freeing",
+        "commands that together free so many bytes",
+        ("SIZE", "ROOT"),
+        QUESTION + ("--older-than",),
+    ),
+    "ingests": Word(
+        "ingests", "uploads that aren't done, with their leases and ends", ("ROOT",),
+        ("--at", "--containerd", "--sizes", "--json", "--limit", "--bytes"),
+    ),
+    "still-free": Word(
+        "still_free",
+        "whether these are all names of an image that is free, which commands ask before they act",
+        ("ROOT", "NS", "NAME..."),
+        ("--at", "--containerd"),
     ),
     "impact": Word(
         "impact", "what goes without each image, container and lease", ("ROOT", "[SIZES]"), QUESTION
     ),
     "why": Word("why", "every root that keeps a thing, and until when", ("ROOT", "WHAT"), QUESTION),
     "copy": Word(
-        "copying", "a copy that is a state of the store", ("ROOT", "FILE"), ("--json", "--bytes")
+        "copying",
+        "a copy that is a state of the store",
+        ("ROOT", "FILE"),
+        ("--measure", "--json", "--bytes"),
     ),
     "compare": Word(
         "compare",
         "whether the daemon's collection removed too much or too little",
         ("BEFORE", "AFTER"),
-        ("--at", "--metad", "--json", "--limit", "--bytes"),
+        ("--at", "--containerd", "--metad", "--json", "--limit", "--bytes"),
+    ),
+    "doctor": Word(
+        "doctor",
+        "which rows go and which stay after an update of containerd",
+        ("ROOT",),
+        ("--at", "--containerd", "--metad", "--json", "--limit", "--bytes"),
     ),
     "forecast": Word("forecast", "what goes when, by itself", ("ROOT",), QUESTION),
     "metrics": Word("metrics", "figures for Prometheus' textfile collector", ("ROOT",), QUESTION),
@@ -65,7 +98,7 @@ WORDS: Dict[str, Word] = {
         "exporting",
         "the store as a script of metad, which ends in a plan",
         ("ROOT",),
-        ("--at", "--labels", "--sizes"),
+        ("--at", "--containerd", "--labels", "--sizes"),
     ),
     "report": Word(
         "report",
@@ -84,7 +117,11 @@ WORDS: Dict[str, Word] = {
 OPERANDS = {
     "ROOT": "the daemon's folder (/var/lib/containerd), its meta.db or a copy; "
     "with --sizes a script of export",
-    "WHAT": "a name, a digest or its beginning, or a snapshot's folder such as overlayfs/4711",
+    "WHAT": "a name, an image's short name, a pod, a digest or its beginning, or a snapshot's "
+    "folder such as overlayfs/4711",
+    "SIZE": "how much, such as 12GB or 500MiB",
+    "NS": "a namespace",
+    "NAME": "an image's name",
     "FILE": "where the copy goes; each snapshotter's file goes beside it",
     "BEFORE": "a copy of before the collection",
     "AFTER": "a copy of after it",
@@ -96,6 +133,11 @@ OPTIONS: Dict[str, Dict[str, Any]] = {
     "--at": {
         "metavar": "TIME",
         "help": "the moment of the collection, such as 2024-03-01T00:00:00Z; now without it",
+    },
+    "--containerd": {
+        "metavar": "VERSION",
+        "help": "the version whose rules count, such as 2.1.9; without it that of the daemon, "
+        "as far as it is known",
     },
     "--metad": {
         "metavar": "PROGRAM",
@@ -110,7 +152,19 @@ OPTIONS: Dict[str, Dict[str, Any]] = {
     "--bytes": {"action": "store_true", "help": "sizes in bytes"},
     "--measure": {
         "action": "store_true",
-        "help": "measures the folders of writable snapshots, as du does",
+        "help": "measures the folders of writable snapshots and the whole folder, as du does",
+    },
+    "--commands": {
+        "action": "store_true",
+        "help": "the commands that remove what is free, to paste into a shell",
+    },
+    "--older-than": {
+        "metavar": "AGE",
+        "help": "only images that were made or changed so long ago, such as 7d: made, not used",
+    },
+    "--leases": {
+        "action": "store_true",
+        "help": "with --commands those for leases too, as comments",
     },
     "--html": {"metavar": "FILE", "help": "writes the picture there as a page of its own"},
     "--labels": {
@@ -134,7 +188,17 @@ def count(text: str) -> int:
     return int(text)
 
 
-TYPES: Dict[str, Any] = {"--at": moment, "--limit": count}
+def version_word(text: str) -> str:
+    """A version of containerd, of the words."""
+    if not line_of(text):
+        raise argparse.ArgumentTypeError("%r is no version such as 2.1.9" % text)
+    return text
+
+
+TYPES: Dict[str, Any] = {
+    "--at": moment, "--containerd": version_word, "--limit": count, "--older-than": age_of,
+    "SIZE": bytes_of,
+}
 
 
 def parser(name: str) -> argparse.ArgumentParser:
@@ -153,8 +217,12 @@ def parser(name: str) -> argparse.ArgumentParser:
     for word, about in WORDS.items():
         one = commands.add_parser(word, description=about.answers, prog="%s %s" % (name, word))
         for operand in about.operands:
-            bare = operand.strip("[]")
-            more: Dict[str, Any] = {"nargs": "?"} if bare != operand else {}
+            bare = operand.strip("[].")
+            more: Dict[str, Any] = {}
+            if bare != operand:
+                more = {"nargs": "+" if operand.endswith("...") else "?"}
+            if bare in TYPES:
+                more["type"] = TYPES[bare]
             one.add_argument(attribute(word, bare), metavar=bare, help=OPERANDS[bare], **more)
         for option in about.options:
             typed: Dict[str, Any] = {"type": TYPES[option]} if option in TYPES else {}
@@ -166,7 +234,7 @@ def attribute(word: str, operand: str) -> str:
     """What an operand is called among the parsed words."""
     if operand == "SIZES":
         return "second" if word == "impact" else "sizes"
-    return {"BEFORE": "before", "AFTER": "after", "WHAT": "what"}.get(operand, operand.lower())
+    return {"NAME": "names"}.get(operand, operand.lower())
 
 
 def listed(name: str) -> str:
@@ -176,7 +244,8 @@ def listed(name: str) -> str:
         lines
         + [
             "",
-            "%s help WORD tells a word's operands and options." % name,
+            "%s help WORD tells a word's operands and options; %s --demo asks a recorded store."
+            % (name, name),
             "",
             "  sudo %s usage /var/lib/containerd" % name,
             "  sudo %s why /var/lib/containerd overlayfs/4711" % name,
@@ -227,6 +296,8 @@ def main(arguments: List[str], name: str = "host") -> int:
             sys.stdout.write(parser(name).format_help())
             sys.stdout.flush()
             return 0
+        if arguments == ["--demo"]:
+            return demo.run(name, lambda words: run(parser(name).parse_args(words), name))
         if arguments == ["--version"]:
             sys.stdout.write(version(name) + "\n")
             sys.stdout.flush()
@@ -245,6 +316,8 @@ def main(arguments: List[str], name: str = "host") -> int:
         fault = str(bad)
     except OSError as bad:
         fault = "%s: %s" % (bad.filename, bad.strerror) if bad.filename else str(bad.strerror)
+        if isinstance(bad, PermissionError) and os.geteuid() != 0:
+            fault += ": it needs root's rights (sudo), as a daemon's files do"
         if not bad.filename:
             close_output()
     except UnicodeDecodeError:
