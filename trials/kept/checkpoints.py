@@ -1,8 +1,8 @@
 """Runs that begin with a checkpoint: both files in turn, cuts, kills, damage and refusals."""
 import hashlib
+import json
 import os
 import random
-import resource
 import shutil
 import tempfile
 from concurrent.futures import ThreadPoolExecutor
@@ -11,7 +11,7 @@ from crashes import ENDED, Script, blocks_of, mixing, recover, send
 from disk import FULL, STEP, lift, limit_files
 from kills import send_for
 from stores import (
-    CHOICE, DONE, HEAD, JOURNAL, NO_MEMORY, REFUSE, SECOND, SHIM, Client, Model, Told, any_line,
+    SELECTOR, DONE, HEAD, JOURNAL, NO_MEMORY, REFUSE, SECOND, SHIM, Client, Model, Told, any_line,
     check, counting, is_logged, journal_of, line_of, lines_told, long_line, probes, script_of,
     serve,
 )
@@ -23,6 +23,7 @@ KILLED = 40  # runs that are killed
 SEEDS = 2  # runs that are cut at the same call
 STORMS = 8  # scripts that are sent to their end through runs that are cut
 ROWS = 620000  # additions of content that take more than 64 MiB of a journal
+SPARES = 2000  # objects of each kind that no row has, as a checkpoint finds them
 TAKEN = b"a checkpoint of"
 NOT_TAKEN = b"no checkpoint"
 
@@ -81,14 +82,14 @@ class Cut:
         store = self.before.copy()
         stores = [store.copy()]
         for line in self.script:
-            if is_logged(store.answer(line)):
+            if is_logged(line, store.answer(line)):
                 stores.append(store.copy())
         return stores
 
     def answered(self, replies):
         """How many lines that are kept were answered."""
         store = self.before.copy()
-        return sum(is_logged(store.answer(line)) for line in self.script[: len(replies)])
+        return sum(is_logged(line, store.answer(line)) for line in self.script[: len(replies)])
 
     def calls(self):
         """How many calls of the disk a run has that isn't cut."""
@@ -162,12 +163,12 @@ def storm(seed):
             recover(folder, seed)
             ahead, stores, places = store.copy(), [store.copy()], [at]
             for number, line in enumerate(lines):
-                if is_logged(ahead.answer(line)):
+                if is_logged(line, ahead.answer(line)):
                     stores.append(ahead.copy())
                     places.append(at + number + 1)
             ahead, least = store.copy(), 0
             for line in lines[: len(replies)]:
-                least += is_logged(ahead.answer(line))
+                least += is_logged(line, ahead.answer(line))
             number = found_among(folder, stores, least, seed, runs, done)
             if done.status == 0:
                 wants("all is found at the end", number == len(stores) - 1, number, len(stores))
@@ -191,7 +192,7 @@ def kills():
             sent, answered = send_for(Client(folder, "--checkpoint"), chance)
             ahead, stores, least = store.copy(), [store.copy()], 0
             for number, line in enumerate(sent):
-                if is_logged(ahead.answer(line)):
+                if is_logged(line, ahead.answer(line)):
                     stores.append(ahead.copy())
                     least += number < len(answered)
             wants("the journal after a kill", check(folder).status in (0, 1))
@@ -228,15 +229,16 @@ def damage(folder):
             change(folder, counts, at, text[at])
         change(folder, other, HEAD + 3, 7)
         same_store(folder, store, "damage in the other file isn't seen", counts)
-        choice = journal_of(folder)[CHOICE : CHOICE + 3]
-        for at in range(CHOICE, CHOICE + 3):
-            change(folder, JOURNAL, at, 43 - choice[0])
-            same_store(folder, store, "one of three bytes of the choice is another", counts, at)
-            wants("a start puts it again", journal_of(folder)[CHOICE : CHOICE + 3] == choice, at)
+        selector = journal_of(folder)[SELECTOR : SELECTOR + 3]
+        for at in range(SELECTOR, SELECTOR + 3):
+            change(folder, JOURNAL, at, 43 - selector[0])
+            same_store(folder, store, "one of three bytes of the selector is another", counts, at)
+            now = journal_of(folder)[SELECTOR : SELECTOR + 3]
+            wants("a start puts it again", now == selector, at)
             change(folder, JOURNAL, at, 7)
             done = serve(folder)
-            wants("a byte that is none of a choice is told", done.status == 3, counts, at, done)
-            change(folder, JOURNAL, at, choice[0])
+            wants("a byte that is none of a selector is told", done.status == 3, counts, at, done)
+            change(folder, JOURNAL, at, selector[0])
     done = serve(folder, b"", "--checkpoint")
     wants("a checkpoint over damage", done.status == 0 and TAKEN in done.told, done)
     same_store(folder, store, "it has the store")
@@ -309,6 +311,31 @@ def due(folder):
     wants("all rows are there", lines_told(check(folder).out) >= len(lines))
 
 
+def spares(folder):
+    """A checkpoint of many objects that no row has: it makes each under a spare name."""
+    lines = [line_of(op="ns.add", ns="x"), line_of(op="ns.add", ns="spare")]
+    for it in range(SPARES):
+        digest = "sha256:" + hashlib.sha256(b"%d" % it).hexdigest()
+        of = {"ns": "x", "snapshotter": "s", "key": "spare%d-0" % it}
+        lines += [line_of(op="content.add", ns="x", digest=digest),
+                  line_of(op="snap.prepare", **of),
+                  line_of(op="ingest.begin", ns="x", ref="r", at="2024-03-01T00:00:00Z")]
+        lines += [line_of(op="content.remove", ns="x", digest=digest),
+                  line_of(op="snap.remove", **of), line_of(op="ingest.abort", ns="x", ref="r")]
+    done = serve(folder, b"".join(lines))
+    wants("each line is answered", (done.status, done.out) == (0, DONE * len(lines)), done.status)
+    done = serve(folder, b"", "--checkpoint")
+    wants("a checkpoint of spare rows", done.status == 0 and TAKEN in done.told, done)
+    collected = serve(folder, line_of(op="gc.run", at="2024-03-01T00:00:00Z")).out
+    objects = json.loads(collected)["report"]["backend"]
+    counts = {kind: len(found) for kind, found in objects.items()}
+    wants("the objects are there", set(counts.values()) == {SPARES}, counts)
+    names = [line_of(op="ns.list"), line_of(op="snap.list", ns="x", snapshotter="s")]
+    found = serve(folder, b"".join(names)).out
+    listed = b'{"names":["spare","x"],"ok":true}\n{"names":[],"ok":true}\n'
+    wants("no spare name is a row's", found == listed, found)
+
+
 def little_memory(number):
     """A run with a checkpoint of which one growth is refused. How many growths it had."""
     lines = [line_of(op="ns.add", ns="x"), line_of(op="lease.add", ns="x", id="l"),
@@ -338,7 +365,7 @@ def growths():
 
 
 def all_parts():
-    for part in (alternate, damage, missing, refusals, due):
+    for part in (alternate, damage, missing, refusals, due, spares):
         with tempfile.TemporaryDirectory(prefix="metad-kept-") as folder:
             part(folder)
     growths()

@@ -55,14 +55,14 @@ class Script:
         store = Model()
         self.lines = [line for block in blocks for line in block]
         self.replies = store.answers(self.lines)
-        self.kept = [it for it, reply in zip(self.lines, self.replies) if is_logged(reply)]
+        self.kept = [it for it, reply in zip(self.lines, self.replies) if is_logged(it, reply)]
 
     def behind(self, count):
         """Where a client goes on behind so many lines that are kept."""
-        for at, reply in enumerate(self.replies):
+        for at, (line, reply) in enumerate(zip(self.lines, self.replies)):
             if count == 0:
                 return at
-            count -= is_logged(reply)
+            count -= is_logged(line, reply)
         return len(self.lines)
 
 
@@ -73,7 +73,7 @@ def answered(script, replies):
     for line, reply in zip(script.lines, replies):
         if reply != NO_MEMORY:
             wants("the replies are those of the model", reply == store.answer(line), line, reply)
-            kept += [line] * is_logged(reply)
+            kept += [line] * is_logged(line, reply)
     return kept, kept if NO_MEMORY in replies else script.kept
 
 

@@ -1,4 +1,4 @@
-"""Each byte of a journal changed: that is told, or the last group isn't there."""
+"""Each byte of a journal changed: that is told, or the last group isn't there; pages of noise."""
 import os
 import random
 import shutil
@@ -12,6 +12,8 @@ from stores import (
 wants = Told.wants
 
 FIRST_LINE = 17  # bytes of the head
+FORMAT = 15  # where its number stands in them
+PAGE = 4096
 MARKS = 8  # bytes behind it of which some say how far the file goes
 
 GROUPS = [
@@ -45,7 +47,8 @@ class Worn:
                   and lines_told(done.out) == count, at, done)
         else:
             wants("a changed byte is told", done.status == 3 and b"damage" in done.told
-                  or at < FIRST_LINE and b"first line" in done.told, at, byte, done)
+                  or at < FIRST_LINE and b"first line" in done.told
+                  or at == FORMAT and b"newer metad" in done.told, at, byte, done)
         if at % 9 == 0 and done.status == 3:
             worn = journal_of(self.folder)
             done = serve(self.folder, line_of(op="ns.add", ns="z"))
@@ -86,8 +89,35 @@ def sound_part(folder, place):
         wants("of as many lines", lines_told(check(new).out) == len(lines))
 
 
+def noise():
+    """A page of 0xFF, or of chance, in place of text or behind it is told, and left alone: also at
+    the end, and where it is all that a short journal has."""
+    chance, pages = random.Random(1), 0
+    for count in (1, 300):
+        with tempfile.TemporaryDirectory(prefix="metad-kept-") as folder:
+            for at in range(0, count, 10):
+                numbers = range(at, min(at + 10, count))
+                lines = [line_of(op="ns.add", ns="n%d" % it) for it in numbers]
+                wants("a group", serve(folder, b"".join(lines)).status == 0)
+            path, whole = os.path.join(folder, JOURNAL), journal_of(folder)
+            end = whole.rindex(b"\n") + 1
+            for page in (b"\xff" * PAGE, bytes(chance.randrange(256) for _ in range(PAGE))):
+                for at in (*range(HEAD, end + PAGE, 5000), end - 100, end, len(whole) - PAGE):
+                    text = whole[:at] + page + whole[at + PAGE :]
+                    with open(path, "wb") as file:
+                        file.write(text)
+                    done = check(folder)
+                    wants("noise is told", done.status == 3 and b"damage" in done.told, at, done)
+                    done = serve(folder, line_of(op="ns.add", ns="z"))
+                    wants("a start refuses it", (done.status, done.out) == (3, b""), at, done)
+                    wants("it is left alone", journal_of(folder) == text, at)
+                    pages += 1
+    print("kept: %d pages of noise in journals" % pages)
+
+
 def all_parts():
     """Each byte of the groups, and those of the head that say what the file is."""
+    noise()
     with tempfile.TemporaryDirectory(prefix="metad-kept-") as folder:
         for group in GROUPS:
             wants("a group", serve(folder, b"".join(group)).status == 0)

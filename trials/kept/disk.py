@@ -36,6 +36,11 @@ def addition(number):
     return long_line(LONG, op="lease.add", ns="x", id="l%d" % number)
 
 
+def unused():
+    """Content that a collection removes."""
+    return line_of(op="content.add", ns="x", digest="sha256:" + "a" * 64)
+
+
 def fill(client):
     """Adds until that is refused. How many were added."""
     for number in range(1000):
@@ -51,7 +56,7 @@ def fill(client):
 def full_disk(folder, begins, makes_room):
     """A disk is filled; then all but additions goes on, and additions too once there is room."""
     client = begins()
-    client.ask([line_of(op="ns.add", ns="x")])
+    client.ask([line_of(op="ns.add", ns="x"), unused()])
     added = fill(client)
     wants("additions came first", added > 10, added)
     asked = [line_of(op="lease.get", ns="x", id="l0"), line_of(op="gc.plan", at=WHEN)]
@@ -64,7 +69,7 @@ def full_disk(folder, begins, makes_room):
     done = client.ends()
     wants("such a run ends well", done.status == 0, done)
     wants("it is told once", done.told.count(FULL) == 1, done.told)
-    kept = added + 3
+    kept = added + 4  # a namespace and content before, a removal and a collection behind
     client = begins()
     wants("it starts again", client.ask([line_of(op="lease.get", ns="x", id="l0")])
           == [b'{"fault":2,"name":"NotFound"}\n'])

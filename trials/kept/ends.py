@@ -1,13 +1,17 @@
-"""How runs begin and end: words, folders, two programs, formats, lines at the limit, signals."""
+"""How runs begin and end: words, folders, two programs, formats, lines at the limit, signals,
+modes, and a folder that goes away."""
 import os
 import resource
 import signal
+import shutil
+import stat
 import subprocess
 import tempfile
+import time
 
 from stores import (
-    DONE, HEAD, JOURNAL, KEPT, TOP, WHEN, Client, Model, Told, check, journal_of, line_of,
-    lines_told, logged, probes, run, script_of, serve,
+    DONE, HEAD, JOURNAL, KEPT, SECOND, TOP, WHEN, Client, Model, Told, check, journal_of, line_of,
+    counting, lines_told, logged, probes, run, script_of, serve,
 )
 
 wants = Told.wants
@@ -26,12 +30,15 @@ def words(folder):
     for it in (
         [], ["serve"], ["serve", "--dir"], ["serve", "--dir="], ["serve", "--dir", folder, "x"],
         ["check", "--dir", folder, "--workers=2"], ["script"], ["other", "--dir", folder],
-        ["serve", "--dir", folder, "--dir", folder],
+        ["serve", "--dir", folder, "--dir", folder], ["new"], ["new", "--dir", folder, "--new"],
+        ["serve", "--dir", folder, "--new", "--new"], ["check", "--dir", folder, "--new"],
     ):
         wants("other words end with 2", run([KEPT, *it]).status == 2, it)
     for it in ("0", "17", "x", "-1", ""):
         wants("another number of workers", serve(folder, b"", "--workers", it).status == 2, it)
     wants("no file was made", os.listdir(folder) == [])
+    with open(os.path.join(TOP, "crates/metad_kept/stdout"), "rb") as usage:
+        wants("help prints what the gate compares", run([KEPT, "help"]).out == usage.read())
     wants("16 workers", serve(folder, b"", "--workers=16").status == 0)
 
 
@@ -39,8 +46,8 @@ def folders(folder):
     """Folders in which no journal can be, or isn't."""
     none = os.path.join(folder, "none")
     wants("a folder that isn't there", serve(none).status == 1)
-    wants("no journal to check", run([KEPT, "check", "--dir", folder]).status == 1)
-    wants("no journal to write", run([KEPT, "script", "--dir", folder]).status == 1)
+    for word in ("check", "script", "new"):
+        wants("nor to another word", run([KEPT, word, "--dir", none]).status == 1, word)
     plain = os.path.join(folder, "plain")
     with open(plain, "wb"):
         pass
@@ -73,12 +80,14 @@ def formats(folder):
     """A file of another format is refused and left alone, as is one whose head is damaged."""
     path = os.path.join(folder, JOURNAL)
     for text in (
-        b"#metad journal 2\n" + bytes(8192), b"a page\n" * 2000, b"x", b"\0" * 5000 + b"x",
+        b"#metad journal 2\n" + bytes(8192), b"#metad journal 10" + bytes(8192),
+        b"#metad journal x\n" + bytes(8192), b"a page\n" * 2000, b"x", b"\0" * 5000 + b"x",
     ):
         with open(path, "wb") as file:
             file.write(text)
         for done in (serve(folder), check(folder), run([KEPT, "script", "--dir", folder])):
-            wants("another format", done.status == 3 and b"first line" in done.told, text[:9], done)
+            told = b"newer metad" if text[15:16].isdigit() else b"first line"
+            wants("another format", done.status == 3 and told in done.told, text[:17], done)
         wants("it is left alone", journal_of(folder) == text, text[:20])
     with open(path, "wb") as file:
         file.write(b"another file")
@@ -86,12 +95,103 @@ def formats(folder):
     for word in ("serve", "check", "script"):
         done = run([KEPT, word, "--dir", folder], preexec_fn=little_room)
         wants("a large one isn't read", done.status == 3 and b"first line" in done.told, word, done)
-    for text in (b"", bytes(100), bytes(9000)):
-        with open(path, "wb") as file:
-            file.write(text)
-        wants("an empty journal", lines_told(check(folder).out) == 0, len(text))
-        done = serve(folder, line_of(op="ns.add", ns="x"))
-        wants("it is served", (done.status, done.out) == (0, DONE), len(text), done)
+
+
+def links(folder):
+    """A link in place of the second file, and a file of two names, are refused by their names."""
+    line = line_of(op="ns.add", ns="x")
+    for name in (JOURNAL, SECOND):
+        own = os.path.join(folder, name)
+        os.mkdir(own)
+        serve(own, line)
+        path = os.path.join(own, name)
+        os.link(path, path + ".other")
+        done = serve(own, line)
+        told = path.encode() + b": " in done.told and b"fault 11" in done.told
+        wants("two names are told", (done.status, done.out, told) == (1, b"", True), name, done)
+        os.remove(path + ".other")
+    path = os.path.join(own, SECOND)
+    os.rename(path, path + ".other")
+    os.symlink(path + ".other", path)
+    done = serve(own, line)
+    told = path.encode() + b": " in done.told and b"fault 11" in done.told
+    wants("a link is told", (done.status, done.out, told) == (1, b"", True), done)
+
+
+def nobodys(folder):
+    """A folder without a store, and files of zeros, are nobody's store: a start wants `--new` then.
+    It makes none where one with a line is, and a start that refuses changes nothing."""
+    path = os.path.join(folder, JOURNAL)
+    line = line_of(op="ns.add", ns="x")
+    for text in (None, b"", bytes(100), bytes(9000), b"#metad"):
+        for word in ("serve", "check", "script"):
+            if text is not None:
+                with open(path, "wb") as file:
+                    file.write(text)
+            before = files_of(folder)
+            done = run([KEPT, word, "--dir", folder], line)
+            told = b"no store is there" in done.told and b"--new" in done.told
+            wants("no store is told", (done.status, done.out, told) == (3, b"", True), word, done)
+            wants("it is left alone", files_of(folder).get(JOURNAL) == before.get(JOURNAL), word)
+        wants("no file is made", text is not None or files_of(folder) == {}, text)
+    for number, text in enumerate((None, b"", bytes(100), bytes(9000))):
+        for words in (["new"], ["serve", "--new"]):
+            own = os.path.join(folder, "%d-%s" % (number, words[0]))
+            os.mkdir(own)
+            if text is not None:
+                with open(os.path.join(own, JOURNAL), "wb") as file:
+                    file.write(text)
+            for _ in range(2):
+                done = run([KEPT, *words, "--dir", own])
+                wants("a store is made", (done.status, done.out) == (0, b""), words, text, done)
+                wants("it has no line", lines_told(check(own).out) == 0, words, text)
+            done = run([KEPT, "serve", "--dir", own], line)
+            wants("it is served", (done.status, done.out) == (0, DONE), words, text, done)
+            for more in ([], ["--checkpoint"]):
+                wants("a start", run([KEPT, "serve", "--dir", own, *more]).status == 0)
+                before = files_of(own)
+                for words in (["new"], ["serve", "--new"], ["serve", "--new", "--checkpoint"]):
+                    done = run([KEPT, *words, "--dir", own], line)
+                    told = b"a store with lines is there" in done.told
+                    wants("a store with a line isn't made", (done.status, told) == (3, True), done)
+                    wants("it is left alone", files_of(own) == before, words)
+
+
+def files_of(folder):
+    """What the files of a folder hold, by their names."""
+    names = [it for it in os.listdir(folder) if os.path.isfile(os.path.join(folder, it))]
+    return {it: journal_of(folder, it) for it in names}
+
+
+def parts_of_a_store(folder):
+    """Where the second file counts, a start without it, without the first, or with zeros in their
+    place ends with 3, and changes nothing."""
+    for number, (name, text) in enumerate([
+        (SECOND, None), (SECOND, b""), (JOURNAL, None), (JOURNAL, b""), (JOURNAL, bytes(9000)),
+        (SECOND, "zeros"), (SECOND, "page of zeros"),
+    ]):
+        own = os.path.join(folder, str(number))
+        os.mkdir(own)
+        lines = [line_of(op="ns.add", ns="n%d" % it) for it in range(200)]
+        serve(own, b"".join(lines))
+        serve(own, b"", "--checkpoint")
+        path, whole = os.path.join(own, name), journal_of(own, name)
+        if text is None:
+            os.remove(path)
+        else:
+            if text == "zeros":
+                text = whole[:HEAD] + bytes(len(whole) - HEAD)
+            if text == "page of zeros":
+                text = whole[:HEAD] + bytes(HEAD) + whole[2 * HEAD :]
+            with open(path, "wb") as file:
+                file.write(text)
+        before = files_of(own)
+        for words in (["serve"], ["serve", "--new"], ["new"], ["check"], ["script"]):
+            done = run([KEPT, *words, "--dir", own])
+            wants("a part of a store is told", (done.status, done.out) == (3, b"")
+                  or (done.status == 3 and words[0] in ("check", "script")), number, words, done)
+            after = {it: has for it, has in files_of(own).items() if has or it in before}
+            wants("it is left alone", after == before, number, words)
 
 
 def lines(folder):
@@ -123,6 +223,7 @@ def signals(folder):
 
 def streams(folder):
     """Standard input that can't be read, standard output that can't be written."""
+    serve(folder)
     wants("a reader that fails", run_with(folder, stdin=os.open(folder, os.O_RDONLY)) == 1)
     full = os.open("/dev/full", os.O_WRONLY)
     done = subprocess.run(
@@ -142,6 +243,75 @@ def run_with(folder, stdin):
         ).returncode
     finally:
         os.close(stdin)
+
+
+def modes(folder):
+    """Both files are their owner's alone, whatever the mask of the process; those that are there
+    keep their mode."""
+    for mask in (0, 0o022, 0o077):
+        own = os.path.join(folder, "%o" % mask)
+        os.mkdir(own)
+        serve(own, line_of(op="ns.add", ns="x"), preexec_fn=lambda: os.umask(mask))
+        wants("files for their owner alone", modes_of(own) == [0o600] * 2, mask, modes_of(own))
+    os.chmod(os.path.join(own, JOURNAL), 0o640)
+    wants("a start", serve(own).status == 0)
+    wants("a mode that was given stays", modes_of(own) == [0o640, 0o600], modes_of(own))
+
+
+def modes_of(folder):
+    """The modes of both files."""
+    return [stat.S_IMODE(os.stat(os.path.join(folder, it)).st_mode) for it in (JOURNAL, SECOND)]
+
+
+def gone(folder):
+    """A folder that is removed, moved or replaced, or whose file is, ends the run with 11: at most
+    lines of a second are answered."""
+    line = line_of(op="ns.add", ns="x")
+    for number, (goes, second) in enumerate([
+        (shutil.rmtree, False), (moved, False), (replaced, False), (without_first, False),
+        (shutil.rmtree, True), (replaced, True), (without_first, True), (without_second, True),
+    ]):
+        own = os.path.join(folder, str(number))
+        os.mkdir(own)
+        if second:
+            serve(own, line)
+            serve(own, b"", "--checkpoint")
+            wants("the second file counts", counting(own) == SECOND)
+        client = Client(own)
+        wants("a line", client.ask([line_of(op="ns.add", ns="y")]) == [DONE])
+        goes(own)
+        time.sleep(1.1)
+        wants("no line is answered", client.ask([line_of(op="ns.add", ns="z")]) == [], goes, second)
+        done = client.ends()
+        told = b"was removed, moved or replaced" in done.told and b"fault 11" in done.told
+        wants("the run ends with 11", (done.status, told) == (1, True), goes, second, done)
+    stays = os.path.join(folder, "stays")
+    os.mkdir(stays)
+    client = Client(stays)
+    wants("a line", client.ask([line]) == [DONE])
+    without_second(stays)
+    time.sleep(1.1)
+    wants("the second file isn't missed", client.ask([line_of(op="ns.add", ns="y")]) == [DONE])
+    wants("its end", client.ends().status == 0)
+
+
+def moved(folder):
+    os.rename(folder, folder + ".moved")
+
+
+def replaced(folder):
+    """Another store has the folder's name."""
+    moved(folder)
+    os.mkdir(folder)
+    serve(folder, line_of(op="ns.add", ns="other"))
+
+
+def without_first(folder):
+    os.remove(os.path.join(folder, JOURNAL))
+
+
+def without_second(folder):
+    os.remove(os.path.join(folder, SECOND))
 
 
 def examples(folder):
@@ -206,8 +376,8 @@ def little_memory(folder):
 
 def all_parts():
     """Each of these, in a folder of its own."""
-    parts = (words, folders, locks, formats, lines, signals, streams, examples, unlogged,
-             little_memory)
+    parts = (words, folders, locks, formats, lines, nobodys, parts_of_a_store, links, signals,
+             streams, modes, gone, examples, unlogged, little_memory)
     for part in parts:
         with tempfile.TemporaryDirectory(prefix="metad-kept-") as folder:
             part(folder)

@@ -51,8 +51,8 @@ def killed(folder, store, kept, chance):
     wants("the replies are those of the model", answered == replies[: len(answered)])
     lines, status = script_of(folder)
     wants("the journal after a kill", status == 0)
-    least = [line for line, reply in zip(sent, replies[: len(answered)]) if is_logged(reply)]
-    most = [line for line, reply in zip(sent, replies) if is_logged(reply)]
+    least = [line for line, reply in zip(sent, replies[: len(answered)]) if is_logged(line, reply)]
+    most = [line for line, reply in zip(sent, replies) if is_logged(line, reply)]
     new = lines[len(kept) :]
     wants("lines from before a kill are there", lines[: len(kept)] == kept)
     wants("each answered line is found", new[: len(least)] == least, len(new), len(least))

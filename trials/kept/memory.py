@@ -92,7 +92,7 @@ def refused(number):
             if not reply.startswith((b'{"fault":7', b'{"fault":8')):
                 wants("the others are answered as without the refused line",
                       reply == store.answer(line), number, reply)
-                kept += is_logged(reply)
+                kept += is_logged(line, reply)
         wants("a run goes on, or says that memory is missing", done.status == 0
               and len(replies) == len(SCRIPT) - 1 or b"fault 7" in done.told, number, done)
         lines, status = script_of(folder)

@@ -85,7 +85,7 @@ def beside_sqlite(top, lines):
     rows += ["insert into content values('x', '%s');" % line.decode().split('"')[-2]
              for line in lines[1:]]
     with tempfile.TemporaryDirectory(dir=top) as folder:
-        ahead = clock([KEPT, "serve", "--dir", folder], b"".join(lines))
+        ahead = clock([KEPT, "serve", "--new", "--dir", folder], b"".join(lines))
     with tempfile.TemporaryDirectory(dir=top) as folder:
         client = Client(folder)
         waiting = waits(client, lines)
@@ -99,7 +99,8 @@ def turn(top, lines, few):
     """The seconds of one turn: run and serve ahead, run and serve waiting, and a start."""
     script = b"".join(lines)
     with tempfile.TemporaryDirectory(dir=top) as folder:
-        ahead = seconds([METAD, "run"], script), seconds([KEPT, "serve", "--dir", folder], script)
+        words = [KEPT, "serve", "--new", "--dir", folder]
+        ahead = seconds([METAD, "run"], script), seconds(words, script)
         start = seconds([KEPT, "serve", "--dir", folder], b"")
     plain = run_client()
     alone = waits(plain, few)
@@ -116,7 +117,7 @@ def renewed(top, script):
     and of the one after it."""
     with tempfile.TemporaryDirectory(dir=top) as folder:
         serve = [KEPT, "serve", "--dir", folder]
-        seconds(serve, script)
+        seconds([*serve, "--new"], script)
         before = seconds(serve, b"")
         return before, seconds([*serve, "--checkpoint"], b""), seconds(serve, b"")
 
@@ -128,7 +129,7 @@ def waited(top, count):
     with tempfile.TemporaryDirectory(dir=top) as folder:
         serve = [KEPT, "serve", "--dir", folder]
         run = seconds([METAD, "run"], script)
-        seconds(serve, script)
+        seconds([*serve, "--new"], script)
         before = seconds(serve, b"")
         return seconds([*serve, "--checkpoint"], b"") - before, run
 

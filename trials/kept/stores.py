@@ -17,7 +17,7 @@ REFUSE = os.environ.get("REFUSING", "")
 JOURNAL = "metad.journal"
 SECOND = "metad.journal-wal"  # the other file of a store
 HEAD = 4096  # where the first line stands in a file
-CHOICE = 4091  # where the first file's head says in three bytes which one counts
+SELECTOR = 4091  # where the first file's head says in three bytes which one counts
 NAMESPACES = ("x", "y")
 WHEN = "2030-01-01T00:00:00Z"
 DONE = b'{"ok":true}\n'
@@ -48,7 +48,19 @@ def run(words, script=b"", **more):
     return Ended(done.returncode, done.stdout, done.stderr)
 
 
+def new_where_none_is(folder):
+    """`--new` for a folder that has no store: no head is whole in its first file."""
+    try:
+        with open(os.path.join(folder, JOURNAL), "rb") as file:
+            head = file.read(HEAD)
+    except OSError:
+        head = b""
+    return [] if len(head) == HEAD and head.endswith(b"\n") else ["--new"]
+
+
 def serve(folder, script=b"", *words, **more):
+    """A run over a store, which it makes where none is."""
+    words = [*words, *new_where_none_is(folder)]
     return run([KEPT, "serve", "--dir", folder, *words], script, **more)
 
 
@@ -69,7 +81,7 @@ def journal_of(folder, name=JOURNAL):
 
 def counting(folder):
     """The name of the file that counts."""
-    return SECOND if journal_of(folder)[CHOICE : CHOICE + 3].count(b"+") > 1 else JOURNAL
+    return SECOND if journal_of(folder)[SELECTOR : SELECTOR + 3].count(b"+") > 1 else JOURNAL
 
 
 def lines_told(told):
@@ -140,6 +152,10 @@ def any_line(chance):
 # ---- what a store answers
 
 
+# what ops that change nothing end in
+QUESTIONS = ("get", "list", "resources", "snapshotters", "explain", "impact")
+
+
 class Model:
     """A store that docs/FORMATS.md and docs/RULES.md describe: trials/scripts/model.py."""
 
@@ -168,22 +184,29 @@ class Model:
             if line.startswith(b"number "):
                 self.store.used = max(self.store.used, int(line.split()[1]) - 1)
             else:
-                changes = is_logged(self.answer(line))
+                changes = is_logged(line, self.answer(line))
                 Told.wants("a line of a journal changes the store", changes, line)
         return self
 
 
-def is_logged(reply):
-    """Whether the line of this reply stands in the journal."""
-    if reply == DONE:
-        return True
-    return reply.startswith(b'{"ok":true,"report"') and not json.loads(reply)["report"]["dry"]
+def is_logged(line, reply):
+    """Whether a line that has this reply is in the journal: a line that isn't refused and may change
+    the store. A collection without effect isn't."""
+    told = json.loads(reply) if reply.startswith(b'{"') else {}
+    if told.get("ok") is not True:
+        return False
+    if "report" not in told:
+        return json.loads(line)["op"].rpartition(".")[2] not in QUESTIONS
+    report = told["report"]
+    lists = (report["removed"], report["backend"], report["failed"])
+    has_effect = any(any(rows) for it in lists for rows in it.values())
+    return not report["dry"] and (has_effect or b'"sync"' in line)
 
 
 def logged(lines):
     """Those of a script's lines that change an empty store, in order."""
     store = Model()
-    return [line for line in lines if is_logged(store.answer(line))]
+    return [line for line in lines if is_logged(line, store.answer(line))]
 
 
 # ---- a client that waits
@@ -194,7 +217,7 @@ class Client:
 
     def __init__(self, folder, *words, **more):
         self.run = subprocess.Popen(
-            [KEPT, "serve", "--dir", folder, *words],
+            [KEPT, "serve", "--dir", folder, *words, *new_where_none_is(folder)],
             stdin=subprocess.PIPE,
             stdout=subprocess.PIPE,
             stderr=subprocess.PIPE,

@@ -13,7 +13,7 @@ import sys
 
 LONGEST_LINE = 65536
 DEEPEST = 127
-MOST_LABELS, LONGEST_LABEL = 256, 4096
+MOST_LABELS, LONGEST_LABEL, LONGEST_DATA = 256, 4096, 49152
 LAST_NUMBER, MOST_NODES = 4000000000, 16777216
 DAY = 86400 * 10**9
 DONE = '{"ok":true}'
@@ -31,6 +31,15 @@ ROOT, EXPIRE, FLAT = "containerd.io/gc.root", "containerd.io/gc.expire", "contai
 CONTENT_KEY = re.compile(r"containerd\.io/gc\.ref\.content(?:[./].*)?", re.DOTALL)
 HALF_A_PAIR = re.compile("[\ud800-\udfff]")
 SNAPSHOT_KEY = re.compile(r"containerd\.io/gc\.ref\.snapshot\.([^/]*)(?:/.*)?", re.DOTALL)
+
+
+KIND_OF = {"image": "images", "container": "containers", "lease": "leases"}
+KIND_OF |= {"ingest": "ingests", "content": "content", "snap": "snapshots"}
+NAMED_BY = {"images": "name", "containers": "name", "leases": "id", "content": "digest"}
+NAMED_BY |= {"snapshots": "key"}
+SHOWN = {"images": ("target", "labels"), "containers": ("snapshot", "labels")}
+SHOWN |= {"content": ("labels",), "leases": ("labels",)}
+SHOWN |= {"snapshots": ("kind", "labels", "number", "parent")}
 
 
 def text_of(value):
@@ -98,38 +107,45 @@ MEMBERS = {
     "ns.add": ("ns", ""),
     "ns.remove": ("ns", ""),
     "ns.list": ("", ""),
-    "image.add": ("ns name target", "labels"),
-    "image.target": ("ns name target", ""),
-    "image.get": ("ns name", ""),
-    "image.label": ("ns name key value", ""),
-    "image.list": ("ns", ""),
+    "image.add": ("ns name target", "labels data answer"),
+    "image.target": ("ns name target", "answer"),
+    "image.set": ("ns name", "target labels put data answer"),
+    "image.get": ("ns name", "answer"),
+    "image.label": ("ns name key value", "answer"),
+    "image.list": ("ns", "answer"),
     "image.remove": ("ns name", "sync"),
-    "container.add": ("ns name", "snapshotter key labels"),
-    "container.get": ("ns name", ""),
-    "container.label": ("ns name key value", ""),
-    "container.list": ("ns", ""),
+    "container.add": ("ns name", "snapshotter key labels data answer"),
+    "container.set": ("ns name", "snapshotter key labels put data answer"),
+    "container.get": ("ns name", "answer"),
+    "container.label": ("ns name key value", "answer"),
+    "container.list": ("ns", "answer"),
     "container.remove": ("ns name", ""),
-    "content.add": ("ns digest", "labels lease"),
-    "content.get": ("ns digest", ""),
-    "content.label": ("ns digest key value", ""),
-    "content.list": ("ns", ""),
-    "content.remove": ("ns digest", ""),
-    "ingest.begin": ("ns ref at", "expected lease"),
-    "ingest.get": ("ns ref", ""),
-    "ingest.list": ("ns", ""),
-    "ingest.commit": ("ns ref digest", "labels lease"),
-    "ingest.abort": ("ns ref", ""),
-    "snap.prepare": ("ns snapshotter key", "parent labels lease"),
-    "snap.view": ("ns snapshotter key", "parent labels lease"),
-    "snap.commit": ("ns snapshotter key name", "labels lease"),
-    "snap.get": ("ns snapshotter key", ""),
-    "snap.label": ("ns snapshotter name key value", ""),
-    "snap.list": ("ns snapshotter", ""),
-    "snap.remove": ("ns snapshotter key", ""),
-    "lease.add": ("ns id", "labels"),
-    "lease.get": ("ns id", ""),
-    "lease.label": ("ns id key value", ""),
-    "lease.list": ("ns", ""),
+    "content.add": ("ns digest", "labels data lease there answer"),
+    "content.set": ("ns digest", "labels put data answer"),
+    "content.get": ("ns digest", "answer"),
+    "content.label": ("ns digest key value", "answer"),
+    "content.list": ("ns", "answer"),
+    "content.remove": ("ns digest", "drop"),
+    "ingest.begin": ("ns ref at", "expected data lease answer"),
+    "ingest.open": ("ns ref at", "expected data lease answer"),
+    "ingest.get": ("ns ref", "answer"),
+    "ingest.list": ("ns", "answer"),
+    "ingest.commit": ("ns ref digest", "labels data lease drop there answer"),
+    "ingest.abort": ("ns ref", "drop"),
+    "snap.prepare": ("ns snapshotter key", "parent labels data lease there answer"),
+    "snap.view": ("ns snapshotter key", "parent labels data lease there answer"),
+    "snap.commit": ("ns snapshotter key name", "labels data lease drop there answer"),
+    "snap.set": ("ns snapshotter key", "labels put data answer"),
+    "snap.get": ("ns snapshotter key", "answer"),
+    "snap.label": ("ns snapshotter name key value", "answer"),
+    "snap.list": ("ns snapshotter", "answer"),
+    "snap.snapshotters": ("ns", ""),
+    "snap.remove": ("ns snapshotter key", "drop"),
+    "lease.add": ("ns id", "labels data answer"),
+    "lease.set": ("ns id", "labels put data answer"),
+    "lease.get": ("ns id", "answer"),
+    "lease.label": ("ns id key value", "answer"),
+    "lease.list": ("ns", "answer"),
     "lease.hold": ("ns id type resource", ""),
     "lease.drop": ("ns id type resource", ""),
     "lease.resources": ("ns id", ""),
@@ -137,6 +153,7 @@ MEMBERS = {
     "gc.run": ("at", ""),
     "gc.plan": ("at", ""),
     "profile": ("v", ""),
+    "back.list": ("", ""),
     "gc.explain": ("ns type resource at", ""),
     "gc.impact": ("ns type resource at", ""),
 }
@@ -162,7 +179,7 @@ def request_of(line):
         if name == "v":
             if type(it) is not Number or not it.isdigit() or int(it) >= 2**64:
                 raise ValueError("no whole number")
-        elif name == "labels":
+        elif name in ("labels", "put"):
             if type(it) is not dict or any(type(text) is not str for text in it.values()):
                 raise ValueError("no object of texts")
         elif type(it) is not str:
@@ -192,6 +209,11 @@ def is_name(text):
 
 def is_digest(text):
     return DIGEST.fullmatch(text) is not None
+
+
+def is_data(text):
+    """Whether a text has at most so many bytes as JSON writes them, quotes apart."""
+    return len(text_of(text).encode()) - 2 <= LONGEST_DATA
 
 
 def is_label(key, value):
@@ -284,12 +306,67 @@ class Store:
             op, members = request_of(line)
         except ValueError:
             return text_of({"fault": 5, "name": FAULTS[5]})
+        words = {it: members.pop(it) for it in ("answer", "there") if it in members}
         try:
-            found = getattr(self, "op_" + op.replace(".", "_"))(**members)
+            found = self.answer_with(op, members, **words)
         except Refused as refused:
             least = min(refused.args[0])
             return text_of({"fault": least, "name": FAULTS[least]})
         return DONE if found is None else text_of({"ok": True, **found})
+
+    def answer_with(self, op, members, answer=None, there=None):
+        """What an op answers, with the row or the rows that `answer` asks for; what `there` is to
+        hold is held, where it is there already."""
+        word = "rows" if op.endswith(".list") else "row"
+        self.wants(
+            wrong=answer not in (None, word)
+            or there not in (None, "hold")
+            or (there is not None and "lease" not in members)
+        )
+        told = {}
+        try:
+            found = getattr(self, "op_" + op.replace(".", "_"))(**members)
+        except Refused as refused:
+            if there is None or min(refused.args[0]) != 3:
+                raise
+            found, told = None, {"there": True}
+            kind, row = self.row_named(op, **members)
+            self.hold(row[0], members["lease"], "/".join((kind, *row[1:-1])), row[-1])
+        if answer == "rows":
+            kind = KIND_OF[op.partition(".")[0]]
+            group = (members["ns"], *(members[it] for it in ("snapshotter",) if it in members))
+            rows = sorted(row for row in getattr(self, kind) if row[:-1] == group)
+            return {"rows": [self.shown(kind, row, True) for row in rows]}
+        if answer == "row":
+            told["row"] = self.shown(*self.row_named(op, **members), True)
+        return told or found
+
+    @staticmethod
+    def row_named(op, ns, snapshotter=None, key=None, **of):
+        """The table and the key of the row that an op makes, changes or gets."""
+        kind = KIND_OF[op.partition(".")[0]]
+        if kind == "snapshots":
+            return kind, (ns, snapshotter, of.get("name", key))
+        if op == "ingest.commit":
+            return "content", (ns, of["digest"])
+        return kind, (ns, next(of[it] for it in ("digest", "ref", "id", "name") if it in of))
+
+    def shown(self, kind, row, is_answer=False):
+        """A row, as a reply has it; its data where there is some."""
+        it = getattr(self, kind)[row]
+        told = {"data": it["data"]} if it["data"] else {}
+        if kind == "ingests":
+            told |= {
+                "ref": row[-1],
+                "number": it["number"],
+                "expected": it["expected"],
+                "own": it["end"] is not None,
+            }
+            return told
+        told |= {NAMED_BY[kind]: row[-1], **{of: it[of] for of in SHOWN[kind]}}
+        if is_answer and kind == "snapshots" and it["parent"] is not None:
+            told["parent_number"] = self.snapshots[(*row[:-1], it["parent"])]["number"]
+        return told
 
     def wants(self, **of):
         """Refuses a request to which faults apply: each is told by whether it does."""
@@ -307,6 +384,39 @@ class Store:
     @staticmethod
     def kept_labels(labels):
         return {key: value for key, value in (labels or {}).items() if value != ""}
+
+    @staticmethod
+    def wrong_data(data):
+        return data is not None and not is_data(data)
+
+    def set_row(self, table, row, is_wrong, labels=None, put=None, data=None, **own):
+        """Replaces what is given of a row: its labels or some of them, its data, and its own."""
+        found = table.get(row)
+        kept = dict(found["labels"]) if found else {}
+        if labels is not None:
+            kept = self.kept_labels(labels)
+        for key, value in (put or {}).items():
+            if value == "":
+                kept.pop(key, None)
+        kept |= self.kept_labels(put)
+        is_wrong = (
+            is_wrong
+            or not is_short_name(row[0])
+            or (labels is not None and put is not None)
+            or self.wrong_labels(labels)
+            or not all(is_label(*it) for it in self.kept_labels(put).items())
+            or len(kept) > MOST_LABELS
+            or self.wrong_data(data)
+        )
+        self.wants(wrong=is_wrong, absent=found is None or self.is_absent(row[0]))
+        found["labels"] = kept
+        found |= {} if data is None else {"data": data}
+        found |= {of: it for of, it in own.items() if it is not None}
+
+    def drop(self, ns, lease, kind, name):
+        """That lease drops what goes, if there is such a lease and it holds it."""
+        if (ns, lease) in self.leases:
+            self.leases[ns, lease]["resources"].discard((kind, name))
 
     def is_absent(self, ns, lease=None):
         return ns not in self.namespaces or (lease is not None and (ns, lease) not in self.leases)
@@ -365,15 +475,24 @@ class Store:
 
     # ---- images
 
-    def op_image_add(self, ns, name, target, labels=None):
+    def op_image_add(self, ns, name, target, labels=None, data=None):
         is_wrong = (
             not is_short_name(ns)
             or not is_name(name)
             or not is_digest(target)
             or self.wrong_labels(labels)
+            or self.wrong_data(data)
         )
         self.wants(wrong=is_wrong, absent=self.is_absent(ns), there=(ns, name) in self.images)
-        self.images[ns, name] = {"target": target, "labels": self.kept_labels(labels)}
+        self.images[ns, name] = {
+            "target": target,
+            "labels": self.kept_labels(labels),
+            "data": data or "",
+        }
+
+    def op_image_set(self, ns, name, target=None, **of):
+        is_wrong = not is_name(name) or (target is not None and not is_digest(target))
+        self.set_row(self.images, (ns, name), is_wrong, target=target, **of)
 
     def op_image_target(self, ns, name, target):
         self.find(self.images, (ns, name), not is_name(name) or not is_digest(target))[
@@ -381,7 +500,8 @@ class Store:
         ] = target
 
     def op_image_get(self, ns, name):
-        return {"row": {"name": name, **self.find(self.images, (ns, name), not is_name(name))}}
+        self.find(self.images, (ns, name), not is_name(name))
+        return {"row": self.shown("images", (ns, name))}
 
     def op_image_label(self, ns, name, key, value):
         self.put_label(self.images, (ns, name), not is_name(name), key, value)
@@ -405,23 +525,36 @@ class Store:
 
     # ---- containers
 
-    def op_container_add(self, ns, name, snapshotter=None, key=None, labels=None):
+    @staticmethod
+    def wrong_snapshot(snapshotter, key):
+        """Whether one of them stands alone, or both don't name a snapshot."""
+        if snapshotter is None or key is None:
+            return (snapshotter is None) != (key is None)
+        return not is_short_name(snapshotter) or not is_name(key)
+
+    def op_container_add(self, ns, name, snapshotter=None, key=None, labels=None, data=None):
         is_wrong = (
             not is_short_name(ns)
             or not is_name(name)
-            or (snapshotter is None) != (key is None)
+            or self.wrong_snapshot(snapshotter, key)
             or self.wrong_labels(labels)
+            or self.wrong_data(data)
         )
-        if snapshotter is not None and key is not None:
-            is_wrong = is_wrong or not is_short_name(snapshotter) or not is_name(key)
         self.wants(wrong=is_wrong, absent=self.is_absent(ns), there=(ns, name) in self.containers)
         self.containers[ns, name] = {
             "snapshot": None if key is None else [snapshotter, key],
             "labels": self.kept_labels(labels),
+            "data": data or "",
         }
 
+    def op_container_set(self, ns, name, snapshotter=None, key=None, **of):
+        is_wrong = not is_name(name) or self.wrong_snapshot(snapshotter, key)
+        snapshot = None if key is None else [snapshotter, key]
+        self.set_row(self.containers, (ns, name), is_wrong, snapshot=snapshot, **of)
+
     def op_container_get(self, ns, name):
-        return {"row": {"name": name, **self.find(self.containers, (ns, name), not is_name(name))}}
+        self.find(self.containers, (ns, name), not is_name(name))
+        return {"row": self.shown("containers", (ns, name))}
 
     def op_container_label(self, ns, name, key, value):
         self.put_label(self.containers, (ns, name), not is_name(name), key, value)
@@ -438,30 +571,30 @@ class Store:
     def wrong_lease(self, lease):
         return lease is not None and not is_name(lease)
 
-    def op_content_add(self, ns, digest, labels=None, lease=None):
+    def op_content_add(self, ns, digest, labels=None, data=None, lease=None):
         is_wrong = (
             not is_short_name(ns)
             or not is_digest(digest)
             or self.wrong_labels(labels)
+            or self.wrong_data(data)
             or self.wrong_lease(lease)
         )
         self.wants(
             wrong=is_wrong, absent=self.is_absent(ns, lease), there=(ns, digest) in self.content
         )
-        self.put_content(ns, digest, labels, lease)
+        self.put_content(ns, digest, labels, data, lease)
 
-    def put_content(self, ns, digest, labels, lease):
-        self.content[ns, digest] = {"labels": self.kept_labels(labels)}
+    def put_content(self, ns, digest, labels, data, lease):
+        self.content[ns, digest] = {"labels": self.kept_labels(labels), "data": data or ""}
         self.blobs.add(digest)
         self.hold(ns, lease, "content", digest)
 
+    def op_content_set(self, ns, digest, **of):
+        self.set_row(self.content, (ns, digest), not is_digest(digest), **of)
+
     def op_content_get(self, ns, digest):
-        return {
-            "row": {
-                "digest": digest,
-                **self.find(self.content, (ns, digest), not is_digest(digest)),
-            }
-        }
+        self.find(self.content, (ns, digest), not is_digest(digest))
+        return {"row": self.shown("content", (ns, digest))}
 
     def op_content_label(self, ns, digest, key, value):
         self.put_label(self.content, (ns, digest), not is_digest(digest), key, value)
@@ -469,9 +602,10 @@ class Store:
     def op_content_list(self, ns):
         return self.listing(self.content, ns)
 
-    def op_content_remove(self, ns, digest):
-        self.find(self.content, (ns, digest), not is_digest(digest))
+    def op_content_remove(self, ns, digest, drop=None):
+        self.find(self.content, (ns, digest), not is_digest(digest) or self.wrong_lease(drop))
         del self.content[ns, digest]
+        self.drop(ns, drop, "content", digest)
 
     # ---- ingests
 
@@ -479,13 +613,19 @@ class Store:
         self.used += 1
         return self.used
 
-    def op_ingest_begin(self, ns, ref, at, expected=None, lease=None):
-        begin = moment_of(at)
-        is_wrong = (
-            not is_short_name(ns) or not is_name(ref) or begin is None or self.wrong_lease(lease)
+    def wrong_begin(self, ns, ref, at, expected, data, lease):
+        return (
+            not is_short_name(ns)
+            or not is_name(ref)
+            or moment_of(at) is None
+            or (expected is not None and not is_digest(expected))
+            or self.wrong_data(data)
+            or self.wrong_lease(lease)
         )
+
+    def op_ingest_begin(self, ns, ref, at, expected=None, data=None, lease=None):
         self.wants(
-            wrong=is_wrong or (expected is not None and not is_digest(expected)),
+            wrong=self.wrong_begin(ns, ref, at, expected, data, lease),
             absent=self.is_absent(ns, lease),
             there=(ns, ref) in self.ingests,
             forbidden=self.used == LAST_NUMBER,
@@ -494,33 +634,42 @@ class Store:
         self.ingests[ns, ref] = {
             "number": number,
             "expected": expected,
-            "end": begin + DAY if lease is None else None,
+            "end": moment_of(at) + DAY if lease is None else None,
+            "data": data or "",
         }
         self.begun.add(number)
         self.hold(ns, lease, "ingests", ref)
 
+    def op_ingest_open(self, ns, ref, at, expected=None, data=None, lease=None):
+        found = self.ingests.get((ns, ref))
+        if found is None:
+            return self.op_ingest_begin(ns, ref, at, expected, data, lease)
+        self.wants(
+            wrong=self.wrong_begin(ns, ref, at, expected, data, lease),
+            absent=self.is_absent(ns, lease),
+            forbidden=expected not in (None, found["expected"]),
+        )
+        if lease is None and found["end"] is not None:
+            found["end"] = max(found["end"], moment_of(at) + DAY)
+        self.hold(ns, lease, "ingests", ref)
+
     def op_ingest_get(self, ns, ref):
-        found = self.find(self.ingests, (ns, ref), not is_name(ref))
-        return {
-            "row": {
-                "ref": ref,
-                "number": found["number"],
-                "expected": found["expected"],
-                "own": found["end"] is not None,
-            }
-        }
+        self.find(self.ingests, (ns, ref), not is_name(ref))
+        return {"row": self.shown("ingests", (ns, ref))}
 
     def op_ingest_list(self, ns):
         return self.listing(self.ingests, ns)
 
-    def op_ingest_commit(self, ns, ref, digest, labels=None, lease=None):
+    def op_ingest_commit(self, ns, ref, digest, labels=None, data=None, lease=None, drop=None):
         found = self.ingests.get((ns, ref))
         is_wrong = (
             not is_short_name(ns)
             or not is_name(ref)
             or not is_digest(digest)
             or self.wrong_labels(labels)
+            or self.wrong_data(data)
             or self.wrong_lease(lease)
+            or self.wrong_lease(drop)
         )
         self.wants(
             wrong=is_wrong,
@@ -529,20 +678,25 @@ class Store:
             forbidden=found is not None and found["expected"] not in (None, digest),
         )
         del self.ingests[ns, ref]
-        self.put_content(ns, digest, labels, lease)
+        self.drop(ns, drop, "ingests", ref)
+        self.put_content(ns, digest, labels, data, lease)
 
-    def op_ingest_abort(self, ns, ref):
-        self.find(self.ingests, (ns, ref), not is_name(ref))
+    def op_ingest_abort(self, ns, ref, drop=None):
+        self.find(self.ingests, (ns, ref), not is_name(ref) or self.wrong_lease(drop))
         del self.ingests[ns, ref]
+        self.drop(ns, drop, "ingests", ref)
 
     # ---- snapshots
 
-    def make_snapshot(self, kind, ns, snapshotter, key, parent, labels, lease):
+    def make_snapshot(
+        self, kind, ns, snapshotter, key, parent=None, labels=None, data=None, lease=None
+    ):
         is_wrong = not is_short_name(ns) or not is_short_name(snapshotter) or not is_name(key)
         is_wrong = (
             is_wrong
             or (parent is not None and not is_name(parent))
             or self.wrong_labels(labels)
+            or self.wrong_data(data)
             or self.wrong_lease(lease)
         )
         above = self.snapshots.get((ns, snapshotter, parent))
@@ -559,23 +713,28 @@ class Store:
             "parent": parent,
             "number": number,
             "labels": self.kept_labels(labels),
+            "data": data or "",
         }
         self.objects[snapshotter, number] = above["number"] if above else None
         self.hold(ns, lease, "snapshots/" + snapshotter, key)
 
-    def op_snap_prepare(self, ns, snapshotter, key, parent=None, labels=None, lease=None):
-        self.make_snapshot("active", ns, snapshotter, key, parent, labels, lease)
+    def op_snap_prepare(self, **of):
+        self.make_snapshot("active", **of)
 
-    def op_snap_view(self, ns, snapshotter, key, parent=None, labels=None, lease=None):
-        self.make_snapshot("view", ns, snapshotter, key, parent, labels, lease)
+    def op_snap_view(self, **of):
+        self.make_snapshot("view", **of)
 
-    def op_snap_commit(self, ns, snapshotter, key, name, labels=None, lease=None):
+    def op_snap_commit(
+        self, ns, snapshotter, key, name, labels=None, data=None, lease=None, drop=None
+    ):
         found = self.snapshots.get((ns, snapshotter, key))
         is_wrong = (
             not is_short_name(ns)
             or not is_short_name(snapshotter)
             or not is_name(key)
             or not is_name(name)
+            or self.wrong_data(data)
+            or self.wrong_lease(drop)
         )
         self.wants(
             wrong=is_wrong or self.wrong_labels(labels) or self.wrong_lease(lease),
@@ -588,7 +747,9 @@ class Store:
             **found,
             "kind": "committed",
             "labels": self.kept_labels(labels),
+            "data": data or "",
         }
+        self.drop(ns, drop, "snapshots/" + snapshotter, key)
         self.hold(ns, lease, "snapshots/" + snapshotter, name)
 
     def find_snapshot(self, ns, snapshotter, key):
@@ -599,7 +760,16 @@ class Store:
         )
 
     def op_snap_get(self, ns, snapshotter, key):
-        return {"row": {"key": key, **self.find_snapshot(ns, snapshotter, key)}}
+        self.find_snapshot(ns, snapshotter, key)
+        return {"row": self.shown("snapshots", (ns, snapshotter, key))}
+
+    def op_snap_set(self, ns, snapshotter, key, **of):
+        is_wrong = not is_short_name(snapshotter) or not is_name(key)
+        self.set_row(self.snapshots, (ns, snapshotter, key), is_wrong, **of)
+
+    def op_snap_snapshotters(self, ns):
+        self.wants(wrong=not is_short_name(ns), absent=self.is_absent(ns))
+        return {"names": sorted({row[1] for row in self.snapshots if row[0] == ns})}
 
     def op_snap_label(self, ns, snapshotter, name, key, value):
         self.put_label(
@@ -619,25 +789,36 @@ class Store:
             for row, it in self.snapshots.items()
         )
 
-    def op_snap_remove(self, ns, snapshotter, key):
+    def op_snap_remove(self, ns, snapshotter, key, drop=None):
+        self.wants(wrong=self.wrong_lease(drop))
         self.find_snapshot(ns, snapshotter, key)
         self.wants(forbidden=self.has_children(ns, snapshotter, key))
         del self.snapshots[ns, snapshotter, key]
+        self.drop(ns, drop, "snapshots/" + snapshotter, key)
 
     # ---- leases
 
-    def op_lease_add(self, ns, id, labels=None):
+    def op_lease_add(self, ns, id, labels=None, data=None):
         self.wants(
-            wrong=not is_short_name(ns) or not is_name(id) or self.wrong_labels(labels),
+            wrong=not is_short_name(ns)
+            or not is_name(id)
+            or self.wrong_labels(labels)
+            or self.wrong_data(data),
             absent=self.is_absent(ns),
             there=(ns, id) in self.leases,
         )
-        self.leases[ns, id] = {"labels": self.kept_labels(labels), "resources": set()}
+        self.leases[ns, id] = {
+            "labels": self.kept_labels(labels),
+            "data": data or "",
+            "resources": set(),
+        }
+
+    def op_lease_set(self, ns, id, **of):
+        self.set_row(self.leases, (ns, id), not is_name(id), **of)
 
     def op_lease_get(self, ns, id):
-        return {
-            "row": {"id": id, "labels": self.find(self.leases, (ns, id), not is_name(id))["labels"]}
-        }
+        self.find(self.leases, (ns, id), not is_name(id))
+        return {"row": self.shown("leases", (ns, id))}
 
     def op_lease_label(self, ns, id, key, value):
         self.put_label(self.leases, (ns, id), not is_name(id), key, value)
@@ -852,6 +1033,15 @@ class Store:
         self.profile = int(v)
 
     # ---- questions
+
+    def op_back_list(self):
+        return {
+            "backend": {
+                "blobs": sorted(self.blobs),
+                "ingests": sorted(self.begun),
+                "snapshots": sorted(self.objects),
+            }
+        }
 
     def asked_row(self, ns, kind, name, at):
         """The table and the key of the row that a question names."""

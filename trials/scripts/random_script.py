@@ -181,6 +181,13 @@ TYPES = {
     "lease": "leases",
 }
 REMEMBERED = 9
+# ops that make, change or get one row, that make one under a lease, and by which a lease may lose
+# one
+ONE_ROW = ("add", "set", "get", "label", "target", "begin", "open", "prepare", "view", "commit")
+HOLDING = ("content.add", "ingest.commit", "snap.prepare", "snap.view", "snap.commit")
+DROPPING = ("content.remove", "ingest.commit", "ingest.abort", "snap.commit", "snap.remove")
+ODD = "\x00\x1f\b\t\n\f\r\"\\/\x7f\u2028\u00e9\U0001f433"
+DATA = ("", "t", '{"size":7}', ODD)
 
 
 class Script:
@@ -321,9 +328,33 @@ class Script:
 
     # ---- lines
 
+    def data(self):
+        """A text of a row, which no collection reads."""
+        if self.is_so(0.004):
+            return self.random.choice(("d" * 49152, "d" * 49153, '"' * 24576, '"' * 24577))
+        return self.random.choice(DATA)
+
+    def words(self, op, members):
+        """What a line may have beside an op's own members: its row's data, words that ask for rows
+        in its reply or for its lease to hold what exists, and a lease that loses the object."""
+        kind, _, verb = op.partition(".")
+        found, wrong = {}, self.is_so(self.wrong)
+        if kind in ROWS and verb in ONE_ROW:
+            found |= self.maybe(0.12, answer="rows" if wrong else "row")
+            if verb not in ("get", "label", "target"):
+                found |= self.maybe(0.2, data=self.data())
+        elif verb == "list":
+            found |= self.maybe(0.3, answer="row" if wrong else "rows")
+        if op in HOLDING:
+            share = 0.25 if "lease" in members else 0.02
+            found |= self.maybe(share, there="x" if wrong else "hold")
+        if op in DROPPING:
+            found |= {"drop": it for it in self.lease(members["ns"]).values()}
+        return found
+
     def ask(self, op, **members):
         """Asks for an op, or spoils its line; tells whether it is done."""
-        members = {"op": op, **members}
+        members = {"op": op, **members, **self.words(op, members)}
         text = json.dumps(members, ensure_ascii=self.is_so(0.5), separators=(",", ":"))
         line = text.encode()
         if self.is_so(self.hostile):
@@ -400,6 +431,11 @@ class Script:
                     "v",
                     "key",
                     "snapshotter",
+                    "data",
+                    "put",
+                    "answer",
+                    "there",
+                    "drop",
                 )
             )
             pairs.append((json.dumps(name), self.random.choice(VALUES)))
@@ -444,10 +480,12 @@ class Script:
                 self.ask("content.label", **row, **self.reference())
         elif kind < 32:
             row = of | {"ref": self.name()}
+            if self.rows["ingest"] and self.is_so(0.3):
+                row = dict(self.random.choice(self.rows["ingest"]))
             self.add(
                 "ingest",
                 row,
-                "ingest.begin",
+                "ingest.open" if self.is_so(0.4) else "ingest.begin",
                 at=self.time(),
                 **self.maybe(0.4, expected=self.digest()),
                 **self.lease(row["ns"]),
@@ -477,8 +515,10 @@ class Script:
                 **held,
                 id=lease,
             )
-        elif kind < 70:
+        elif kind < 67:
             self.label()
+        elif kind < 70:
+            self.set()
         elif kind < 76:
             self.show(of)
         elif kind < 82:
@@ -549,11 +589,29 @@ class Script:
             row["name"] = row.pop("key")
         self.ask(kind + ".label", **row, **put)
 
+    def set(self):
+        """Sets parts of a row: all its labels or some, its data, and what an image or a container
+        names."""
+        kind, row = self.row("image", "container", "content", "snap", "lease")
+        members = self.maybe(0.4, labels=self.labels())
+        if not members or self.is_so(self.wrong):
+            members |= self.maybe(0.7, put=self.labels())
+        if kind == "image":
+            members |= self.maybe(0.4, target=self.digest())
+        elif kind == "container":
+            both = {"snapshotter": self.snapshotter(), "key": self.name()}
+            members |= both if self.is_so(0.4) else self.maybe(self.wrong, key=self.name())
+        self.ask(kind + ".set", **row, **members)
+
     def show(self, of):
         kind, row = self.row()
-        which = self.random.randrange(7)
+        which = self.random.randrange(9)
         if which == 0:
             self.ask("ns.list")
+        elif which == 7:
+            self.ask("snap.snapshotters", **of)
+        elif which == 8:
+            self.ask("back.list")
         elif which == 1:
             self.ask("lease.resources", **self.row("lease")[1])
         elif which < 4:

@@ -120,28 +120,32 @@ def may_open(files):
 
 
 def many(front):
-    """As many clients as may be; more wait."""
+    """As many clients as may be; each one more is told so, at once."""
     if not may_open(2 * CLIENTS):
         print("serve: 1,024 clients are left out: so many files can't be open")
         return
-    clients = [front.connect() for _ in range(CLIENTS + 76)]
+    clients = [front.connect() for _ in range(CLIENTS)]
     for number, client in enumerate(clients):
         client.sendall(b"=%d\n" % number)
-    served = [lines_of(client, 1) == b"=%d\n" % number
-              for number, client in enumerate(clients[:CLIENTS])]
+    served = [lines_of(client, 1) == b"=%d\n" % number for number, client in enumerate(clients)]
     wants("1,024 clients are served", all(served), served.count(False))
-    late_ones = clients[CLIENTS:]
-    waits = select.poll()
-    for client in late_ones:
-        waits.register(client, select.POLLIN)
-    early = waits.poll(500)
-    wants("one more waits", not early, len(early))
-    for client in clients[:CLIENTS]:
+    told = []
+    for _ in range(76):
+        with front.connect() as client:
+            try:
+                client.sendall(b"=never\n")
+            except ConnectionError:
+                pass
+            told.append(all_of(client))
+    wants("each one more is told", told == [b'{"fault":100,"name":"TooManyClients"}\n'] * 76, told)
+    wants("the others are served all the same", ask(clients[7], b"=7") == b"=7\n")
+    for client in clients[:76]:
         client.close()
-    later = [lines_of(client, 1) == b"=%d\n" % (CLIENTS + number)
-             for number, client in enumerate(late_ones)]
-    wants("those that waited are served when others leave", all(later), later.count(False))
-    for client in late_ones:
+    wants("connections are closed", until(lambda: front.descriptors() <= CLIENTS - 60))
+    later = [front.connect() for _ in range(76)]
+    wants("when some leave others are served",
+          all(ask(client, b"=x") == b"=x\n" for client in later))
+    for client in clients[76:] + later:
         client.close()
 
 

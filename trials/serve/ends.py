@@ -115,7 +115,7 @@ def words():
                   ["--socket", "/none/socket", "--", *STAND_IN],
                   ["--socket", "x" * 200, "--", *STAND_IN],
                   ["--socket", "s", "--", "/none/program"]):
-        done = subprocess.run([sys.executable, TOOL, *wrong], capture_output=True, timeout=60)
+        done = subprocess.run([TOOL, *wrong], capture_output=True, timeout=60)
         wants("words that can't be followed: %r" % wrong, done.returncode == 2, done)
         wants("no socket is left", not os.path.exists("s"))
 
@@ -159,12 +159,17 @@ def few_files():
 
     with Front(preexec_fn=limit) as front:
         wants("it says how many clients", front.says(b"at most 8 clients: 40 files may be open"))
-        clients = [front.connect() for _ in range(20)]
+        clients = [front.connect() for _ in range(8)]
         for client in clients:
-            client.sendall(b"=here\n")
+            wants("each of few is served", ask(client, b"=here") == b"=here\n")
+        for _ in range(12):
+            with front.connect() as client:
+                wants("one more is told", b"TooManyClients" in all_of(client))
         for client in clients:
-            wants("each is served in its turn", lines_of(client, 1) == b"=here\n")
             client.close()
+        wants("connections are closed", until(lambda: front.descriptors() < 16))
+        with front.connect() as client:
+            wants("then another is served", ask(client, b"=here") == b"=here\n")
         wants("it ends with 0 after few clients at once", front.ends(TERM) == 0)
 
 
@@ -181,7 +186,7 @@ def handed_on():
     code = ("import os, sys\n"
             "os.dup2(int(sys.argv[1]), 3)\n"
             "os.environ.update(LISTEN_FDS='1', LISTEN_PID=str(os.getpid()))\n"
-            "os.execv(sys.executable, [sys.executable] + sys.argv[2:])\n")
+            "os.execv(sys.argv[2], sys.argv[2:])\n")
     command = [sys.executable, "-c", code, str(listener.fileno()), TOOL, "--", *STAND_IN]
     pipe = {"stderr": subprocess.PIPE, "pass_fds": [listener.fileno()]}
     with subprocess.Popen(command, **pipe) as front:

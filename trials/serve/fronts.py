@@ -10,7 +10,7 @@ import time
 
 HERE = os.path.dirname(os.path.abspath(__file__))
 TOP = os.path.dirname(os.path.dirname(HERE))
-TOOL = os.path.join(TOP, "tools", "metad-serve")
+TOOL = os.environ["METAD_SERVE"]  # the built front
 STAND_IN = [sys.executable, os.path.join(HERE, "stand_in.py")]
 WAIT = 60  # seconds after which something that didn't come is wrong
 
@@ -43,11 +43,11 @@ def until(holds):
 class Front:
     """A front in a folder of its own, over a service."""
 
-    def __init__(self, command=STAND_IN, folder=None, **more):
+    def __init__(self, command=STAND_IN, folder=None, words=(), **more):
         self.own = folder is None
         self.folder = folder or tempfile.mkdtemp(prefix="metad-serve-")
         self.path = os.path.join(self.folder, "socket")
-        self.command = [sys.executable, TOOL, "--socket", self.path, "--", *command]
+        self.command = [TOOL, "--socket", self.path, *words, "--", *command]
         self.told = open(os.path.join(self.folder, "told"), "w+b")
         self.run = subprocess.Popen(self.command, stderr=self.told, **more)
 

@@ -126,6 +126,7 @@ def copies(program, command, folder):
 def run(program):
     """Kills, and copies."""
     folder = tempfile.mkdtemp(prefix="metad-serve-")
+    wants("a store is made", subprocess.run([program, "new", "--dir", folder]).returncode == 0)
     command = [program, "serve", "--dir", folder]
     kills(command)
     copies(program, command, folder)

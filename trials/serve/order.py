@@ -60,7 +60,8 @@ def compare(program, count):
                 thread.join()
             wants("a front over the program ends with 0", front.ends(15) == 0)
         with open(order, "rb") as file:
-            served = file.read()
+            own, _, served = file.read().partition(b"\n")
+        wants("the front's own line comes first", own == b"?", own)
     alone = subprocess.run([program, "run"], input=served, capture_output=True, check=True).stdout
     wanted = [[] for _ in range(count)]
     sent = [[] for _ in range(count)]

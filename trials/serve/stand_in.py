@@ -1,5 +1,6 @@
 #!/usr/bin/env python3
-"""A service that answers lines in order, a block at a time, as `metad run` does.
+"""stand_in.py [--numbered] [--lock FILE]: a service that answers lines in order, a block at a time,
+as `metad run` does.
 
     =text             itself
     reply=N           N times y
@@ -7,10 +8,13 @@
     end=N             its end, with this status, once the lines before are answered
     signal=N          its end by this signal
     extra             two lines
+    skip              with --numbered the number of the next line, in place of its own
     anything else     {"ok":true}
 
-Before such a text may stand anything that ends with a space.
+Before such a text may stand anything that ends with a space, and behind it `"}`. With --numbered
+each reply begins with its line's number. With --lock it ends with 4 where another has this file.
 """
+import fcntl
 import os
 import sys
 import time
@@ -20,7 +24,7 @@ def answer(line):
     """The reply to a line, or None where it ends."""
     if line.startswith(b"="):
         return line
-    name, _, value = line.split(b" ")[-1].partition(b"=")
+    name, _, value = line.split(b" ")[-1].rstrip(b'"}').partition(b"=")
     if name == b"reply":
         return b"y" * int(value)
     if name == b"sleep":
@@ -38,7 +42,15 @@ def write(text):
 
 def main():
     """Answers until the input ends."""
+    numbered = "--numbered" in sys.argv
+    if "--lock" in sys.argv:
+        file = os.open(sys.argv[sys.argv.index("--lock") + 1], os.O_RDWR | os.O_CREAT)
+        try:
+            fcntl.flock(file, fcntl.LOCK_EX | fcntl.LOCK_NB)
+        except OSError:
+            return 4
     part = b""
+    number = 0
     while True:
         block = os.read(0, 65536)
         *lines, part = (part + block).split(b"\n")
@@ -49,6 +61,9 @@ def main():
                 if line.startswith(b"end="):
                     return int(line[4:])
                 os.kill(os.getpid(), int(line[7:]))
+            number += 1
+            if numbered:
+                replies.append(b"%d " % (number + (line == b"skip")))
             replies.append(answer(line) + b"\n")
         write(b"".join(replies))
         if not block:

@@ -41,7 +41,7 @@ def otherwise(name, work, metad):
     root = os.path.join(work, name)
     planned = json.loads(stores.read(name, "report").splitlines()[0].decode())["report"]
     for words in (["--labels", root], [os.path.join(root, "io.containerd.metadata.v1.bolt", "meta.db")]):
-        script = stores.host("export", "--at", stores.facts(name)["at"], *words).stdout
+        script = stores.host("export", "--at", stores.facts(name)["at"], *stores.version_of(name), *words).stdout
         replies = subprocess.run([metad, "run"], input=script, stdout=subprocess.PIPE).stdout.splitlines()
         assert all(b'"ok":true' in reply for reply in replies), "%s: %s" % (name, words)
         report = json.loads(replies[-1].decode())["report"]
@@ -51,7 +51,7 @@ def otherwise(name, work, metad):
 
 def impact(name, work, metad):
     """What goes anyway and what impact says of the removed row is together what containerd freed; the lines stand by their bytes."""
-    found = stores.host("impact", "--json", "--metad", metad, stores.path(name, "script"), os.path.join(work, name + ".sizes"))
+    found = stores.host("impact", "--json", "--limit", "0", "--metad", metad, stores.path(name, "script"), os.path.join(work, name + ".sizes"))
     assert found.returncode == 0, found.stderr.decode()
     told = json.loads(found.stdout.decode())
     facts = stores.facts(name)

@@ -11,8 +11,9 @@ import os
 import bolt_file
 import stores
 import table
-from table import DIGEST, GC, LATER, OTHER, content, row, rows_of
+from table import DIGEST, GC, LATER, OTHER, row, rows_of
 
+TRIED, BACK_READ = "2.1.9", "2.2.0"  # the version that was tried, and one that reads gc.bref
 EARLY, LATE = b"2024-03-01T05:00:00Z", b"2024-03-02T05:00:00Z"
 EXPIRE = GC + b"expire"
 BACK = "containerd.io/gc.ref.content/back.sha256:" + "1" * 64
@@ -96,12 +97,12 @@ CASES = [
      LATER + "back references of an unknown kind: 1", []),
     ("a back reference of an image that expires",
      rows_of(content=blobs({}), images={b"i": image(expire=EARLY, **{"bref.content": DIGEST})}), [],
-     3, LATER + "references to images that expire: 1", []),
+     3, "back references: whether these count depends on", []),
     ("a back reference of an image",
      rows_of(content=blobs({}), images={b"i": image(**{"bref.content": DIGEST})}), [], 0, None, []),
     ("a reference to an image that expires",
-     rows_of(content=blobs({"ref.image": b"i"}), images={b"i": image(expire=EARLY)}), [], 3,
-     LATER + "references to images that expire: 1", []),
+     rows_of(content=blobs({"ref.image": b"i"}), images={b"i": image(expire=EARLY)}), [], 0,
+     None, ['"labels":{"containerd.io/gc.expire":"2024-03-01T05:00:00Z"}']),
     ("a reference to an image",
      rows_of(content=blobs({"ref.image/x": b"i"}), images={b"i": image()}), [], 0, None, []),
     ("all labels", rows_of(content=blobs({"ref.image": b"i", "bref.content": OTHER})), ["--labels"],
@@ -110,6 +111,37 @@ CASES = [
      rows_of(images={b"i": image(expire=b"2024-03-01T05:00:00-99:00")}), [], 0, None,
      ['"2024-03-01T05:00:00-99:00"']),
     ("an unknown bucket", rows_of(mounts={b"m": {}}), [], 3, LATER + "unknown buckets: 1", []),
+]
+# by which version's rules: what it is, the namespace, --containerd, status, remark, texts
+BY_VERSION = "depends on the daemon's version"
+EXPIRES = rows_of(images={b"i": image(expire=EARLY)})
+REFERENCE = rows_of(content=blobs({"root": b"x", "ref.image": b"i"}),
+                    images={b"i": image(expire=EARLY)})
+VERSIONS = [
+    ("an image that expires, of a daemon that is named", EXPIRES, "2.1.0", 0, None, ["gc.expire"]),
+    ("an image that expires, of a daemon that isn't known", EXPIRES, None, 3,
+     LATER + "images that expire: whether", ["gc.expire"]),
+    ("an image that expires, of a version that wasn't tried", EXPIRES, "2.0.7", 3, BY_VERSION,
+     ["gc.expire"]),
+    ("an image that expires, of 1.7 put back", EXPIRES, "1.7.24", 0, None,
+     ["!gc.expire", '!"profile"']),
+    ("a sandbox of 1.7 put back", rows_of(sandboxes={b"s": row({GC + b"ref.content": DIGEST})}),
+     "1.7.24", 0, None, ["!sandbox:"]),
+    ("a sandbox of a daemon that isn't known",
+     rows_of(sandboxes={b"s": row({GC + b"ref.content": DIGEST})}), None, 3,
+     LATER + "labels of sandboxes: whether", ["sandbox:s"]),
+    ("a reference to an image, of 2.1", REFERENCE, "2.1.9", 0,
+     "images that a label keeps longer, which have the later end as their own: 1", ["!gc.expire"]),
+    ("a reference to an image, of 1.7 put back", REFERENCE, "1.7.24", 0, None, ["!gc.expire"]),
+    ("a back reference of 2.1, which doesn't read it", rows_of(content=blobs({"bref.content": OTHER})),
+     "2.1.9", 0, None, ["!back"]),
+    ("a back reference of a daemon that isn't known",
+     rows_of(content=blobs({"bref.content": OTHER})), None, 3,
+     LATER + "labels that later versions read: 1", ["!back"]),
+    ("an expiry of content", rows_of(content=blobs({"expire": EARLY})), "2.1.9", 0,
+     "expiries of content and snapshots, which no version that was tried reads: 1", ["!gc.expire"]),
+    ("an expiry of content of a daemon that isn't known", rows_of(content=blobs({"expire": EARLY})),
+     None, 3, LATER + "expiries of content and snapshots", []),
 ]
 # with version 3, and buckets beside v1
 BESIDE = [
@@ -123,15 +155,21 @@ BESIDE = [
 def run(work):
     path = os.path.join(work, "containerd_2.db")
     for what, namespace, words, status, remark, texts in CASES:
-        table.check(what, path, namespace, words, status, remark, texts, version=4)
+        is_back = "back reference" in what or "bref.content" in str(namespace)
+        table.check(what, path, namespace, words, 3 if is_back else status, remark, texts,
+                    version=4, containerd=BACK_READ if is_back else TRIED)
+    for what, namespace, containerd, status, remark, texts in VERSIONS:
+        table.check(what, path, namespace, [], status, remark, texts, version=4,
+                    containerd=containerd)
     for what, beside, status, remark in BESIDE:
         for version in (3, 4):
             table.check(what, path, rows_of(content=blobs({})), [], status, remark, [], version,
                         beside)
-    table.check("a back reference over all labels", path, many(), [], 0,
-                "rows with over 256 references, some on a row between", [BACK], version=4)
+    table.check("a back reference over all labels", path, many(), [], 3,
+                "rows with over 256 references, some on a row between", [BACK], version=4,
+                containerd=BACK_READ)
     sizes_of(path, path + ".sizes")
-    return "%d stores of versions 3 and 4" % (len(CASES) + 2 * len(BESIDE) + 1)
+    return "%d stores of versions 3 and 4" % (len(CASES) + len(VERSIONS) + 2 * len(BESIDE) + 1)
 
 
 def many():
@@ -147,7 +185,7 @@ def sizes_of(path, sizes):
                                 b"c": lease(b"i", b"j", expire=LATE)},
                         containers={b"c": row({}, image=b"i")}, sandboxes={b"s": row({})})
     bolt_file.write(path, {b"v1": {b"version": b"\x08", b"ns": namespace}})
-    assert stores.host("export", "--sizes", sizes, path).returncode == 0
+    assert stores.host("export", "--containerd", TRIED, "--sizes", sizes, path).returncode == 0
     with open(sizes) as file:
         found = json.load(file)
     assert found["sandboxes"] == [["ns", "sandbox:s"]], found["sandboxes"]

@@ -1,4 +1,4 @@
-"""By the built program: of 100,000 rows of content usage, prune and why take some twice the time of export and run, at most four times; impact of 700 rows is one run."""
+"""By the built program: of 100,000 rows of content usage, prune, why and impact take some twice the time of export and run, at most four times; impact of 700 rows is one run."""
 import json
 import os
 import subprocess
@@ -9,7 +9,7 @@ import many_rows
 import stores
 
 AT = "2024-03-02T00:00:00Z"
-WORDS = ("usage", "prune", "why")
+WORDS = ("usage", "prune", "why", "impact")
 MOST = 4  # twice is the goal; a word reads what the program writes, while a pipeline does both at once
 
 
@@ -52,7 +52,7 @@ def one_run(folder, metad):
     counted = os.path.join(folder, "counted")
     stores.put(counted, ("#!/bin/sh\necho >> %s/starts\nexec %s \"$@\"\n" % (folder, metad)).encode())
     os.chmod(counted, 0o755)
-    found = stores.tool("impact", "--json", "--at", AT, "--metad", counted, os.path.join(folder, "some.db"))
+    found = stores.tool("impact", "--json", "--limit", "0", "--at", AT, "--metad", counted, os.path.join(folder, "some.db"))
     rows = json.loads(found.stdout.decode())["rows"]
     with open(os.path.join(folder, "starts")) as file:
         assert file.read() == "\n", "metad was started more than once"

@@ -15,7 +15,9 @@ import answers
 import changing
 import containerd_2
 import copies
+import daemons
 import damage
+import disk
 import facts
 import inputs
 import large
@@ -24,8 +26,10 @@ import many_rows
 import many_stores
 import objects
 import page
+import planted
 import questions
 import refusals
+import removals
 import stores
 import table
 
@@ -43,13 +47,17 @@ def main(whole, metad):
         ("changing", lambda work: changing.run(work, *((10000, 45000) if whole else (300, 8000)))),
         ("little_memory", little_memory.run),
         ("many_rows", many_rows.run),
+        ("planted", planted.run),
     ]
     if metad:
         checks += [
             ("answers", lambda work: answers.run(work, metad)),
             ("objects", lambda work: objects.run(work, metad)),
             ("copies", lambda work: copies.run(work, metad)),
+            ("daemons", lambda work: daemons.run(work, metad)),
+            ("disk", lambda work: disk.run(work, metad)),
             ("questions", lambda work: questions.run(work, metad, 400 if whole else 100)),
+            ("removals", lambda work: removals.run(work, metad, 200 if whole else 25)),
             ("large", lambda work: large.run(work, metad)),
         ]
     if metad and "METAD" not in os.environ:  # the page's commands ask the repository's own

@@ -60,9 +60,13 @@ def made(maker, root, seed, words):
 def check(name, root, found, metad, may_be_unsaid):
     """How many rows of a store go, the same in the plan; None where a script can't say it."""
     sizes_file = root + ".sizes"
-    status, script, told = stores.exported("--at", found["at"], "--sizes", sizes_file, root)
-    assert status in ((0, 3) if may_be_unsaid else (0,)), "%s: %d, %s" % (name, status, told)
-    if status == 3:
+    words = ("--at", found["at"]) + stores.LATER + ("--sizes", sizes_file)
+    status, script, told = stores.exported(*words, root)
+    from metad_host.later import BY_VERSION
+    unsaid = [line for line in told.splitlines() if "may change the plan" in line
+              and BY_VERSION not in line]
+    assert status in (0, 3) and (may_be_unsaid or not unsaid), "%s: %d, %s" % (name, status, told)
+    if unsaid:
         return None
     with open(sizes_file) as file:
         sizes = json.load(file)

@@ -1,4 +1,5 @@
 """By the built program: --json of each word has the members that docs/HOST.md states; lists keep to --limit; the picture is the page's."""
+import contextlib
 import json
 import os
 import re
@@ -10,8 +11,8 @@ import stores
 AT = "2024-03-02T03:26:39Z"
 HEAD = {"word": "text", "at": "text", "remarks": ["text"]}
 KINDS = {"count": (int,), "bytes": (int,), "number": (int, float), "text": (str,), "flag": (bool,)}
-ASKED = {"usage": ["host.db"], "plan": ["host.db"], "prune": ["host.db"], "impact": ["host.db"], "why": ["host.db", "native/9"], "forecast": ["host.db"],
-         "metrics": ["host.db"], "graph": ["host.db", "native/9"], "compare": ["host.db", "after.db"]}
+ASKED = {"usage": ["host.db"], "ingests": ["host.db"], "plan": ["host.db"], "prune": ["host.db"], "impact": ["host.db"], "why": ["host.db", "native/9"], "forecast": ["host.db"],
+         "metrics": ["host.db"], "graph": ["host.db", "native/9"], "compare": ["host.db", "after.db"], "doctor": ["--containerd", "2.1.9", "host.db"]}
 
 
 def schema():
@@ -23,8 +24,10 @@ def schema():
 
 def check(value, form, where, forms):
     """Whether a value has this form, with no member more or less."""
-    if isinstance(form, str) and form in forms:
-        form = forms[form]
+    if isinstance(form, str) and form.rstrip("?") in forms:
+        if form.endswith("?") and value is None:
+            return
+        form = forms[form.rstrip("?")]
     if isinstance(form, list):
         assert isinstance(value, list), "%s is no list" % where
         for place, item in enumerate(value):
@@ -52,7 +55,7 @@ def make_files(folder):
 
 def asked(folder, metad, word, *more):
     """The output of a word in the folder of the files."""
-    options = [] if word in ("copy", "report") else ["--at", AT, "--metad", metad]
+    options = [] if word in ("copy", "report") else ["--at", AT] if word == "ingests" else ["--at", AT, "--metad", metad]
     found = subprocess.run([stores.TOOL, word] + options + list(more), cwd=folder, stdout=subprocess.PIPE, stderr=subprocess.PIPE)
     assert found.returncode == 0, "%s: %d %s" % (word, found.returncode, found.stderr.decode())
     return found.stdout.decode()
@@ -67,13 +70,30 @@ def run(work, metad):
         assert found["word"] == word and found["at"] == AT
     found = json.loads(asked(folder, metad, "copy", "--json", "host.db", "copied.db"))
     check(found, forms["copy"], "copy", forms)
-    assert set(forms) == set(ASKED) | {"copy", "STEP"}, "the page states other words"
+    for word, operands in (("commands", ["prune", "--commands", "--leases", "host.db"]), ("free", ["free", "30kB", "host.db"])):
+        found = json.loads(asked(folder, metad, operands[0], "--json", *operands[1:]))
+        check(found, dict(HEAD, **forms[word]), word, forms)
+        assert found["word"] == word and found["images"]
+    assert set(forms) == set(ASKED) | {"copy", "commands", "free", "STEP", "DISK", "ORDER"}, "the page states other words"
+    demo(metad)
     limits(folder, metad)
     lines(folder, metad)
     pictures(folder, metad)
     steps(folder, metad)
     measured(os.path.join(folder, "root"), metad)
     return "objects of %d words as docs/HOST.md states them" % (len(ASKED) + 1)
+
+
+def demo(metad):
+    """--demo asks the recorded store each of its questions, and leaves the folder as it was."""
+    from metad_host import demo as tried, words
+    out = stores.Output()
+    before = os.getcwd()
+    with contextlib.redirect_stdout(out):
+        status = tried.run("metad-host", lambda line: words.main([line[0], "--metad", metad] + line[1:], "metad-host"))
+    text = out.getvalue()
+    assert status == 0 and os.getcwd() == before and text.count("$ metad-host ") == len(tried.ASKED), text
+    assert "51.9 kB more" in text and "still-free" in text and "nothing else" not in text and "native/9" in text, text
 
 
 def limits(folder, metad):

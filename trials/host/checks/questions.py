@@ -6,11 +6,13 @@ import os
 import random
 import subprocess
 
+import images
 import random_store
 import stores
 
 AT = random_store.AT
 LATER = "2025-01-01T00:00:00Z"
+VERSION = ("--containerd", "2.1.9")
 PLAN = json.dumps({"op": "gc.plan", "at": AT}).encode()
 MEMBERS = {"images": ("image", "name"), "containers": ("container", "name"), "leases": ("lease", "id")}
 KINDS = {"image": "images", "container": "containers", "sandbox": "containers", "lease": "leases"}
@@ -34,13 +36,17 @@ def request(op, **members):
 class Asked:
     """A store with what it needs to be asked by plans alone."""
 
-    def __init__(self, seed, work, metad):
+    def __init__(self, seed, work, metad, with_leases=True):
         self.store, self.metad, self.random = random_store.Store(seed), metad, random.Random(seed)
+        if not with_leases:
+            for space in self.store.tree[b"v1"].values():
+                if isinstance(space, dict):
+                    space[b"leases"], space[b"containers"] = {}, {}
         self.seed = seed
         self.root = os.path.join(work, "random", str(seed))
         self.store.write(self.root)
         sizes = os.path.join(work, "random.sizes")
-        status, script, _ = stores.exported("--at", AT, "--sizes", sizes, self.root)
+        status, script, _ = stores.exported("--at", AT, *VERSION, "--sizes", sizes, self.root)
         assert status == 0, status
         self.lines = script.splitlines()
         with open(sizes) as file:
@@ -59,7 +65,7 @@ class Asked:
 
     def word(self, name, *more):
         """The object that a word prints of this store."""
-        found, status = word(name, "--metad", self.metad, "--at", AT, "--json", "--limit", "0", self.root, *more)
+        found, status = word(name, "--metad", self.metad, "--at", AT, *VERSION, "--json", "--limit", "0", self.root, *more)
         assert status == 0, "%s: status %d" % (name, status)
         return found
 
@@ -105,35 +111,25 @@ class Asked:
         total += sum(self.sizes["snapshots"][str(number)] or 0 for _, number in report["backend"]["snapshots"])
         return total + sum(self.sizes["ingests"][str(number)] or 0 for number in report["backend"]["ingests"])
 
-    def targets(self):
-        """The images of each target, and whether a container names one of them."""
-        found = {}
-        for ns, space in self.store.tree[b"v1"].items():
-            if isinstance(space, dict):
-                used = {row[b"image"] for row in space[b"containers"].values()}
-                for name, row in space[b"images"].items():
-                    keys, is_used = found.get((ns, row[b"target"][b"digest"]), ([], False))
-                    key = ("images", ns.decode(), name.decode())
-                    found[ns, row[b"target"][b"digest"]] = (keys + [key], is_used or name in used)
-        return found
-
 
 def prune(asked):
-    """Each image and all unused images together, against plans without them."""
-    found, targets = asked.word("prune"), asked.targets()
-    unused = [keys for keys, used in targets.values() if not used]
-    lines = [PLAN] + asked.without([key for keys in unused for key in keys]) + [PLAN]
-    base, last = asked.reports(lines)
-    assert (found["images_total"], found["unused_total"]) == (len(targets), len(unused)), found
-    assert found["names_total"] == sum(len(keys) for keys, _ in targets.values())
-    assert found["frees"] == asked.bytes(last) - asked.bytes(base), "%d: unused images free %d" % (asked.seed, found["frees"])
-    assert len(found["images"]) == len(targets)
+    """Each image's state, what goes without it and without all free ones, against a second reader and plans."""
+    found, states = asked.word("prune"), images.states(asked.store, AT)
+    free = [("images", ns, name) for (ns, _), (state, names) in states.items() for name in names if state == "free"]
+    base, last = asked.reports([PLAN] + asked.without(free) + [PLAN])
+    assert found["images_total"] == len(states) == len(found["images"]) and found["pinned_total"] == 0, found
+    assert found["names_total"] == sum(len(names) for _, names in states.values())
+    for state in ("used", "held", "free"):
+        assert found[state + "_total"] == sum(told == state for told, _ in states.values()), "%d: %s" % (asked.seed, found)
+    assert found["frees"] == asked.bytes(last) - asked.bytes(base), "%d: free images free %d" % (asked.seed, found["frees"])
     for image in found["images"]:
-        keys, used = targets[image["ns"].encode(), image["target"].encode()]
-        assert sorted(image["names"]) == sorted(key[2] for key in keys) and bool(image["containers"]) == used, image
-        report, = asked.reports(asked.without(keys) + [PLAN])
+        target, = image["targets"]
+        state, names = states[image["ns"], target]
+        assert (sorted(image["names"]), image["state"]) == (names, state), "%d: %s, not %s" % (asked.seed, image, state)
+        assert bool(image["by"]) == (state != "free") and (image["until"] is None or state == "held"), image
+        report, = asked.reports(asked.without([("images", image["ns"], name) for name in names]) + [PLAN])
         assert image["frees"] == asked.bytes(report) - asked.bytes(base), "%d: %s" % (asked.seed, image)
-    return len(targets)
+    return len(states)
 
 
 def usage(asked):

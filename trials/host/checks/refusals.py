@@ -23,6 +23,17 @@ MORE = [
     (b'{"op":"gc.run","at":"2024-03-01T00:00:00Z"}', 8, "line 1: gc.run: a thread couldn't be started"),
     (b'{"op":"snap.view","ns":"x","snapshotter":"s","key":"k"}', 4, "line 1: snap.view: key: no number is left for it"),
     (b'{"op":"ns.list"}', 7, "line 1: ns.list: memory was refused"),
+    (b'{"op":"lease.add","ns":"x","id":"l","data":"' + b'\\n' * 24577 + b'"}', 1, "line 1: lease.add: data: over 49,152 bytes as a reply writes it"),
+    (b'{"op":"image.get","ns":"x","name":"i","answer":"rows"}', 1, "line 1: image.get: answer: not row"),
+    (b'{"op":"image.list","ns":"x","answer":"row"}', 1, "line 1: image.list: answer: not rows"),
+    (b'{"op":"content.remove","ns":"x","digest":"sha512:00","drop":""}', 1,
+     "line 1: content.remove: digest: not sha512: with 128 lower-case digits; drop: not 1 to 1,024 bytes without control characters"),
+    (b'{"op":"snap.view","ns":"x","snapshotter":"s","key":"k","there":"take"}', 1,
+     "line 1: snap.view: there: not hold; lease: missing beside there"),
+    (b'{"op":"image.set","ns":"x","name":"i","put":{"":"v"}}', 1, "line 1: image.set: put: a key is empty"),
+    (b'{"op":"image.set","ns":"x","name":"i","put":[]}', 5, "line 1: image.set: put: not an object of texts"),
+    (b'{"op":"image.set","ns":"x","name":"i","put":{"k":"v"}}', 1, "line 1: image.set: put: the row would have over 256 labels"),
+    (b'{"op":"ingest.open","ns":"x","ref":"r","at":"2024-03-01T00:00:00Z"}', 4, "line 1: ingest.open: ref: no number is left for it"),
 ]
 NAMES = {1: "InvalidArgument", 4: "FailedPrecondition", 5: "BadLine", 6: "TooLong", 7: "OutOfMemory", 8: "NoWorker"}
 

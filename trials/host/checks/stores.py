@@ -21,6 +21,7 @@ HOST = os.path.join(TOP, "tools", "host")  # for a release a link to the tool
 TOOL = os.path.join(TOP, "tools", "metad-host")
 NAMES = ("a_daemon", "without_an_image", "without_a_container", "without_a_lease", "everything_odd",
          "containerd_2", "containerd_2_without_a_lease")
+LATER = ("--containerd", "2.2")  # whose back references the stores of version 4 have; no daemon of it was tried
 
 
 def path(name, kind):
@@ -117,7 +118,12 @@ def text(digits):
 
 def export(name, root, sizes):
     """The export of a store's folder at the moment of its facts."""
-    return host("export", "--at", facts(name)["at"], "--sizes", sizes, root)
+    return host("export", "--at", facts(name)["at"], *version_of(name), "--sizes", sizes, root)
+
+
+def version_of(name):
+    """The words that name the version of a store's daemon."""
+    return LATER if name.startswith("containerd_2") else ()
 
 
 def asked(name, script, sizes=None):

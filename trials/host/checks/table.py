@@ -104,11 +104,12 @@ def run(work):
     return "%d stores with a thing each that a script can't say" % len(CASES)
 
 
-def check(what, path, namespace, words, status, remark, texts, version=3, beside=()):
+def check(what, path, namespace, words, status, remark, texts, version=3, beside=(), containerd=None):
     """Exports a store of this namespace and, beside v1, these buckets."""
     top = {b"version": bytes([2 * version]), b"ns": namespace}
     bolt_file.write(path, {b"v1": top, **dict(beside)})
-    found, output, told = stores.exported("--at", "2024-03-02T00:00:00Z", *words, path)
+    named = ["--containerd", containerd] if containerd else []
+    found, output, told = stores.exported("--at", "2024-03-02T00:00:00Z", *named, *words, path)
     script = output.decode()
     assert found == status, "%s: status %d, %s" % (what, found, told)
     assert remark is None or any(line.startswith("host: ") and remark in line for line in told.splitlines()), "%s: %s" % (what, told)

@@ -3,7 +3,9 @@ from __future__ import annotations
 
 import unittest
 
-import tools  # noqa: F401 (it finds the modules)
+import tools
+
+assert tools.TOP  # tools finds the modules of the tool
 from metad_host import numbers
 from metad_host.faults import BadInput
 

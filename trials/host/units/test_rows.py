@@ -1,9 +1,12 @@
 """What a script leaves in its store, what its rows reference, and which of them are removed as one."""
+import copy
+import json
 import unittest
 
 import tools
 from metad_host.faults import BadInput
-from metad_host.rows import Rows, reference, remove_line
+from metad_host.lines import Lines
+from metad_host.rows import Row, Rows, reference, remove_line
 
 DIGEST = "sha256:" + "1" * 64
 PLAN = {"op": "gc.plan", "at": "2024-03-01T00:00:00Z"}
@@ -28,6 +31,24 @@ class Script(unittest.TestCase):
         lease = rows.rows["leases", "x", "l"]
         self.assertEqual(lease.holds, [("content", "x", DIGEST), ("ingests", "x", "i")])
         self.assertEqual(len(lease.lines), 3)
+
+    def test_what_a_line_was_made_of_is_what_it_says(self):
+        lines = Lines(keep=True)
+        lines.say("ns.add", ns="x")
+        lines.add("content.add", [("a", "é"), ("b", '"')], ("content.label", {"ns": "x", "digest": DIGEST}), ns="x", digest=DIGEST)
+        lines.add("image.add", [("k%d" % place, "v" * 4000) for place in range(20)], ("image.label", {"ns": "x", "name": "i"}),
+                  ns="x", name="i", target=DIGEST)
+        lines.say("ns.add", ns="y")
+        lines.unsay()
+        lines.say("gc.plan", at=PLAN["at"])
+        self.assertEqual(lines.asked, [json.loads(line) for line in lines.written])
+        self.assertTrue(any(b"image.label" in line for line in lines.written))
+        read, known = Rows(lines.written), Rows(lines.written, copy.deepcopy(lines.asked))
+        self.assertEqual(list(read.rows), list(known.rows))
+        for key, row in read.rows.items():
+            for member in Row.__slots__:
+                self.assertEqual(getattr(row, member), getattr(known.rows[key], member), (key, member))
+        self.assertIsNone(Lines().asked)
 
     def test_a_script_without_a_plan_is_refused(self):
         for lines in ([], [b"{}"], [b"["], [b'{"op":"content.remove","ns":"x","digest":"d"}'], [b'{"op":"ns.add","ns":"x"}']):

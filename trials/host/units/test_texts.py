@@ -3,11 +3,14 @@ from __future__ import annotations
 
 import unittest
 
-import tools  # noqa: F401 (it finds the modules)
+import tools
+
+assert tools.TOP  # tools finds the modules of the tool
 from metad_host.buckets import Metadata, Place
 from metad_host.later import Later
 from metad_host.remarks import Remarks
 from metad_host.texts import EXPIRE, FLAT, Texts, is_named, meaning_of
+from metad_host.versions import NAMED, chosen
 
 A, B = b"sha256:" + b"a" * 64, b"sha256:" + b"b" * 64
 GC = b"containerd.io/gc."
@@ -15,7 +18,7 @@ NOON, NIGHT = b"2024-03-01T12:00:00Z", b"2024-03-02T00:00:00Z"
 
 
 def texts(all_labels=False, images_expire=False):
-    return Texts(Remarks(), all_labels, images_expire)
+    return Texts(Remarks(), all_labels, chosen(4, "2.1.9", NAMED) if images_expire else None)
 
 
 class Names(unittest.TestCase):
@@ -81,12 +84,12 @@ class Labels(unittest.TestCase):
         self.assertIsNone(texts(images_expire=True).end(odd))
 
 
-def later(space, version=4):
-    """What stands otherwise in a namespace of these buckets."""
+def later(space, version=4, containerd="2.1.9"):
+    """What stands otherwise in a namespace of these buckets, by the rules of a containerd."""
     remarks = Remarks()
     root = {b"v1": {b"version": bytes([2 * version]), b"ns": space}}
-    metadata = Metadata(root, remarks)
-    found = Later(metadata, Texts(remarks, False, metadata.images_expire), remarks)
+    metadata = Metadata(root, remarks, (containerd, NAMED))
+    found = Later(metadata, Texts(remarks, False, metadata.choice), remarks)
     found.read(b"ns", space)
     return found
 
@@ -102,11 +105,13 @@ def lease(*labels):
 class References(unittest.TestCase):
     def test_a_row_gets_the_reference(self):
         blobs = {A: {b"labels": {GC + b"bref.content": B}}, B: {}}
-        found = later({b"content": {b"blob": blobs}})
+        found = later({b"content": {b"blob": blobs}}, containerd="2.2")
         place = Place("content", b"", B)
         self.assertEqual(list(found.labels(place, {}).values()), [A])
         self.assertEqual(found.labels(Place("content", b"", A), {}), {})
-        self.assertEqual(later({b"content": {b"blob": blobs}}, 3).labels(place, {}), {})
+        for version in ("2.1.9", "1.7.24"):
+            found = later({b"content": {b"blob": blobs}}, containerd=version)
+            self.assertEqual(found.labels(place, {}), {})
 
     def test_each_kind(self):
         self.assertEqual(Later.named_by(b"image.x", b"i"), Place("image", b"", b"i"))
@@ -147,3 +152,49 @@ class Ends(unittest.TestCase):
                               ({b"a": lease((FLAT, b"y"), (EXPIRE, NIGHT)), b"b": full}, False)):
             found = later({b"images": {b"i": image(NOON)}, b"leases": leases})
             self.assertEqual(found.is_flat(b"i"), alone)
+
+
+class Led(unittest.TestCase):
+    """Images that the label of another row keeps: in one pass, the last end that leads there."""
+
+    def ends(self, space, image=b"i", **more):
+        found = later(space, **more)
+        labels = space[b"images"][image][b"labels"]
+        return found.labels(Place("image", b"", image), labels).get(EXPIRE), found.led_by(image)
+
+    def test_a_root_without_an_end(self):
+        space = {b"images": {b"i": image(NOON)},
+                 b"containers": {b"c": {b"labels": {GC + b"ref.image": b"i"}}}}
+        by = Place("container", b"", b"c")
+        self.assertEqual(self.ends(space), (None, by))
+        self.assertEqual(self.ends(space, containerd="1.7.24"), (NOON, None))
+
+    def test_the_last_end_of_a_path(self):
+        blob = {b"labels": {GC + b"ref.image.x": b"i"}}
+        place = Place("content", b"", A)
+        held = {b"content": {A: b""}}
+        for leases, own, expected in (
+                ({b"l": dict(held, labels=None)}, NOON, None),
+                ({b"l": dict(held, **{"labels": {EXPIRE: NIGHT}})}, NOON, NIGHT),
+                ({b"l": dict(held, **{"labels": {EXPIRE: NOON}})}, NIGHT, NIGHT),
+                ({b"l": dict(held, **{"labels": {EXPIRE: NIGHT, FLAT: b"y"}})}, NOON, NOON)):
+            rows = {name: {b"content": row[b"content"], b"labels": row["labels"] or {}}
+                    for name, row in leases.items()}
+            space = {b"images": {b"i": image(own)}, b"leases": rows,
+                     b"content": {b"blob": {A: blob}}}
+            by = place if expected != own else None
+            self.assertEqual(self.ends(space), (expected, by))
+
+    def test_by_way_of_another_image(self):
+        first = image(NIGHT)
+        first[b"labels"][GC + b"ref.image"] = b"i"
+        space = {b"images": {b"first": first, b"i": image(NOON)}}
+        self.assertEqual(self.ends(space), (NIGHT, Place("image", b"", b"first")))
+        first[b"labels"][EXPIRE] = b"soon"
+        self.assertEqual(self.ends(space), (None, Place("image", b"", b"first")))
+
+    def test_a_lease_that_a_label_outlasts_is_nobodys_last(self):
+        space = {b"images": {b"i": image(NOON)}, b"leases": {b"a": lease((EXPIRE, NIGHT))},
+                 b"sandboxes": {b"s": {b"labels": {GC + b"ref.image": b"i"}}}}
+        self.assertIsNone(later(space).without(b"i"))
+        self.assertEqual(self.ends(space), (None, Place("sandbox", b"", b"s")))

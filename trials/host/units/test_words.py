@@ -1,9 +1,12 @@
 """Pure parts of the words: moments that are joined, names in order, lines that are cut, labels of metrics, the pictures' texts."""
+import contextlib
+import io
 import os
 import re
 import tempfile
 import types
 import unittest
+from unittest import mock
 
 import tools
 from metad_host import asking, completion, forecast, graph, metrics, printing, store, words
@@ -47,6 +50,11 @@ class Texts(unittest.TestCase):
         printer.width = 10
         self.assertEqual(printer.cut("x" * 10), "x" * 10)
         self.assertEqual(printer.cut("x" * 11), "x" * 7 + "...")
+        printer.width = 40
+        lines = ["  1.0 kB  moby/registry.example/a/very/long/name:v%d" % number for number in (1, 2)]
+        self.assertEqual([len(printer.cut(line)) for line in lines], [40, 40])
+        self.assertTrue(printer.cut(lines[0]).startswith("  1.0 kB  moby/registry"))
+        self.assertTrue(printer.cut(lines[1]).endswith("name:v2"))
         self.assertEqual(printer.cut(printing.Whole("x" * 11)), "x" * 11)
 
     def test_sizes(self):
@@ -73,30 +81,88 @@ class Texts(unittest.TestCase):
         self.assertEqual(asking.request("image.remove", ns="x", name="é"), '{"op": "image.remove", "ns": "x", "name": "é"}'.encode())
 
 
+METAD = """#!/bin/sh
+while IFS= read -r line; do
+  case $line in
+    *more*) echo '{"ok":true,"more":1}' ;;
+    *bad*) echo '{"fault":2,"ok":false}' ;;
+    *end*) exit ;;
+    *) echo '{"ok":true}' ;;
+  esac
+done
+"""
+
+
+class Asked(unittest.TestCase):
+    """Lines that are answered in parts of many, by what stands for metad."""
+
+    def setUp(self):
+        self.folder = tempfile.TemporaryDirectory()
+        self.addCleanup(self.folder.cleanup)
+        self.path = os.path.join(self.folder.name, "metad")
+        with open(self.path, "w", encoding="utf-8") as file:
+            file.write(METAD)
+        os.chmod(self.path, 0o755)
+        many = mock.patch.object(asking, "MANY", 10)
+        many.start()
+        self.addCleanup(many.stop)
+
+    def load(self, lines, then=True):
+        with asking.Metad(self.path) as metad:
+            metad.load([line.encode() for line in lines])
+            return metad.ask("more") if then else None
+
+    def test_each_part_is_answered_to_its_end(self):
+        for lines in ([], ["a"], ["a"] * 10, ["a"] * 25, ["more"] * 25, ["a"] * 5 + ["more"] * 3 + ["a"] * 17):
+            self.assertEqual(self.load(lines), {"ok": True, "more": 1}, lines)
+
+    def test_a_refusal_is_told_with_its_line(self):
+        for place in (0, 9, 10, 24):
+            lines = ["a%d" % number for number in range(25)]
+            lines[place] = "bad %d" % place
+            with self.assertRaisesRegex(Exception, 'metad answered .*"fault":2.* to bad %d$' % place):
+                self.load(lines)
+
+    def test_an_end_is_told_with_its_place(self):
+        for place in (0, 9, 10, 24):
+            lines = ["a"] * 25
+            lines[place] = "end"
+            with self.assertRaisesRegex(Exception, "ended before its reply to request %d of 25" % (place + 1)):
+                self.load(lines)
+
+
 class Measured(unittest.TestCase):
     def test_a_file_of_many_names_counts_once(self):
-        from metad_host import usage
+        from metad_host import disk
         with tempfile.TemporaryDirectory() as folder:
-            self.assertIsNone(usage.bytes_below(os.path.join(folder, "none")))
-            self.assertEqual(usage.bytes_below(folder), 0)
+            self.assertIsNone(disk.bytes_below(os.path.join(folder, "none")))
+            self.assertEqual(disk.bytes_below(folder), 0)
             os.mkdir(os.path.join(folder, "fs"))
             path = os.path.join(folder, "fs", "file")
             with open(path, "wb") as file:
                 file.write(b"x" * 100000)
-            once = usage.bytes_below(folder)
+            once = disk.bytes_below(folder)
             self.assertGreaterEqual(once, 100000)
             os.link(path, os.path.join(folder, "again"))
             os.symlink("/", os.path.join(folder, "link"))
-            self.assertLess(usage.bytes_below(folder), once + 50000)
+            self.assertLess(disk.bytes_below(folder), once + 50000)
 
 
 class Words(unittest.TestCase):
     def test_each_word_is_a_module_and_has_help(self):
         parser = words.parser("metad-host")
         for word, about in words.WORDS.items():
-            operands = ["bash" if operand == "SHELL" else "o" for operand in about.operands if operand[0] != "["]
+            operands = [{"SHELL": "bash", "SIZE": "1GB"}.get(operand, "o") for operand in about.operands if operand[0] != "["]
             self.assertEqual(parser.parse_args([word] + operands).word, word)
             self.assertTrue(set(about.options) <= set(words.OPTIONS), word)
+
+    def test_what_is_roots_alone_is_told(self):
+        for user, ends in ((1000, "Permission denied: it needs root's rights (sudo), as a daemon's files do\n"), (0, "Permission denied\n")):
+            told = io.StringIO()
+            with mock.patch.object(words, "run", side_effect=PermissionError(13, "Permission denied", "/var/lib/containerd")), \
+                    mock.patch.object(os, "geteuid", return_value=user), contextlib.redirect_stderr(told):
+                self.assertEqual(words.main(["usage", "/var/lib/containerd"], "metad-host"), 1)
+            self.assertEqual(told.getvalue(), "metad-host: /var/lib/containerd: " + ends)
 
     def test_numbers_and_moments(self):
         import argparse
@@ -120,7 +186,7 @@ class Words(unittest.TestCase):
         for word, about in words.WORDS.items():
             entry = re.search(r"^\\fb%s\\fr.*\n(.*\.)\n(.*)" % word, text, re.MULTILINE)
             self.assertTrue(entry and entry[1] == about.answers.lower() + ".", word)
-            self.assertEqual(re.findall(r"--[a-z]+", entry[2] if about.options else ""), list(about.options), word)
+            self.assertEqual(re.findall(r"--[a-z-]+", entry[2] if about.options else ""), list(about.options), word)
         for option, about in words.OPTIONS.items():
             self.assertIn("\\fb%s\\fr" % option, text)
             self.assertIn(about["help"].lower() + ".", text)

@@ -13,6 +13,25 @@ def rows(*requests):
     return Rows([json.dumps(request).encode() for request in requests])
 
 
+def store(requests, at="2024-03-01T00:00:00Z", daemon=None, **members):
+    """A store of these requests, with sizes of these members; no program is asked."""
+    import argparse
+    import tempfile
+    from metad_host import sizes, store as stores
+    from metad_host.progress import Progress
+    with tempfile.TemporaryDirectory() as folder:
+        script, beside = os.path.join(folder, "script"), os.path.join(folder, "sizes")
+        with open(script, "w", encoding="utf-8") as file:
+            for request in list(requests) + [{"op": "gc.plan", "at": at}]:
+                file.write(json.dumps(request) + "\n")
+        sizes.write(beside, dict(sizes.empty(), **members))
+        words = argparse.Namespace(root=script, at=at, metad=None, sizes=beside, containerd=None)
+        found = stores.Store(words, Progress("metad-host"), program=False)
+    if daemon:
+        found.daemon = daemon
+    return found
+
+
 def measure(**members):
     """The sizes of a script, with these members."""
     from metad_host import sizes
