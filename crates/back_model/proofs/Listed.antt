@@ -28,14 +28,17 @@ all_append : (r : Ordering) (name : Text) (xs ys : List BackSnap) → AreAll r n
 all_append r name [] ys h k = k
 all_append r name (x ∷ xs) ys h k = (h.0, all_append r name xs ys h.1 k)
 
+-- a name that compares so to a snapshotter compares so to that of each snapshot listed under it
 pub all_of : (r : Ordering) (name snapshotter : Text) → text_cmp name snapshotter ≡ r → (es : Parents) → AreAll r name (map (back_snap snapshotter) es)
 all_of r name snapshotter is [] = tt
 all_of r name snapshotter is (e ∷ es) = (is, all_of r name snapshotter is es)
 
+-- a name before the snapshotter of each shard is before that of each listed snapshot
 pub all_behind : (name : Text) (shards : List Shard) → AllByRecursion (λ y. text_cmp name y ≡ Less) (map (λ s. s.snapshotter) shards) → AreAll Less name (all_snaps shards)
 all_behind name [] h = tt
 all_behind name (s ∷ shards) h = all_append Less name (snaps_in s) (all_snaps shards) (all_of Less name s.snapshotter h.0 (finmap.entries s.snaps)) (all_behind name shards h.1)
 
+-- an empty map has no entries
 pub no_entries : finmap.entries (finmap.empty {X = Option ℕ} {R = nat_cmp}) ≡ []
 no_entries = nothing _ (sym (finmap.len-entries finmap.empty) ∙ finmap.len-empty nat_cmp (Option ℕ))
   where

@@ -62,6 +62,7 @@ less_number false true = refl
 less_number false false = refl
 
 module _ (number : ℕ) where
+  -- the order of numbers calls two equal exactly if they are
   pub equal_number : (x : ℕ) → is_eq (nat_cmp number x) ≡ (x == number)
   equal_number x = unsigned_tied number x ∙ nat_eq_equiv.symm number x
 

@@ -56,15 +56,19 @@ all_behind : (name other : Text) → text_cmp name other ≡ Less → (ts : List
 all_behind name other less [] h = h
 all_behind name other less (t ∷ ts) h = (nat_list_cmp_total.trans name other t less h.0, all_behind name other less ts h.1)
 
+-- a name before the first shard's snapshotter is before that of each shard
 pub behind : (name : Text) (s : Shard) (shards : List Shard) → text_cmp name s.snapshotter ≡ Less → AreApart (s ∷ shards) → AllByRecursion (λ y. text_cmp name y ≡ Less) (map (λ x. x.snapshotter) (s ∷ shards))
 behind name s shards less apart = (less, all_behind name s.snapshotter less (map (λ x. x.snapshotter) shards) (sorted_head text_cmp s.snapshotter (map (λ x. x.snapshotter) shards) apart))
 
+-- no shard has a name that is before the first shard's snapshotter
 pub none_at : (name : Text) (s : Shard) (shards : List Shard) → text_cmp name s.snapshotter ≡ Less → AreApart (s ∷ shards) → shard_at name (s ∷ shards) ≡ None
 none_at name s shards less apart = none_behind name (s ∷ shards) (behind name s shards less apart)
 
+-- the first shard's snapshotter is before those of the other shards
 pub apart_head : (s : Shard) (shards : List Shard) → AreApart (s ∷ shards) → AllByRecursion (λ y. text_cmp s.snapshotter y ≡ Less) (map (λ x. x.snapshotter) shards)
 apart_head s shards = sorted_head text_cmp s.snapshotter (map (λ x. x.snapshotter) shards)
 
+-- shards in order, each snapshotter once, are so without the first shard
 pub apart_rest : (s : Shard) (shards : List Shard) → AreApart (s ∷ shards) → AreApart shards
 apart_rest s shards = sorted_tail text_cmp s.snapshotter (map (λ x. x.snapshotter) shards)
 
@@ -77,6 +81,7 @@ module _ {X : Type 0} (f : X → Shard) where
   none_there name (y ∷ ys) (suc i) h inside at apart =
       rw (h 0 y (omega arith)) (none_there name ys i (lesser_rest f name y ys i h) (omega arith) (λ e k. at e (omega arith)) (apart_rest (f y) (map f ys) apart))
 
+-- texts that compare as equal are equal
 pub same_name : (a b : Text) → text_cmp a b ≡ Equal → a ≡ b
 same_name a b = slice_cmp-IsAntisymmetric nat_cmp-IsAntisymmetric a b
 
@@ -97,6 +102,7 @@ pub none_apart : AreApart []
 unfolding IsStrictlySortedBy
 none_apart = tt
 
+-- names in order, each once, are so with one more in front that is before each of them
 pub apart_first : (name : Text) (ts : List Text) → AllByRecursion (λ y. text_cmp name y ≡ Less) ts → IsStrictlySortedBy text_cmp ts → IsStrictlySortedBy text_cmp (name ∷ ts)
 unfolding IsStrictlySortedBy
 apart_first name ts h sorted = (h, sorted)

@@ -11,6 +11,7 @@ use Rattle.backend_sweep.specs.Shards.{has}
 use Rattle.backend_sweep.specs.ShardPlans.{PlannedShard, outcome_in, outcome_of, is_removed, is_failed}
 use Rattle.backend_sweep.specs.ObjectOutcomes.{names_with, was_removed, has_failed}
 
+-- one more name is added to the chosen ones exactly if its outcome is chosen
 pub names_with_more : {X : Type 0} (w : Outcome → Bool) (names : List X) (outcomes : List Outcome)
     (x : X) (f : Outcome)
     → length outcomes ≡ length names

@@ -58,6 +58,7 @@ module _ (at later : ℤ) (after : int_le at later ≡ true) where
   root_earlier profile (snapshot Full row) h = h
   root_earlier profile (snapshot Flat row) h = h
 
+  -- a path at the later moment is a path at the earlier one too
   pub path_earlier : (records : Records) (last : Thing) (path : List Thing) → IsPath records later last path → IsPath records at last path
   path_earlier records last [] p = (p.0, root_earlier records.profile last p.1)
   path_earlier records last (before ∷ path) p = (p.0, p.1, path_earlier records before path p.2)

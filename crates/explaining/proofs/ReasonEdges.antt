@@ -51,6 +51,7 @@ reason_in_edge (content Flat row) b = refl
 reason_in_edge (snapshot Full row) b = either _ B.Parent (label_reason row.labels b) (is_label_ref row.labels b) (label_edge row.labels b)
 reason_in_edge (snapshot Flat row) b = alone _ B.Parent
 
+-- there is a reason for a reference exactly if there is an edge
 pub reason_edge : (a b : Thing) → is_some (reason_of a b) ≡ has_edge a b
 reason_edge a b = go (bytes_eq (namespace_of a) (namespace_of b))
   where

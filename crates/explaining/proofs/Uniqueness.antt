@@ -32,6 +32,7 @@ module _ (records : Records) (one : OneThingPerKey records) (at : ℤ) where
       let rest : p ≡ q = one_back c p q (subst (λ (t : Thing). IsPath records at t p) same hp.2) hq.2 long (subst (λ (t : Thing). IsFirstBack records at t p) same fp.1) fq.1 in
       (λ i. same i ∷ rest i)
 
+  -- two explanations of the same at one moment are equal
   pub one_explanation : (asked : Thing → Bool) (p q : List Thing) → Explains records at asked p → Explains records at asked q → p ≡ q
   one_explanation asked [] [] e f = refl
   one_explanation asked [] (last ∷ q) e f = absurd (e last q f.this f.leads)
@@ -63,6 +64,7 @@ module _ (records : Records) (one : OneThingPerKey records) (asked : Thing → B
       neither (negsuc x) (negsuc y) h k =
           let same : x ≡ y = grind (arith, nat_tests) in ap negsuc same
 
+  -- two explanations of the same at the last moment that has one are equal
   pub one_last : (p q : List Thing) → ExplainsLast records asked p → ExplainsLast records asked q
       → p ≡ q
   one_last [] [] e f = refl

@@ -106,6 +106,7 @@ module _ (records : Records) (at : ℤ) (book : List Node) (graph : Graph) (own 
   -- ---- each thing
 
   module _ (thing : Thing) (node : Node) (n : ℕ) (c : Contains (things records) thing) (e : node_of thing ≡ Some node) (at_n : number_of book node ≡ Some n) where
+    -- a nearest walk to the thing's number gives a path to the thing, and no path has fewer things
     pub shortest : (walk : List ℕ) → IsNearest graph own held n walk → HasShortestPath records at thing
     shortest walk (cost, is, least) =
         let place = thing_at records s.built book graph s.numbered s.once s.graph_of thing node n c e at_n in
@@ -119,6 +120,7 @@ module _ (records : Records) (at : ℤ) (book : List Node) (graph : Graph) (own 
               omega arith,
         )
 
+    -- if no walk leads to the thing's number, no path ends in the thing
     pub none : ((walk : List ℕ) (cost : ℕ) → IsWalkTo graph own held n cost walk → ⊥) → (path : List Thing) → IsPath records at thing path → ⊥
     none nowhere path p =
         let place = thing_at records s.built book graph s.numbered s.once s.graph_of thing node n c e at_n in

@@ -12,7 +12,7 @@ ghost use Rattle.meta_types.specs.Explanations.{Explains};
 ghost use Rattle.meta_types.specs.Reasons.{reason_of};
 
 /// A nearest walk to a thing's number is a path of references to the thing, and no path has fewer
-/// things. Where no walk leads to the number, no path ends in the thing.
+/// things. If no walk leads to the number, no path ends in the thing.
 pub fn walks_are_paths()
     ensures shortest { (records : Records) (at : ℤ) (book : List Node) (graph : Graph) (own held : List ℕ)
         → IsSplitGraphOf records at book graph own held
@@ -27,18 +27,18 @@ pub fn walks_are_paths()
         → (path : List Thing) → IsPath records at thing path → ⊥ }
 {}
 
-/// A thing references another exactly where there is a reason.
+/// A thing references another exactly if there is a reason.
 pub fn each_reference_has_its_reason()
     ensures { (a b : Thing) → is_some (reason_of a b) ≡ has_edge a b }
 {}
 
-/// There is one explanation, where each kind has one row a key.
+/// If each kind has one row a key, there is one explanation.
 pub fn explanations_are_one()
     ensures { (records : Records) → OneThingPerKey records → (at : ℤ) (asked : Thing → Bool)
         (p q : List Thing) → Explains records at asked p → Explains records at asked q → p ≡ q }
 {}
 
-/// What a path leads to at a later moment, it leads to now, by the same things: roots only end.
+/// A path at a later moment is a path now, by the same things: roots end, and none begins.
 pub fn roots_only_end()
     ensures { (records : Records) (at later : ℤ) (last : Thing) (path : List Thing)
         → int_le at later ≡ true → IsPath records later last path → IsPath records at last path }

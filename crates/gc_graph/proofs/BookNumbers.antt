@@ -33,6 +33,7 @@ refused_unless X false fault is h = refl
 
 -- ---- loops
 
+-- the items of a list up to a place, that of the place too, are those before it and the place's
 pub take_next : {X : Type 0} (xs : List X) (i : ℕ) (x : X) → i < length xs → x ≡ get_or xs i x → take (i + 1) xs ≡ take i xs ++ x ∷ []
 take_next xs i x lt is = rw add-one (take-suc xs i x lt) ∙ ap (λ y. take i xs ++ y ∷ []) (sym is)
 

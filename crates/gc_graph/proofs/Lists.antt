@@ -32,6 +32,7 @@ module _ {X Y : Type 0} (h : X → Option Y) where
         | inr more ↦ (let found = rest more in (found.0, later z zs found.0 found.1, found.2))
       ]
 
+-- what is made of an item of a list is in the joined list of what is made of all
 pub in_flat_map : {X Y : Type 0} (f : X → List Y) (xs : List X) (x : X) (y : Y) → Contains xs x → Contains (f x) y → Contains (flat_map f xs) y
 in_flat_map f [] x y c d = none_in_nothing x c
 in_flat_map f (z ∷ zs) x y c d = elim (first_or_later z zs x c) [
@@ -39,6 +40,7 @@ in_flat_map f (z ∷ zs) x y c d = elim (first_or_later z zs x c) [
   | inr more ↦ Contains-append_right (f z) (flat_map f zs) y (in_flat_map f zs x y more d)
 ]
 
+-- what is in the joined list is made of some item
 pub from_flat_map : {X Y : Type 0} (f : X → List Y) (xs : List X) (y : Y) → Contains (flat_map f xs) y → (x : X) × Contains xs x × Contains (f x) y
 from_flat_map f [] y c = none_in_nothing y c
 from_flat_map f (z ∷ zs) y c = elim (Contains-append_cases (f z) (flat_map f zs) y c) [
@@ -48,6 +50,7 @@ from_flat_map f (z ∷ zs) y c = elim (Contains-append_cases (f z) (flat_map f z
 
 -- ---- roots by their places
 
+-- a root's number is among the places of roots, counted from n
 pub in_places : (profile : ℕ) (at : ℤ) (n : ℕ) (ts : List Thing) (i : ℕ) (d : Thing) → i < length ts → is_root profile at (get_or ts i d) ≡ true → Contains (root_places profile at n ts) (n + i)
 in_places profile at n [] i d lt h = absurd (omega arith)
 in_places profile at n (t ∷ ts) zero d lt h = rw h (subst (λ k. Contains (n ∷ root_places profile at (suc n) ts) k) (omega arith) (here n (root_places profile at (suc n) ts)))
@@ -57,9 +60,11 @@ in_places profile at n (t ∷ ts) (suc i) d lt h = go (is_root profile at t) (su
     go true c = later n (root_places profile at (suc n) ts) (n + suc i) c
     go false c = c
 
+-- the number, counted from n, is that of a root of the list
 abbrev pub IsPlace : ℕ → ℤ → ℕ → List Thing → ℕ → Type 0
 IsPlace profile at n ts k = (i : ℕ) × (i < length ts) × (k ≡ n + i) × ((d : Thing) → is_root profile at (get_or ts i d) ≡ true)
 
+-- each of the places of roots, counted from n, is the number of a root
 pub from_places : (profile : ℕ) (at : ℤ) (n : ℕ) (ts : List Thing) (k : ℕ) → Contains (root_places profile at n ts) k → IsPlace profile at n ts k
 from_places profile at n [] k c = none_in_nothing k c
 from_places profile at n (t ∷ ts) k c = go (is_root profile at t) refl c (λ d. from_places profile at (suc n) ts k d)

@@ -33,5 +33,6 @@ module _ (records : Records) (at : ℤ) (book : List Node) (graph : Graph) (buil
       let test : reached_by records.profile book marks at thing ≡ is_root records.profile at thing = ap (λ o. option_map_or (is_marked_node book marks) o (is_root records.profile at thing)) e in
       ((λ h. ([], (c, sym test ∙ h))), (λ r. test ∙ root_alone records at thing r.0 r.1 e))
 
+  -- the marks tell of each thing of the store whether a path ends in it
   pub tells : TellsReached records at (reached_by records.profile book marks at)
   tells = record { each = λ thing c. tells_of thing c (node_of thing) refl }

@@ -18,11 +18,13 @@ use Rattle.gc_graph.specs.Built.{AreApart}
 
 -- ---- lists of pairs
 
+-- if P holds of what f makes of each item, P holds of each item of the mapped list
 pub All-map : {X Y : Type 0} (P : Y → Type 0) (f : X → Y) (xs : List X) → All (λ x. P (f x)) xs → All P (map f xs)
 All-map P f [] h i d lt = absurd (omega arith)
 All-map P f (x ∷ xs) h zero d lt = h zero x (omega arith)
 All-map P f (x ∷ xs) h (suc i) d lt = All-map P f xs (λ j e below. h (suc j) e (omega arith)) i d (omega arith)
 
+-- what holds of each item of two lists holds of each item of the joined list
 pub All-append : {X : Type 0} (P : X → Type 0) (xs ys : List X) → All P xs → All P ys → All P (xs ++ ys)
 All-append P [] ys h k i d lt = k i d lt
 All-append P (x ∷ xs) ys h k zero d lt = h zero d (omega arith)

@@ -12,6 +12,7 @@ module _ (these those : Records) (at : ℤ) (profiles : these.profile ≡ those.
   pub reached_same : (thing : Thing) → IsReached these at thing → IsReached those at thing
   reached_same thing r = (r.0, path_same thing r.0 r.1)
 
+-- a test that tells where paths end in a store tells it in one of the same things in another order
 pub told_in_any_order : (these those : Records) (at : ℤ) (reached : Thing → Bool) → these.profile ≡ those.profile → ((thing : Thing) → Contains (things these) thing ↔ Contains (things those) thing)
     → TellsReached these at reached → TellsReached those at reached
 told_in_any_order these those at reached profiles same tells = record {

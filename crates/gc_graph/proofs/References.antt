@@ -172,6 +172,7 @@ module _ (b : Thing) (no_content : (digest : Text) (mode : Mode) → is_content 
   no_reference (snapshot Full row) = λ i. no_option (λ name. is_snapshot row.key.snapshotter name Full b) (λ name. no_snapshot row.key.snapshotter name Full) row.parent i || no_label row.labels i
   no_reference (snapshot Flat row) = no_option (λ name. is_snapshot row.key.snapshotter name Flat b) (λ name. no_snapshot row.key.snapshotter name Flat) row.parent
 
+-- nothing references a thing that has no node
 pub no_edge : (a b : Thing) → is_some (node_of b) ≡ false → has_edge a b ≡ false
 no_edge a (image row) e = (λ i. bytes_eq (namespace_of a) row.ns && no_reference (image row) (λ d m. refl) (λ s n m. refl) (λ n. refl) (λ l. refl) a i) ∙ and_none (bytes_eq (namespace_of a) row.ns)
 no_edge a (container row) e = (λ i. bytes_eq (namespace_of a) row.ns && no_reference (container row) (λ d m. refl) (λ s n m. refl) (λ n. refl) (λ l. refl) a i) ∙ and_none (bytes_eq (namespace_of a) row.ns)

@@ -21,6 +21,7 @@ use Rattle.gc_graph.proofs.References.{name_of}
 
 -- ---- numbers
 
+-- two maps, one after the other, are one map by both functions
 pub map_of_map : {X Y Z : Type 0} (f : Y → Z) (h : X → Y) (xs : List X) → map f (map h xs) ≡ map (λ x. f (h x)) xs
 map_of_map f h [] = refl
 map_of_map f h (x ∷ xs) = ap (λ rest. f (h x) ∷ rest) (map_of_map f h xs)
@@ -43,6 +44,7 @@ module _ (book : List Node) (once : AllPairs (λ a b. a ≢ b) book) where
   pub numbered_at : (node : Node) (n : ℕ) (d : Node) → number_of book node ≡ Some n → (n < length book) × (get_or book n d ≡ node)
   numbered_at node n d e = let found = position-Some (is_node node) book n d e in (found.0, sym (node_known node (get_or book n d) found.1))
 
+  -- if each node is in the book once, a node's number is its place
   pub number_at : (node : Node) (n : ℕ) (d : Node) → n < length book → get_or book n d ≡ node → number_of book node ≡ Some n
   number_at node n d lt is =
       let first : position_or_len (is_node node) book ≡ n = position_or_len_is (is_node node) book n d (omega arith)
@@ -52,9 +54,11 @@ module _ (book : List Node) (once : AllPairs (λ a b. a ≢ b) book) where
 
 -- ---- the things of a store
 
+-- the thing has a node in the graph
 abbrev pub HasNode : Thing → Type 0
 HasNode t = is_some (node_of t) ≡ true
 
+-- the thing has no node in the graph
 abbrev pub HasNone : Thing → Type 0
 HasNone t = is_some (node_of t) ≡ false
 
@@ -62,12 +66,14 @@ module _ (records : Records) where
   abbrev numbered_things : List Thing
   numbered_things = node_things records
 
+  -- the things of a store are those without a node, then the numbered ones
   pub things_split : things records ≡ root_things records ++ numbered_things
   things_split =
       let firsts = root_things records ++ map ingest records.tables.ingests in
       append_assoc firsts (in_both_modes content records.tables.content) (in_both_modes snapshot records.tables.snapshots)
       ∙ append_assoc (root_things records) (map ingest records.tables.ingests) (in_both_modes content records.tables.content ++ in_both_modes snapshot records.tables.snapshots)
 
+  -- each numbered thing has a node
   pub with_nodes : All HasNode numbered_things
   with_nodes =
       All-append HasNode (map ingest records.tables.ingests) (in_both_modes content records.tables.content ++ in_both_modes snapshot records.tables.snapshots)
@@ -78,6 +84,7 @@ module _ (records : Records) where
       (All-append HasNode (map (snapshot Full) records.tables.snapshots) (map (snapshot Flat) records.tables.snapshots)
       (All-map HasNode (snapshot Full) records.tables.snapshots (λ i d lt. refl)) (All-map HasNode (snapshot Flat) records.tables.snapshots (λ i d lt. refl))))
 
+  -- no image, container or lease has a node
   pub without_nodes : All HasNone (root_things records)
   without_nodes =
       All-append HasNone (map image records.tables.images ++ map container records.tables.containers) (map lease records.leases)
@@ -88,8 +95,10 @@ module _ (records : Records) where
   pub is_thing : (t : Thing) → Contains numbered_things t → Contains (things records) t
   is_thing t c = subst (λ (l : List Thing). Contains l t) (sym things_split) (Contains-append_right (root_things records) numbered_things t c)
 
+  -- an image, a container or a lease of the store is a thing of the store
   pub is_root_thing : (t : Thing) → Contains (root_things records) t → Contains (things records) t
   is_root_thing t c = subst (λ (l : List Thing). Contains l t) (sym things_split) (Contains-append_left (root_things records) numbered_things t c)
 
+  -- a thing of the store is an image, a container or a lease, or it is numbered
   pub split_thing : (t : Thing) → Contains (things records) t → Contains (root_things records) t ⊎ Contains numbered_things t
   split_thing t c = Contains-append_cases (root_things records) numbered_things t (subst (λ (l : List Thing). Contains l t) things_split c)

@@ -9,13 +9,16 @@ use Rattle.gc_graph.specs.declared.node.Node.{Node}
 
 -- ---- tests of two values
 
+-- whether two texts are equal doesn't depend on which comes first
 pub bytes_flip : (a b : Text) → bytes_eq a b ≡ bytes_eq b a
 bytes_flip a b = nat_list_eq_equiv.symm a b
 
+-- what is joined with false by "and" is false
 pub and_none : (a : Bool) → (a && false) ≡ false
 and_none true = refl
 and_none false = refl
 
+-- what is joined with false by "or" is as it was
 pub or_none : (a : Bool) → (a || false) ≡ a
 or_none true = refl
 or_none false = refl

@@ -34,15 +34,18 @@ module _ (records : Records) where
     name_at : (i : ℕ) (d : Thing) → get_or book i (name_of d) ≡ name_of (get_or numbered_things i d)
     name_at i d = ap (λ (b : List Node). get_or b i (name_of d)) (numbered ∙ nodes_are records) ∙ get_or-map_at name_of numbered_things i d
 
+    -- the targets of a number are the numbers of what the thing at its place references
     pub targets_at : (i : ℕ) (d : Thing) → i < length numbered_things → targets graph i ≡ targets_in book (get_or numbered_things i d)
     targets_at i d lt = ap (λ (rs : List (List ℕ)). get_or rs i []) g.edges ∙ get_or-map (targets_in book) numbered_things i d [] lt
 
+    -- if a thing references the thing at a place, that place is among the numbers of its targets
     pub edge_number : (a : Thing) (i : ℕ) (d : Thing) → i < length numbered_things → has_edge a (get_or numbered_things i d) ≡ true → Contains (targets_in book a) i
     edge_number a i d lt h =
         let b = get_or numbered_things i d in
         let found = found_by_any (λ t. is_node t (name_of b)) (targets_of a) (sym (edge_says a b (with_nodes records i d lt)) ∙ h) in
         in_filter_map (number_of book) (targets_of a) found.0 i found.1 (number_at book once found.0 i (name_of d) (omega (arith, long)) (name_at i d ∙ sym (node_known found.0 (name_of b) found.2)))
 
+    -- each of the numbers of a thing's targets is the place of a thing that it references
     pub number_edge : (a : Thing) (k : ℕ) → Contains (targets_in book a) k → (k < length numbered_things) × ((d : Thing) → has_edge a (get_or numbered_things k d) ≡ true)
     number_edge a k c =
         let found = from_filter_map (number_of book) (targets_of a) k c in
@@ -66,6 +69,7 @@ module _ (records : Records) where
     is_graph_root : (r : ℕ) → Contains all_roots r → Contains graph.roots.items r
     is_graph_root r c = Contains-permutation all_roots graph.roots.items r g.roots c
 
+    -- the thing at a place is a thing of the store
     pub at_place : (i : ℕ) (d : Thing) → i < length numbered_things → Contains (things records) (get_or numbered_things i d)
     at_place i d lt = is_thing records (get_or numbered_things i d) (Contains-get_or numbered_things i d lt)
 
@@ -136,6 +140,7 @@ module _ (records : Records) where
     node_name (content mode row) node e = (cc, refl)
     node_name (snapshot mode row) node e = (cc, refl)
 
+    -- a thing stands at the place that is its node's number
     pub thing_at : (thing : Thing) (node : Node) (n : ℕ) → Contains (things records) thing → node_of thing ≡ Some node → number_of book node ≡ Some n → (n < length numbered_things) × (get_or numbered_things n thing ≡ thing)
     thing_at thing node n c e at_n =
         let name = node_name thing node e in

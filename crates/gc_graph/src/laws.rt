@@ -6,7 +6,7 @@ pub fn marks_tell_where_paths_end()
     ensures { MarksTellWherePathsEnd }
 {}
 
-/// Where paths end doesn't depend on the order in which rows stand.
+/// Where paths end doesn't depend on the order of rows.
 pub fn paths_see_no_order()
     ensures { PathsSeeNoOrder }
 {}

@@ -67,6 +67,8 @@ one_journal first second (g ∷ gs) (h ∷ hs) size all each count same =
       | inr collision ↦ inr collision
     ]
 
+-- two journals of as many groups with one last sum have the same groups, or two texts have one
+-- SHA-256
 pub the_last_sum_tells_all : (first : List ℕ) (groups others : List (List (List ℕ)))
     → AreGroups groups → AreGroups others → length groups ≡ length others
     → sum_after first groups ≡ sum_after first others → (groups ≡ others) ⊎ Collision

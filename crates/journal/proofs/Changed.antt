@@ -681,6 +681,8 @@ change_from before start (group ∷ groups) front back byte other room all fits 
           ]
     ]
 
+-- If a byte of a journal is changed to another, which isn't 0, the text is found as damaged, or two
+-- texts have one SHA-256. Zeros may follow the journal.
 pub a_change_is_told : (first : List ℕ) (groups : List (List (List ℕ))) (front back : List ℕ)
     (byte other room : ℕ)
     → AreGroups groups → journal_end first groups < 2 ^ 64

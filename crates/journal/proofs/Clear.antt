@@ -66,6 +66,7 @@ pub damage_is_found : (first text : List ℕ) → (parsed first text).is_damaged
     → (found first text).is_damaged ≡ true
 damage_is_found first text damaged = or_else (has_noise text) (parsed first text).is_damaged damaged
 
+-- a text with a byte that no UTF-8 text has is found as damaged
 pub noise_is_found : (first text : List ℕ) → has_noise text ≡ true
     → (found first text).is_damaged ≡ true
 noise_is_found first text is = rw is refl

@@ -34,6 +34,7 @@ pub group_is_whole : (before : List ℕ) (start : ℕ) (group : List (List ℕ))
 group_is_whole before start group all =
     both_whole group _ (whole_each group all) (commits_are_whole before start group)
 
+-- each line of a journal's text is a whole line
 pub lines_are_whole : (before : List ℕ) (start : ℕ) (groups : List (List (List ℕ)))
     → AreGroups groups → AreWhole (lines_from before start groups)
 lines_are_whole before start [] all = tt

@@ -76,6 +76,7 @@ found_zeros first text count =
     ∙ ap (λ (p : List ℕ). found_in first 0 [] false lines p) last
     ∙ same_last first 0 [] false lines (piece ++ zeros) piece (overlong_zeros piece count)
 
+-- what is found in a text is found in it with zeros behind it, and nothing else
 pub zeros_change_nothing : ZerosChangeNothing
 zeros_change_nothing first text longer more =
     ap (found first) more.1

@@ -84,6 +84,7 @@ journal_is_clear first groups all = groups_are_clear first 0 groups all
 
 -- ---- what is read
 
+-- a journal's text, with zeros behind it, is found to hold its groups, without damage
 pub what_is_written_is_read : (first : List ℕ) (groups : List (List (List ℕ))) (room : ℕ)
     → AreGroups groups → found first (journal_text first groups ++ replicate room 0) ≡ sound groups
 what_is_written_is_read first groups room all =
@@ -92,6 +93,8 @@ what_is_written_is_read first groups room all =
     (zeros_are_clear room))
     (written_is_parsed first groups room all)
 
+-- Each byte of the last group is as it was written, or 0. If the group is torn, the groups before
+-- it are found; if not, it is whole and is found too. Neither is found as damage.
 pub a_torn_group_is_not_there : (first : List ℕ) (groups : List (List (List ℕ)))
     (group : List (List ℕ)) (mixed : List ℕ) (room : ℕ)
     → AreGroups groups → AreLines group

@@ -123,6 +123,8 @@ split before start pending true (line ∷ lines) last none = elim (cases_Bool (i
   ]
 ]
 
+-- The whole lines of a text begin with those of the groups that are found. If no damage is found,
+-- no other whole line commits a group that begins elsewhere than where these end.
 pub nothing_is_skipped : (first text : List ℕ) → (rest : List (List ℕ))
     × (whole_lines text ≡ journal_lines first (found first text).groups ++ rest)
     × ((found first text).is_damaged ≡ false

@@ -7,16 +7,19 @@ use Rattle.std.specs.List.{list_any, AllByRecursion}
 use Rattle.journal.specs.Text.{is_line_feed, lines_text}
 use Rattle.journal.specs.Reading.{onto_whole, whole_lines, last_piece}
 
+-- no byte of the text is a line feed
 abbrev pub HasNoFeed : List ℕ → Type 0
 HasNoFeed line = list_any is_line_feed line ≡ false
 
 abbrev pub AreWhole : List (List ℕ) → Type 0
 AreWhole lines = AllByRecursion HasNoFeed lines
 
+-- if an "or" is false, both its parts are
 pub or_false : (a b : Bool) → (a || b) ≡ false → (a ≡ false) × (b ≡ false)
 or_false true b e = (e, cc)
 or_false false b e = (refl, e)
 
+-- two texts without a line feed, one after the other, have none
 pub none_of_both : (a b : List ℕ) → HasNoFeed a → HasNoFeed b → HasNoFeed (a ++ b)
 none_of_both a b e f = list_any-append is_line_feed a b ∙ rw (e, f) refl
 
@@ -35,6 +38,7 @@ some_feed (b ∷ line) rest = elim (cases_Bool (is_line_feed b)) [
   | inr other ↦ rw (other, some_feed line rest) refl
 ]
 
+-- the last piece of a text is the same if a line with its line feed stands before the text
 pub last_piece-line : (line rest : List ℕ) → last_piece (line ++ 10 ∷ rest) ≡ last_piece rest
 last_piece-line [] rest = refl
 last_piece-line (b ∷ line) rest = elim (cases_Bool (is_line_feed b)) [
@@ -49,6 +53,7 @@ whole_lines-none (b ∷ bytes) e =
     let both = or_false (is_line_feed b) (list_any is_line_feed bytes) e in
     rw (both.0, whole_lines-none bytes both.1) refl
 
+-- a text without a line feed is its own last piece
 pub last_piece-none : (bytes : List ℕ) → HasNoFeed bytes → last_piece bytes ≡ bytes
 last_piece-none [] e = refl
 last_piece-none (b ∷ bytes) e =
@@ -64,6 +69,7 @@ whole_lines-lines (line ∷ lines) rest all =
     ∙ whole_lines-line line (lines_text lines ++ rest) all.0
     ∙ ap (λ (ls : List (List ℕ)). line ∷ ls) (whole_lines-lines lines rest all.1)
 
+-- the last piece of a text is the same if lines with their line feeds stand before the text
 pub last_piece-lines : (lines : List (List ℕ)) (rest : List ℕ)
     → last_piece (lines_text lines ++ rest) ≡ last_piece rest
 last_piece-lines [] rest = refl
@@ -72,12 +78,14 @@ last_piece-lines (line ∷ lines) rest =
     ∙ last_piece-line line (lines_text lines ++ rest)
     ∙ last_piece-lines lines rest
 
+-- the whole lines of a text that was made of whole lines are these lines
 pub whole_lines-text : (lines : List (List ℕ)) → AreWhole lines
     → whole_lines (lines_text lines) ≡ lines
 whole_lines-text lines all =
     ap whole_lines (sym (append-nil (lines_text lines))) ∙ whole_lines-lines lines [] all
     ∙ append-nil lines
 
+-- the text of lines and more lines is the text of the first, then that of the others
 pub lines_text-append : (lines more : List (List ℕ))
     → lines_text (lines ++ more) ≡ lines_text lines ++ lines_text more
 lines_text-append [] more = refl
@@ -107,6 +115,7 @@ some_lines (b ∷ bytes) has none = elim (cases_Bool (is_line_feed b)) [
 feed_is : (b : ℕ) → is_line_feed b ≡ true → b ≡ 10
 feed_is b is = eqb-true b 10 is
 
+-- a text is its whole lines with their line feeds, then its last piece
 pub parts : (text : List ℕ) → text ≡ lines_text (whole_lines text) ++ last_piece text
 parts [] = refl
 parts (b ∷ bytes) = elim (cases_Bool (is_line_feed b)) [
@@ -125,6 +134,7 @@ onto_are_whole : (byte : ℕ) (lines : List (List ℕ)) → is_line_feed byte �
 onto_are_whole byte [] other all = tt
 onto_are_whole byte (line ∷ lines) other all = (rw other all.0, all.1)
 
+-- no whole line of a text has a line feed in it
 pub each_whole : (text : List ℕ) → AreWhole (whole_lines text)
 each_whole [] = tt
 each_whole (b ∷ bytes) = elim (cases_Bool (is_line_feed b)) [
@@ -132,6 +142,7 @@ each_whole (b ∷ bytes) = elim (cases_Bool (is_line_feed b)) [
   | inr other ↦ rw other (onto_are_whole b (whole_lines bytes) other (each_whole bytes))
 ]
 
+-- the last piece of a text has no line feed
 pub piece_has_none : (text : List ℕ) → HasNoFeed (last_piece text)
 piece_has_none [] = refl
 piece_has_none (b ∷ bytes) = elim (cases_Bool (is_line_feed b)) [

@@ -219,6 +219,7 @@ told_text first front back line more k short fits of whole =
     (whole_lines more) (last_piece all) 0 k (omega arith) (omega (arith, size, short)) fits
     (torn_more (piece ++ 0 ∷ []) head.line (torn_by piece [])) of
 
+-- if a byte before a whole group is 0, the text is found as damaged, whatever follows the group
 pub a_zero_is_told : (first before front more : List ℕ) (group : List (List ℕ)) → AreLines group
     → list_any is_zero front ≡ true → length front < 2 ^ 64
     → (found first (front ++ (group_text before (length front) group ++ more))).is_damaged ≡ true

@@ -2,33 +2,33 @@
 ghost use Rattle.journal.specs.Laws.{WhatIsWrittenIsRead, ATornGroupIsNotThere, NothingIsSkipped, AZeroIsTold, AChangeIsTold, NoiseIsTold, TheLastSumTellsAll};
 ghost use Rattle.journal.specs.Growth.{ZerosChangeNothing};
 
-/// A journal is read as it was written. One of whose last group a crash lost bytes is read without
-/// that group, or with it where it is whole. That isn't found as damage.
+/// A journal is read as it was written. If a crash lost bytes of the last group, the journal is
+/// read without that group; if the group is whole, it is read too. Neither is found as damage.
 pub fn a_crash_leaves_whole_groups()
     ensures written { WhatIsWrittenIsRead }
     ensures torn { ATornGroupIsNotThere }
 {}
 
-/// Whatever a file holds: what is read as committed stands in it so from its front on. What follows
-/// is found as damage, or no commit line of a later group stands in it.
+/// The groups that are read as committed stand in the file from its front on, line by line. If no
+/// damage is found, no commit line of a later group follows them.
 pub fn nothing_is_skipped()
     ensures skipped { NothingIsSkipped }
 {}
 
-/// A byte that is lost before the last group is found as damage, and so is each byte that is
-/// changed to another, and each that no UTF-8 text has, wherever it stands.
+/// A byte that is lost before a whole group is found as damage, and so is each byte that no UTF-8
+/// text has. So is each byte that is changed to another, or two texts have one SHA-256.
 pub fn damage_is_told()
     ensures zero { AZeroIsTold }
     ensures change { AChangeIsTold }
     ensures noise { NoiseIsTold }
 {}
 
-/// The last sum tells all that stands before it.
+/// Two journals of as many groups with one last sum are equal, or two texts have one SHA-256.
 pub fn the_last_sum_tells_all()
     ensures all { TheLastSumTellsAll }
 {}
 
-/// A file that is made larger by zeros is found to hold what it held.
+/// If a file is made larger by zeros, the same is found in it, be it sound or damaged.
 pub fn zeros_change_nothing()
     ensures found { ZerosChangeNothing }
 {}

@@ -94,6 +94,8 @@ kept_whole text = none_in_front 65537 (last_piece text) (piece_has_none text)
 
 -- ---- the front, and then the piece that is kept and the rest
 
+-- the whole lines of a text with more behind it are those of the text, then those of its kept piece
+-- with more behind it
 pub whole_heard_on : (text more : List ℕ)
     → heard_whole (text ++ more) ≡ heard_whole text ++ heard_whole (next_piece text ++ more)
 whole_heard_on text more = ap (map cut_long) (whole_on text more)
@@ -102,6 +104,7 @@ whole_heard_on text more = ap (map cut_long) (whole_on text more)
     (lines_alike (last_piece text) (next_piece text) more (piece_has_none text) (kept_whole text)
     (kept_alike text))
 
+-- the piece kept of a text with more behind it is that of its own kept piece with more behind it
 pub next_piece_on : (text more : List ℕ)
     → next_piece (text ++ more) ≡ next_piece (next_piece text ++ more)
 next_piece_on text more = ap cut_long (last_on text more)
@@ -120,6 +123,8 @@ heard_both text = heard_parts text
     ∙ ap (λ (ls : List (List ℕ)). heard_whole text ++ ls)
     (cut_last 65537 (omega arith) (last_piece text))
 
+-- the lines of a text with more behind it are its whole lines, then the lines of its kept piece
+-- with more behind it
 pub heard_on : (text more : List ℕ)
     → heard (text ++ more) ≡ heard_whole text ++ heard (next_piece text ++ more)
 heard_on text more =

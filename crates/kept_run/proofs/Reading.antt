@@ -13,6 +13,7 @@ pub Consumes-none : (left : Option (List ℕ)) → Consumes left left []
 Consumes-none None = tt
 Consumes-none (Some xs) = refl
 
+-- a reader that gave one text and then another gave both, one after the other
 pub Consumes-append : (l0 l1 l2 : Option (List ℕ)) (xs ys : List ℕ) → Consumes l0 l1 xs
     → Consumes l1 l2 ys → Consumes l0 l2 (xs ++ ys)
 Consumes-append None l1 l2 xs ys a b = tt

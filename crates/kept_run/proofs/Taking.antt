@@ -5,6 +5,7 @@ use Rattle.std.proofs.lemmas.List.{append-nil}
 use Rattle.journal.specs.Text.{lines_text, AreLines}
 use Rattle.kept_run.specs.Runs.{Entry, asked, replies, accepted, Trace, KeepsLine}
 
+-- entries that lead to a state, and others that go on from there, lead together to the last state
 pub trace-append : {S : Type 0} (steps : S → List ℕ → List ℕ → Bool → S → Type 0)
     (from middle to : S) (a b : List Entry) → Trace steps from a middle → Trace steps middle b to
     → Trace steps from (a ++ b) to
@@ -13,6 +14,7 @@ trace-append {S} steps from middle to [] b one other =
 trace-append steps from middle to (entry ∷ a) b one other =
     (one.0, one.1, trace-append steps one.0 middle to a b one.2 other)
 
+-- the lines asked by entries and more entries are those of the first, then those of the others
 pub asked-append : (a b : List Entry) → asked (a ++ b) ≡ asked a ++ asked b
 asked-append [] b = refl
 asked-append (entry ∷ a) b = ap (λ (ls : List (List ℕ)). entry.line ∷ ls) (asked-append a b)

@@ -4,12 +4,12 @@ ghost use Rattle.kept_run.specs.Laws.{CutsAreNotHeard, CallsJoin};
 use crate::Service;
 use journal::Log;
 
-/// It makes no difference where what is read is cut into the parts of two calls.
+/// It makes no difference where the input is cut into two calls.
 pub fn cuts_are_not_heard()
     ensures cuts { CutsAreNotHeard }
 {}
 
-/// A call that goes on where another stopped makes one call of both.
+/// Two calls, of which the second goes on where the first stopped, are as one call.
 pub fn calls_join<S: Service, D: Log>()
     ensures joined { CallsJoin S.steps D.text D.may_leave }
 {}

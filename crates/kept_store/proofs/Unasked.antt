@@ -23,6 +23,7 @@ none_of : (b : Bool) (found : Option Command) → found ≡ None → (if b then 
 none_of true found none = none
 none_of false found none = refl
 
+-- a line that begins by "number " is read as no command
 pub asks_nothing : (rest : List ℕ) → command_in (codes "number " ++ rest) ≡ None
 unfolding command_in
 asks_nothing rest =

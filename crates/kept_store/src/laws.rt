@@ -18,7 +18,7 @@ pub fn numbers_ask_nothing()
     ensures numbers { NumbersAskNothing }
 {}
 
-/// What a start finds of a run that stopped and went on, it finds as of one that didn't stop.
+/// After a run that stopped and went on, a start finds the same as after one run that didn't stop.
 pub fn restarts_join<D: Log>()
     ensures joined { RestartsJoin D.text D.may_leave }
 {}

@@ -122,6 +122,7 @@ module _ {S : Type 0} (steps : S → List ℕ → List ℕ → Bool → S → Ty
         ),
       )
 
+  -- what a run that began with nothing wrote up to the end answers all lines that it read
   pub answers_all : (start : Start S) (to : S) (contents : Option (List ℕ)) (piece : List ℕ)
       (left : Option (List ℕ))
       (holds : List (List ℕ) → List (List ℕ) → Type 0)
@@ -138,6 +139,8 @@ module _ {S : Type 0} (steps : S → List ℕ → List ℕ → Bool → S → Ty
         (a.asks ∙ ap (λ (t : List ℕ). heard (t ++ a.read)) none ∙ heard_are a.read);
   }
 
+  -- if the reader failed, what a run that began with nothing wrote answers the whole lines that it
+  -- read
   pub answers_wholes : (start : Start S) (to : S) (contents : Option (List ℕ)) (piece : List ℕ)
       (left : Option (List ℕ))
       (holds : List (List ℕ) → List (List ℕ) → Type 0)
@@ -154,6 +157,8 @@ module _ {S : Type 0} (steps : S → List ℕ → List ℕ → Bool → S → Ty
         (a.asks ∙ ap (λ (t : List ℕ). heard_whole (t ++ a.read)) none ∙ heard_wholes_are a.read);
   }
 
+  -- if each line may be refused, what a run that began with nothing wrote begins an answer to what
+  -- it read, whatever failed
   pub answers_begin : MayRefuse steps → (start : Start S) (contents left : Option (List ℕ))
       (finds : Option (List (List ℕ)) → Type 0)
       → start.begun ≡ [] → Kept steps start contents left finds

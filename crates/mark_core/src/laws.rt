@@ -15,7 +15,8 @@ pub fn a_run_has_one_answer()
         → Run g m events a → IsFirstBad g m events p → ⊥ }
 {}
 
-/// Roots that stand twice are claimed once, where they first stand, and go to the queues in turn.
+/// A root that is listed twice is claimed once, at its first place, and roots go to the queues in
+/// turn: worked starts, computed.
 pub fn roots_are_dealt_in_turn()
     ensures distinct { claim_all [] (7 ∷ 4 ∷ 7 ∷ 5 ∷ 4 ∷ []) ≡ 7 ∷ 4 ∷ 5 ∷ [] }
     ensures in_turn { deal (idle ∷ idle ∷ []) 0 (7 ∷ 4 ∷ 5 ∷ [])

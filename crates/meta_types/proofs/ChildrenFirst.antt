@@ -140,11 +140,13 @@ module _ (state : State) (at : ℤ) (failed : BackNames) (reached : Thing → Bo
       subst (λ (list : List ℕ). IsChildfirst list (shard_of snapshotter shards)) (sym (numbers_named snapshotter (in_order (goes_before shards) (filter goes shards))))
       (record { after_children = after_children; closed = closed })
 
+-- the report of a collection of a sound store names each snapshot after all its children
 pub removed_snapshots_are_childfirst : (state : State) (at : ℤ) (failed : BackNames) (report : Report) (new : State) (snapshotter : Text) → IsSound state → Collects state at failed report new
     → IsChildfirst (numbers_of snapshotter report.backend.snapshots) (shard_of snapshotter state.backends.snapshots)
 removed_snapshots_are_childfirst state at failed report new snapshotter s c =
     subst (λ (r : Report). IsChildfirst (numbers_of snapshotter r.backend.snapshots) (shard_of snapshotter state.backends.snapshots)) (sym c.report_is) (are_childfirst state at failed c.reached c.tells s snapshotter)
 
+-- the report of a dry run of a sound store names each snapshot after all its children
 pub planned_snapshots_are_childfirst : (state : State) (at : ℤ) (report : Report) (snapshotter : Text) → IsSound state → Plans state at report
     → IsChildfirst (numbers_of snapshotter report.backend.snapshots) (shard_of snapshotter state.backends.snapshots)
 planned_snapshots_are_childfirst state at report snapshotter s p =

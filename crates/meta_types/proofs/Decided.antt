@@ -30,15 +30,18 @@ pub record Test (A : Type 0) : Type 0 where
   pub same : A → A → Bool
   pub decides : (x y : A) → Decides (same x y) (x ≡ y)
 
+-- numbers are compared by `==`
 abbrev pub number : Test ℕ
 number = record { same = λ x y. x == y; decides = unsigned_Decides }
 
 abbrev pub signed : Test ℤ
 signed = record { same = λ x y. int_eq x y; decides = signed_Decides }
 
+-- texts are compared byte by byte
 abbrev pub text : Test (List ℕ)
 text = record { same = λ x y. bytes_eq x y; decides = bytes_decides }
 
+-- lists are compared item by item
 abbrev pub listed : {A : Type 0} → Test A → Test (List A)
 listed t = record { same = λ xs ys. pointwise t.same xs ys; decides = pointwise_decides t.decides }
 
@@ -75,6 +78,7 @@ more_decides t u x y = (
 )
 
 infixr 35 ◌⊗◌
+-- pairs are compared part by part
 abbrev pub ◌⊗◌ : {A B : Type 0} → Test A → Test B → Test (A × B)
 t ⊗ u = record { same = λ x y. t.same x.0 y.0 && u.same x.1 y.1; decides = more_decides t u }
 
@@ -140,6 +144,7 @@ by_decides N ts x y =
 abbrev pub variants : (N : Record) → Tests N.parts → Test N.D
 variants N ts = record { same = λ x y. by false false N.parts (sames N.parts ts) (N.as_values x) (N.as_values y); decides = by_decides N ts }
 
+-- a test that is equal to one that decides P decides P
 pub told_by : {P : Type 0} {r s : Bool} → r ≡ s → Decides s P → Decides r P
 told_by e d = (λ h. d.0 (sym e ∙ h), λ p. e ∙ d.1 p)
 

@@ -226,17 +226,21 @@ module _ (state : State) (at : ℤ) (reached : Thing → Bool) (dry : Bool) wher
             (in_map object_name _ h.0 (ordered_has (goes_before shards) (filter goes shards) h.0 (in_filter goes shards h.0 h.1 (ap not h.2))))),
       )
 
+-- whatever removals failed, a collection of a sound store keeps and names the rows as the
+-- definitions say
 pub divides_the_rows : ACollectionDividesTheRows
 divides_the_rows state at failed report new s c =
     subst (λ (n : State). CollectsRows state at report n) (sym c.state_is)
     (subst (λ (r : Report). CollectsRows state at r (collected state at c.reached failed)) (sym c.report_is) (rows state at failed c.reached false c.tells s))
 
+-- if no removal failed, a collection of a sound store keeps and names the objects so too
 pub divides_all : ACollectionDividesAll
 divides_all state at report new s c =
     subst (λ (n : State). IsCollected state at false report n) (sym c.state_is)
     (subst (λ (r : Report). IsCollected state at false r (collected state at c.reached no_objects)) (sym c.report_is)
     (record { rows = rows state at no_objects c.reached false c.tells s; objects = objects state at c.reached false; is_dry = refl }))
 
+-- a dry run of a sound store reports what a collection without a failure would do
 pub tells_what_a_collection_would : ADryRunTellsWhatACollectionWould
 tells_what_a_collection_would state at report s p = (
   collected state at p.reached no_objects,

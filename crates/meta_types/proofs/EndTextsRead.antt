@@ -436,6 +436,7 @@ whole_number : (n : ℕ)
     ≡ n
 whole_number n = omega arith
 
+-- the text of an end in the years 0000 to 9998 is read as that end
 pub ends_are_read : EndsAreRead
 ends_are_read (pos k) low high =
     let n : ℕ = 62167219200000000000 + k in

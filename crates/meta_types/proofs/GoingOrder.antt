@@ -63,8 +63,10 @@ module _ (all : List BackSnap) where
         | inr f ↦ f
       ]
 
+  -- if a snapshot goes before another, the other doesn't go before it
   pub one_way : (x y : BackSnap) → goes_before all x y ≡ true → goes_before all y x ≡ false
   one_way x y h = goes_is y x ∙ one_way_cmp x y (sym (goes_is x y) ∙ h)
 
+  -- if x doesn't go before y, and y doesn't go before z, x doesn't go before z
   pub chain : (x y z : BackSnap) → goes_before all x y ≡ false → goes_before all y z ≡ false → goes_before all x z ≡ false
   chain x y z h k = goes_is x z ∙ further z y x (sym (goes_is y z) ∙ k) (sym (goes_is x y) ∙ h)

@@ -12,6 +12,7 @@ use Rattle.meta_types.specs.Sound.{AreRows}
 use Rattle.meta_types.proofs.Ordered.{in_order_added, in_order_removed}
 
 module _ {Row : Type 0} (key_of : Row → Key) where
+  -- what holds of each row holds of each row that is left after a removal
   pub all_removed : (P : Row → Type 0) (key : Key) (rows : List Row) → All P rows → All P (remove_row key_of key rows)
   all_removed P key [] h = h
   all_removed P key (row ∷ rows) h = elim (cases_Bool (is_key key (key_of row))) [
@@ -19,6 +20,7 @@ module _ {Row : Type 0} (key_of : Row → Key) where
     | inr f ↦ rw f (All-cons P row (remove_row key_of key rows) (All-head P row rows h) (all_removed P key rows (All-tail P row rows h)))
   ]
 
+  -- what holds of each row and of a new one holds of each row after the new one is added
   pub all_added : (P : Row → Type 0) (row : Row) → P row → (rows : List Row) → All P rows → All P (add_row key_of row rows)
   all_added P row p [] h = All-cons P row [] p h
   all_added P row p (next ∷ rows) h = elim (cases_Bool (is_before (key_of row) (key_of next))) [
@@ -26,6 +28,7 @@ module _ {Row : Type 0} (key_of : Row → Key) where
     | inr f ↦ rw f (All-cons P next (add_row key_of row rows) (All-head P next rows h) (all_added P row p rows (All-tail P next rows h)))
   ]
 
+  -- what holds of each row, and is kept by a change, holds of each row after one is changed
   pub all_changed : (P : Row → Type 0) (key : Key) (change : Row → Row) → ((row : Row) → P row → P (change row)) → (rows : List Row) → All P rows → All P (change_row key_of key change rows)
   all_changed P key change keeps [] h = h
   all_changed P key change keeps (row ∷ rows) h = elim (cases_Bool (is_key key (key_of row))) [
@@ -45,6 +48,7 @@ module _ {Row : Type 0} (key_of : Row → Key) where
   changed_first key change same row [] = refl
   changed_first key change same row (next ∷ rows) = ap (λ (k : Key). is_before k (key_of next)) (same row)
 
+  -- rows stay in order if a change keeps the key of its row
   pub in_order_changed : (key : Key) (change : Row → Row) → ((row : Row) → key_of (change row) ≡ key_of row) → (rows : List Row) → are_in_order key_of rows ≡ true → are_in_order key_of (change_row key_of key change rows) ≡ true
   in_order_changed key change same [] o = refl
   in_order_changed key change same (row ∷ rows) o =
@@ -55,18 +59,23 @@ module _ {Row : Type 0} (key_of : Row → Key) where
       ]
 
   module _ (ns_of : Row → Text) where
+    -- rows stay in order and in namespaces that are there, if the new row's key is free and its
+    -- namespace there
     pub rows_added : (namespaces : List Text) (row : Row) (rows : List Row) → IsTrue (list_any (bytes_eq (ns_of row)) namespaces) → has_row key_of (key_of row) rows ≡ false → AreRows key_of ns_of namespaces rows → AreRows key_of ns_of namespaces (add_row key_of row rows)
     rows_added namespaces row rows there free s = record {
       in_order = in_order_added key_of row rows s.in_order free;
       named = all_added (λ other. IsTrue (list_any (bytes_eq (ns_of other)) namespaces)) row there rows s.named;
     }
 
+    -- rows stay in order and in namespaces that are there, if one is removed
     pub rows_removed : (namespaces : List Text) (key : Key) (rows : List Row) → AreRows key_of ns_of namespaces rows → AreRows key_of ns_of namespaces (remove_row key_of key rows)
     rows_removed namespaces key rows s = record {
       in_order = in_order_removed key_of key rows s.in_order;
       named = all_removed (λ other. IsTrue (list_any (bytes_eq (ns_of other)) namespaces)) key rows s.named;
     }
 
+    -- rows stay in order and in namespaces that are there, if a change keeps the row's key and
+    -- namespace
     pub rows_changed : (namespaces : List Text) (key : Key) (change : Row → Row) → ((row : Row) → key_of (change row) ≡ key_of row) → ((row : Row) → ns_of (change row) ≡ ns_of row) → (rows : List Row) → AreRows key_of ns_of namespaces rows → AreRows key_of ns_of namespaces (change_row key_of key change rows)
     rows_changed namespaces key change same same_ns rows s = record {
       in_order = in_order_changed key change same rows s.in_order;
@@ -77,6 +86,7 @@ module _ {Row : Type 0} (key_of : Row → Key) where
     pub rows_among : (old new : List Text) (rows : List Row) → All (λ (row : Row). list_any (bytes_eq (ns_of row)) old ≡ true → list_any (bytes_eq (ns_of row)) new ≡ true) rows → AreRows key_of ns_of old rows → AreRows key_of ns_of new rows
     rows_among old new rows keeps s = record { in_order = s.in_order; named = λ k d lt. keeps k d lt (s.named k d lt) }
 
+-- if a test holds of some item, it holds of some item after one more is put in
 pub any_added : {X : Type 0} (p : X → Bool) (before : X → X → Bool) (x : X) (xs : List X) → list_any p xs ≡ true → list_any p (put_in_order before x xs) ≡ true
 any_added p before x [] h = absurd cc
 any_added p before x (y ∷ ys) h = elim (cases_Bool (before x y)) [
@@ -87,6 +97,7 @@ any_added p before x (y ∷ ys) h = elim (cases_Bool (before x y)) [
   ])
 ]
 
+-- if a test holds of a new item, it holds of some item after that is put in
 pub added_any : {X : Type 0} (p : X → Bool) (before : X → X → Bool) (x : X) (xs : List X) → p x ≡ true → list_any p (put_in_order before x xs) ≡ true
 added_any p before x [] h = rw h refl
 added_any p before x (y ∷ ys) h = elim (cases_Bool (before x y)) [

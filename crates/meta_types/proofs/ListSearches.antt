@@ -94,6 +94,7 @@ module _ {X : Type 0} (R : X → X → Type 0) where
   pub pairs_head : (x : X) (xs : List X) → AllPairs R (x ∷ xs) → All (R x) xs
   pairs_head x xs h k d within = h zero (suc k) d (omega arith) (omega arith)
 
+  -- what holds of each two items of a list holds of each two without its first item
   pub pairs_tail : (x : X) (xs : List X) → AllPairs R (x ∷ xs) → AllPairs R xs
   pairs_tail x xs h i j d lt within = h (suc i) (suc j) d (omega arith) (omega arith)
 

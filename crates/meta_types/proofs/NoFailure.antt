@@ -9,6 +9,7 @@ nothing_passes : {X : Type 0} (xs : List X) → [] ≡ filter (λ _. false) xs
 nothing_passes [] = refl
 nothing_passes (x ∷ xs) = nothing_passes xs
 
+-- of any tables and objects, a collection may have no failure
 pub no_failure : (tables : Tables) (back : BackLists) → IsFailure tables back no_objects
 no_failure tables back = record {
   blobs = nothing_passes (removed_objects tables no_objects back).blobs;

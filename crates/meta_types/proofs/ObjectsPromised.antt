@@ -77,11 +77,15 @@ module _ (state : State) (at : ℤ) (failed : BackNames) (reached : Thing → Bo
         );
   }
 
+-- a collection keeps each backend snapshot and ingest's object that a remaining row owns, and
+-- doesn't report it as removed
 pub owned_objects_stay : (state : State) (at : ℤ) (failed : BackNames) (report : Report) (new : State) → Collects state at failed report new → KeepsOwnedObjects state report new
 owned_objects_stay state at failed report new c =
     subst (λ (n : State). KeepsOwnedObjects state report n) (sym c.state_is)
     (subst (λ (r : Report). KeepsOwnedObjects state r (collected state at c.reached failed)) (sym c.report_is) (keeps state at failed c.reached))
 
+-- a collection removes and reports those that no remaining row owns, but for failed removals and
+-- what is above them
 pub unowned_objects_go : (state : State) (at : ℤ) (failed : BackNames) (report : Report) (new : State) → Collects state at failed report new → RemovesUnownedObjects state report new
 unowned_objects_go state at failed report new c =
     subst (λ (n : State). RemovesUnownedObjects state report n) (sym c.state_is)

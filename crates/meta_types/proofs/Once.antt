@@ -34,22 +34,27 @@ module _ (records : Records) where
   abbrev snapshots : List Thing
   snapshots = in_both_modes snapshot tables.snapshots
 
+  -- an ingest of the store is one of its things
   pub ingest_in : (row : IngestRow) → Contains tables.ingests row → Contains (things records) (ingest row)
   ingest_in row c = Contains-append_left (plain ++ map ingest tables.ingests ++ contents) snapshots (ingest row) (Contains-append_left (plain ++ map ingest tables.ingests) contents (ingest row)
       (Contains-append_right plain (map ingest tables.ingests) (ingest row) (in_map ingest tables.ingests row c)))
 
+  -- content of the store, in the full mode, is one of its things
   pub full_in : (row : ContentRow) → Contains tables.content row → Contains (things records) (content Full row)
   full_in row c = Contains-append_left (plain ++ map ingest tables.ingests ++ contents) snapshots (content Full row) (Contains-append_right (plain ++ map ingest tables.ingests) contents (content Full row)
       (Contains-append_left (map (content Full) tables.content) (map (content Flat) tables.content) (content Full row) (in_map (content Full) tables.content row c)))
 
+  -- content of the store, in the flat mode, is one of its things
   pub flat_in : (row : ContentRow) → Contains tables.content row → Contains (things records) (content Flat row)
   flat_in row c = Contains-append_left (plain ++ map ingest tables.ingests ++ contents) snapshots (content Flat row) (Contains-append_right (plain ++ map ingest tables.ingests) contents (content Flat row)
       (Contains-append_right (map (content Full) tables.content) (map (content Flat) tables.content) (content Flat row) (in_map (content Flat) tables.content row c)))
 
+  -- a snapshot of the store, in the full mode, is one of its things
   pub full_snap_in : (row : SnapRow) → Contains tables.snapshots row → Contains (things records) (snapshot Full row)
   full_snap_in row c = Contains-append_right (plain ++ map ingest tables.ingests ++ contents) snapshots (snapshot Full row)
       (Contains-append_left (map (snapshot Full) tables.snapshots) (map (snapshot Flat) tables.snapshots) (snapshot Full row) (in_map (snapshot Full) tables.snapshots row c))
 
+  -- a snapshot of the store, in the flat mode, is one of its things
   pub flat_snap_in : (row : SnapRow) → Contains tables.snapshots row → Contains (things records) (snapshot Flat row)
   flat_snap_in row c = Contains-append_right (plain ++ map ingest tables.ingests ++ contents) snapshots (snapshot Flat row)
       (Contains-append_right (map (snapshot Full) tables.snapshots) (map (snapshot Flat) tables.snapshots) (snapshot Flat row) (in_map (snapshot Flat) tables.snapshots row c))
@@ -80,11 +85,13 @@ module _ (records : Records) where
       snapshots = map (λ row. (row.key.ns, row.key.snapshotter, row.key.name)) (same_kept (λ row. not (snapshot_stays p row)) (λ row. not (snapshot_stays q row)) tables.snapshots (λ row c j. not (agree (snapshot Full row) (full_snap_in row c) j || agree (snapshot Flat row) (flat_snap_in row c) j)) i);
     }
 
+-- two collections of a store at one moment, with the same failures, leave one store
 pub one_state : (state : State) (at : ℤ) (failed : BackNames) (r s : Report) (m n : State) → Collects state at failed r m → Collects state at failed s n → m ≡ n
 one_state state at failed r s m n c d =
     let same = same_records state.records at c.reached d.reached c.tells d.tells in
     c.state_is ∙ (λ i. record { records = same i; backends = collected_backends (same i).tables failed state.backends }) ∙ sym d.state_is
 
+-- two collections of a store at one moment, with the same failures, give one report
 pub one_report : (state : State) (at : ℤ) (failed : BackNames) (r s : Report) (m n : State) → Collects state at failed r m → Collects state at failed s n → r ≡ s
 one_report state at failed r s m n c d =
     let same = same_records state.records at c.reached d.reached c.tells d.tells in

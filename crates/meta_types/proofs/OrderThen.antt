@@ -14,9 +14,11 @@ less_number true b = refl
 less_number false true = refl
 less_number false false = refl
 
+-- the order of numbers calls a number less exactly if it is
 pub is_lt-nat : (a b : ℕ) → is_lt (nat_cmp a b) ≡ nat_lt a b
 is_lt-nat a b = less_number (nat_lt a b) (a == b)
 
+-- the order of numbers calls two equal exactly if they are
 pub is_eq-nat : (a b : ℕ) → is_eq (nat_cmp a b) ≡ (b == a)
 is_eq-nat a b = unsigned_tied a b ∙ nat_eq_equiv.symm a b
 
@@ -55,6 +57,7 @@ module _ {X : Type 0} (R S : X → X → Ordering) (r : IsTotalOrder R) (s : IsT
       go Equal e h = λ i. ordering_then (r.congr x y z e i) (s.congr x y z h i)
       go Greater e h = absurd cc
 
+  -- two total orders, the second used if the first calls two items equal, are one total order
   pub then_total : IsTotalOrder then
   then_total = record {
     antisymm = λ x y. (λ i. ordering_then (r.antisymm x y i) (s.antisymm x y i)) ∙ both_reversed (R y x) (S y x);
@@ -64,6 +67,7 @@ module _ {X : Type 0} (R S : X → X → Ordering) (r : IsTotalOrder R) (s : IsT
 
 -- ---- numbers from the greatest down
 
+-- numbers from the greatest down are in a total order
 pub deepest_total : IsTotalOrder (λ (a b : ℕ). nat_cmp b a)
 deepest_total = record {
   antisymm = λ x y. nat_cmp_total.antisymm y x;

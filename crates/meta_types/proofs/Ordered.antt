@@ -10,9 +10,11 @@ use Rattle.std.proofs.lemmas.Bool.{cases_Bool, both_ways, and_parts, and_from}
 use Rattle.meta_types.specs.Text.{text_cmp}
 use Rattle.meta_types.specs.Keys.{Key, is_key, is_before, has_row, add_row, remove_row, is_first, are_in_order}
 
+-- the order of keys is total
 pub keys_total : IsTotalOrder (slice_cmp text_cmp)
 keys_total = lists_total nat_list_cmp_total
 
+-- two keys are the same exactly if their order calls them equal
 pub key_ties : (a b : Key) → is_key a b ≡ is_eq (slice_cmp text_cmp a b)
 key_ties a b = lists_ties text_cmp texts_ties a b
 
@@ -30,6 +32,7 @@ less Less e = refl
 less Equal e = absurd cc
 less Greater e = absurd cc
 
+-- a key before one that is before a third is before the third
 pub before_trans : (a b c : Key) → is_before a b ≡ true → is_before b c ≡ true → is_before a c ≡ true
 before_trans a b c p q = ap is_lt (keys_total.trans a b c (less _ p) (less _ q))
 
@@ -48,6 +51,7 @@ module _ {Row : Type 0} (key_of : Row → Key) where
     | inr f ↦ rw f q
   ]
 
+  -- rows stay in order if a row with a free key is added
   pub in_order_added : (row : Row) (rows : List Row) → are_in_order key_of rows ≡ true → has_row key_of (key_of row) rows ≡ false → are_in_order key_of (add_row key_of row rows) ≡ true
   in_order_added row [] o h = refl
   in_order_added row (next ∷ rows) o h = elim (cases_Bool (is_before (key_of row) (key_of next))) [
@@ -70,6 +74,7 @@ module _ {Row : Type 0} (key_of : Row → Key) where
       skip [] q = refl
       skip (r ∷ rs) q = before_trans (key_of before) (key_of next) (key_of r) p q
 
+  -- rows stay in order if one is removed
   pub in_order_removed : (key : Key) (rows : List Row) → are_in_order key_of rows ≡ true → are_in_order key_of (remove_row key_of key rows) ≡ true
   in_order_removed key [] o = refl
   in_order_removed key (next ∷ rows) o =

@@ -22,21 +22,27 @@ use Rattle.meta_types.proofs.FilteredNames.{not_named, gone_and_named}
 
 -- ---- names are keys
 
+-- the name of a content row in a report
 abbrev pub content_name : ContentRow → Text × Text
 content_name row = (row.ns, row.digest)
 
+-- the name of an ingest in a report
 abbrev pub ingest_name : IngestRow → Text × Text
 ingest_name row = (row.ns, row.name)
 
+-- the name of a snapshot in a report
 abbrev pub snapshot_name : SnapRow → Text × Text × Text
 snapshot_name row = (row.key.ns, row.key.snapshotter, row.key.name)
 
+-- content rows with one name have one key
 pub content_names : (a b : ContentRow) → content_name a ≡ content_name b → content_key a ≡ content_key b
 content_names a b e = ap (λ (n : Text × Text). n.0 ∷ n.1 ∷ []) e
 
+-- ingests with one name have one key
 pub ingest_names : (a b : IngestRow) → ingest_name a ≡ ingest_name b → ingest_key a ≡ ingest_key b
 ingest_names a b e = ap (λ (n : Text × Text). n.0 ∷ n.1 ∷ []) e
 
+-- snapshots with one name have one key
 pub snapshot_names : (a b : SnapRow) → snapshot_name a ≡ snapshot_name b → snap_key a ≡ snap_key b
 snapshot_names a b e = ap (λ (n : Text × Text × Text). n.0 ∷ n.1 ∷ n.2 ∷ []) e
 
@@ -48,6 +54,7 @@ module _ (records : Records) (at : ℤ) (reached : Thing → Bool) (tells : Tell
   reached_content Full row c r = or_left (reached (content Full row)) (reached (content Flat row)) ((tells.each (content Full row) (full_in records row c)).1 r)
   reached_content Flat row c r = or_right (reached (content Full row)) (reached (content Flat row)) ((tells.each (content Flat row) (flat_in records row c)).1 r)
 
+  -- a snapshot that a path leads to, in either mode, stays
   pub reached_snapshot : (mode : Mode) (row : SnapRow) → Contains records.tables.snapshots row → IsReached records at (snapshot mode row) → snapshot_stays reached row ≡ true
   reached_snapshot Full row c r = or_left (reached (snapshot Full row)) (reached (snapshot Flat row)) ((tells.each (snapshot Full row) (full_snap_in records row c)).1 r)
   reached_snapshot Flat row c r = or_right (reached (snapshot Full row)) (reached (snapshot Flat row)) ((tells.each (snapshot Flat row) (flat_snap_in records row c)).1 r)
@@ -56,9 +63,11 @@ module _ (records : Records) (at : ℤ) (reached : Thing → Bool) (tells : Tell
   pub not_told : (thing : Thing) → Contains (things records) thing → (IsReached records at thing → ⊥) → reached thing ≡ false
   not_told thing c none = false_from_ne_true (reached thing) (λ yes. none ((tells.each thing c).0 yes))
 
+  -- content that no path leads to, in either mode, doesn't stay
   pub unreached_content : (row : ContentRow) → Contains records.tables.content row → ((mode : Mode) → IsReached records at (content mode row) → ⊥) → content_stays reached row ≡ false
   unreached_content row c none = rw (not_told (content Full row) (full_in records row c) (none Full), not_told (content Flat row) (flat_in records row c) (none Flat)) refl
 
+  -- a snapshot that no path leads to, in either mode, doesn't stay
   pub unreached_snapshot : (row : SnapRow) → Contains records.tables.snapshots row → ((mode : Mode) → IsReached records at (snapshot mode row) → ⊥) → snapshot_stays reached row ≡ false
   unreached_snapshot row c none = rw (not_told (snapshot Full row) (full_snap_in records row c) (none Full), not_told (snapshot Flat row) (flat_snap_in records row c) (none Flat)) refl
 
@@ -103,11 +112,15 @@ module _ (state : State) (at : ℤ) (failed : BackNames) (reached : Thing → Bo
         );
   }
 
+-- a collection of a sound store keeps each row that a path leads to, and each blob that remaining
+-- content owns
 pub keeps_what_is_reached : (state : State) (at : ℤ) (failed : BackNames) (report : Report) (new : State) → IsSound state → Collects state at failed report new → KeepsWhatIsReached state at report new
 keeps_what_is_reached state at failed report new s c =
     subst (λ (n : State). KeepsWhatIsReached state at report n) (sym c.state_is)
     (subst (λ (r : Report). KeepsWhatIsReached state at r (collected state at c.reached failed)) (sym c.report_is) (keeps state at failed c.reached c.tells s))
 
+-- a collection removes each row that no path leads to, and each blob that no remaining content
+-- owns, unless its removal failed
 pub removes_what_is_not_reached : (state : State) (at : ℤ) (failed : BackNames) (report : Report) (new : State) → Collects state at failed report new → RemovesWhatIsNotReached state at report new
 removes_what_is_not_reached state at failed report new c =
     subst (λ (n : State). RemovesWhatIsNotReached state at report n) (sym c.state_is)

@@ -43,6 +43,7 @@ module _ {Row : Type 0} (key_of : Row → Key) where
       let parts = and_parts (is_before (key_of row) (key_of next)) (are_in_order key_of (next ∷ rows)) o in
       before_trans (key_of row) (key_of next) (key_of (get_or rows i d)) parts.0 (first_before next rows parts.1 i d (omega arith))
 
+  -- rows in order are in order without the first
   pub in_order_rest : (row : Row) (rows : List Row) → are_in_order key_of (row ∷ rows) ≡ true → are_in_order key_of rows ≡ true
   in_order_rest row rows o = (and_parts _ (are_in_order key_of rows) o).1
 
@@ -152,6 +153,8 @@ module _ {X Row : Type 0} (f : X → Row) where
       | inr e ↦ rw e (has_row-map key xs)
     ]
 
+    -- mapped items are in order by a key exactly if the items are by the key of what each is mapped
+    -- to
     pub are_in_order-map : (xs : List X) → are_in_order key_of (map f xs) ≡ are_in_order (λ x. key_of (f x)) xs
     are_in_order-map [] = refl
     are_in_order-map (x ∷ []) = refl

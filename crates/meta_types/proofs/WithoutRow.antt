@@ -161,6 +161,7 @@ left_within state ns (Held (R.Ingest name)) =
       profile = refl;
     }
 
+-- a path of the store after a removal is a path of the store before it
 pub no_new_path : (state : State) (ns : Text) (object : Object) (at : ℤ)
     → (last : Thing) (path : List Thing)
     → IsPath (removed state ns object).after.records at last path → IsPath state.records at last path

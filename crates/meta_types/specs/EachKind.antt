@@ -60,7 +60,7 @@ pub record IsCollected (state : State) (at : ℤ) (dry : Bool) (report : Report)
 abbrev pub ACollectionDividesTheRows : Type 0
 ACollectionDividesTheRows = (state : State) (at : ℤ) (failed : BackNames) (report : Report) (new : State) → IsSound state → Collects state at failed report new → CollectsRows state at report new
 
--- and the objects, where none failed
+-- if no removal failed, a collection of a sound store divides the objects so, too
 abbrev pub ACollectionDividesAll : Type 0
 ACollectionDividesAll = (state : State) (at : ℤ) (report : Report) (new : State) → IsSound state → Collects state at no_objects report new → IsCollected state at false report new
 

@@ -30,15 +30,16 @@ pub record IsHeld (state : State) (object : ToHold) : Type 0 where
   pub held : IsTrue (lease_holds (object.ns ∷ object.lease ∷ []) object.resource
       state.records.leases)
 
--- where no fault refuses a line whose lease is to hold what it names, the object is there and the
--- lease holds it, whether it was made or was there before
+-- If a line's lease is to hold the object that the line makes, and no fault refuses the line, the
+-- object is there afterwards and the lease holds it, whether it was made or was there before.
 abbrev pub WhatIsThereIsHeld : Type 0
 WhatIsThereIsHeld = (state : State) (request : Request) (object : ToHold)
     (answer there : Option Text)
     → object_to_hold request ≡ Some object → words_fault state request answer there ≡ None
     → IsHeld (after state (request_done state request there)) object
 
--- each collection at which the lease hasn't expired keeps what it holds
+-- in a sound store, each collection at which the lease hasn't expired keeps the object that the
+-- lease holds
 abbrev pub WhatIsHeldStays : Type 0
 WhatIsHeldStays = (state : State) (object : ToHold) (lease : LeaseRow) (at : ℤ) (failed : BackNames)
     (report : Report) (new : State)

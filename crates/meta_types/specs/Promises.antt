@@ -20,15 +20,16 @@ use Rattle.meta_types.specs.declared.resource.Mode.{Mode}
 abbrev pub SomeTestTells : Type 0
 SomeTestTells = (records : Records) (at : ℤ) → (reached : Thing → Bool) × TellsReached records at reached
 
--- `reached_in` is such a test
+-- the computed test `reached_in` tells where paths end, for each store and moment
 abbrev pub ThisTestTells : Type 0
 ThisTestTells = (records : Records) (at : ℤ) → TellsReached records at (reached_in records at)
 
--- a collection with these failures gives one report and leaves one store
+-- two collections of a store at one moment, with the same failures, give one report and leave one
+-- store
 abbrev pub ACollectionHasOneOutcome : Type 0
 ACollectionHasOneOutcome = (state : State) (at : ℤ) (failed : BackNames) (r s : Report) (m n : State) → Collects state at failed r m → Collects state at failed s n → (r ≡ s) × (m ≡ n)
 
--- a dry run gives one report
+-- two dry runs of a store at one moment give one report
 abbrev pub ADryRunHasOneReport : Type 0
 ADryRunHasOneReport = (state : State) (at : ℤ) (r s : Report) → Plans state at r → Plans state at s → r ≡ s
 
@@ -116,7 +117,8 @@ abbrev pub RemovedSnapshotsAreChildfirst : Type 0
 RemovedSnapshotsAreChildfirst = (state : State) (at : ℤ) (failed : BackNames) (report : Report) (new : State) (snapshotter : Text) → IsSound state → Collects state at failed report new
     → IsChildfirst (numbers_of snapshotter report.backend.snapshots) (shard_of snapshotter state.backends.snapshots)
 
--- the same of the report of a dry run
+-- in the report of a dry run of a sound store no parent stands before its child either, and no
+-- child of a snapshot that it names is left out
 abbrev pub PlannedSnapshotsAreChildfirst : Type 0
 PlannedSnapshotsAreChildfirst = (state : State) (at : ℤ) (report : Report) (snapshotter : Text) → IsSound state → Plans state at report
     → IsChildfirst (numbers_of snapshotter report.backend.snapshots) (shard_of snapshotter state.backends.snapshots)

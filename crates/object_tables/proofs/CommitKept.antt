@@ -51,6 +51,7 @@ module _ (ns snapshotter key name : Text) (labels : LabelList) (extra : Text) (r
     module _ (found : row_at snap_key (ns ∷ snapshotter ∷ key ∷ []) rows ≡ Some row)
         (active : is_active row.kind ≡ true)
         (free : has_row snap_key (ns ∷ snapshotter ∷ name ∷ []) rows ≡ false) where
+      -- the rows after the commit: the active row is removed, and a committed one added
       pub committed_is : committed ns snapshotter key name labels extra rows ≡ after
       committed_is = rw found refl
 

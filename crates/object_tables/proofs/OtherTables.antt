@@ -157,6 +157,7 @@ module _ (tables : Tables) (s : AreTables tables) where
     numbered = s.numbered;
   }
 
+  -- the tables stay sound if a namespace that isn't there is added
   pub namespace_added : (ns : Text) → has_namespace tables ns ≡ false
       → AreTables (record tables { namespaces = add_row namespace_key ns tables.namespaces })
   namespace_added ns free =
@@ -183,6 +184,7 @@ module _ (tables : Tables) (s : AreTables tables) where
   namespace_grown ns new (Err e) fault ok err =
       subst (λ (names : List Text). AreTables (record tables { namespaces = names })) (sym err) s
 
+  -- the tables stay sound if a namespace that isn't in use is removed
   pub namespace_removed : (ns : Text) → is_in_use tables ns ≡ false
       → AreTables
       (record tables { namespaces = remove_row namespace_key (ns ∷ []) tables.namespaces })

@@ -131,6 +131,7 @@ other_parent ns snapshotter key row name none e =
 abbrev pub reset : (SnapRow → LabelList) → (SnapRow → Text) → SnapRow → SnapRow
 reset labels_in extra_in row = record row { labels = labels_in row; extra = extra_in row }
 
+-- a committed row stays committed, under its number, if the labels and the data of some row change
 pub stays_reset : (key other : Key) (labels_in : SnapRow → LabelList) (extra_in : SnapRow → Text)
     (rows : List SnapRow) → Stays rows (change_row snap_key key (reset labels_in extra_in) rows)
     other

@@ -15,6 +15,7 @@ use Rattle.row_tables.proofs.NamespaceLists.{keys_same}
 
 -- ---- keys
 
+-- a key is the same as itself
 pub key_itself : (key : Key) → is_key key key ≡ true
 key_itself key = key_ties key key ∙ ap is_eq (tied_itself keys_total key)
 

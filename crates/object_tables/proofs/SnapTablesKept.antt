@@ -26,6 +26,8 @@ use Rattle.object_tables.proofs.SomeKept.{fresh_is_childless}
 use Rattle.object_tables.proofs.OtherTables.{other_snapshots}
 
 module _ (tables : Tables) (s : AreTables tables) where
+  -- the tables stay sound if a snapshot is added whose key and number are free, and whose namespace
+  -- and parent are there
   pub snap_added : (row : SnapRow) → has_namespace tables row.key.ns ≡ true
       → has_row snap_key (snap_key row) tables.snapshots ≡ false → HasParent tables.snapshots row
       → All (λ (other : SnapRow). IsTrue (not (row.number == other.number))) tables.snapshots
@@ -37,6 +39,7 @@ module _ (tables : Tables) (s : AreTables tables) where
       tables.snapshots there free s.snapshots)
       (numbered_snap_added tables.ingests row tables.snapshots free has fresh none s.numbered)
 
+  -- the tables stay sound if a snapshot without children is removed
   pub snap_removed : (ns snapshotter key : Text)
       → list_any (is_child_of ns snapshotter key) tables.snapshots ≡ false
       → AreTables (record tables
@@ -48,6 +51,7 @@ module _ (tables : Tables) (s : AreTables tables) where
       (numbered_snap_removed tables.ingests ns snapshotter key tables.snapshots childless
       s.numbered)
 
+  -- the tables stay sound if the labels and the data of a snapshot change
   pub snap_reset : (key : Key) (labels_in : SnapRow → LabelList) (extra_in : SnapRow → Text)
       → AreTables
       (record tables {
@@ -60,6 +64,7 @@ module _ (tables : Tables) (s : AreTables tables) where
       (λ row. refl) (λ row. refl) tables.snapshots s.snapshots)
       (numbered_snap_reset tables.ingests key labels_in extra_in tables.snapshots s.numbered)
 
+  -- the tables stay sound if an active snapshot is committed under a free name
   pub snap_committed : (ns snapshotter key name : Text) (labels : LabelList) (extra : Text)
       (row : SnapRow)
       → row_at snap_key (ns ∷ snapshotter ∷ key ∷ []) tables.snapshots ≡ Some row

@@ -30,6 +30,7 @@ pub use Rattle.object_tables.proofs.SnapTablesKept.{
 module _ (tables : Tables) (s : AreTables tables) where
   -- ---- images, containers and content
 
+  -- the tables stay sound if an image is added whose key is free and whose namespace is there
   pub image_added : (row : ImageRow) → has_namespace tables row.ns ≡ true
       → has_row image_key (image_key row) tables.images ≡ false
       → AreTables (record tables { images = add_row image_key row tables.images })
@@ -37,6 +38,7 @@ module _ (tables : Tables) (s : AreTables tables) where
       (rows_added image_key (λ (other : ImageRow). other.ns) tables.namespaces row tables.images
       there free s.images)
 
+  -- the tables stay sound if an image is removed
   pub image_removed : (key : Key) → AreTables
       (record tables { images = remove_row image_key key tables.images })
   image_removed key =
@@ -44,6 +46,7 @@ module _ (tables : Tables) (s : AreTables tables) where
       (rows_removed image_key (λ (row : ImageRow). row.ns) tables.namespaces key tables.images
       s.images)
 
+  -- the tables stay sound if an image changes, and keeps its key and its namespace
   pub image_changed : (key : Key) (change : ImageRow → ImageRow)
       → ((row : ImageRow) → image_key (change row) ≡ image_key row)
       → ((row : ImageRow) → (change row).ns ≡ row.ns)
@@ -53,6 +56,7 @@ module _ (tables : Tables) (s : AreTables tables) where
       (rows_changed image_key (λ (row : ImageRow). row.ns) tables.namespaces key change same same_ns
       tables.images s.images)
 
+  -- the tables stay sound if a container is added whose key is free and whose namespace is there
   pub container_added : (row : ContainerRow) → has_namespace tables row.ns ≡ true
       → has_row container_key (container_key row) tables.containers ≡ false
       → AreTables (record tables { containers = add_row container_key row tables.containers })
@@ -60,12 +64,14 @@ module _ (tables : Tables) (s : AreTables tables) where
       (rows_added container_key (λ (other : ContainerRow). other.ns) tables.namespaces row
       tables.containers there free s.containers)
 
+  -- the tables stay sound if a container is removed
   pub container_removed : (key : Key) → AreTables
       (record tables { containers = remove_row container_key key tables.containers })
   container_removed key = other_containers tables s _
       (rows_removed container_key (λ (row : ContainerRow). row.ns) tables.namespaces key
       tables.containers s.containers)
 
+  -- the tables stay sound if a container changes, and keeps its key and its namespace
   pub container_changed : (key : Key) (change : ContainerRow → ContainerRow)
       → ((row : ContainerRow) → container_key (change row) ≡ container_key row)
       → ((row : ContainerRow) → (change row).ns ≡ row.ns)
@@ -76,6 +82,7 @@ module _ (tables : Tables) (s : AreTables tables) where
       (rows_changed container_key (λ (row : ContainerRow). row.ns) tables.namespaces key change same
       same_ns tables.containers s.containers)
 
+  -- the tables stay sound if content is added whose key is free and whose namespace is there
   pub content_added : (row : ContentRow) → has_namespace tables row.ns ≡ true
       → has_row content_key (content_key row) tables.content ≡ false
       → AreTables (record tables { content = add_row content_key row tables.content })
@@ -83,6 +90,7 @@ module _ (tables : Tables) (s : AreTables tables) where
       (rows_added content_key (λ (other : ContentRow). other.ns) tables.namespaces row
       tables.content there free s.content)
 
+  -- the tables stay sound if content is removed
   pub content_removed : (key : Key) → AreTables
       (record tables { content = remove_row content_key key tables.content })
   content_removed key =
@@ -90,6 +98,7 @@ module _ (tables : Tables) (s : AreTables tables) where
       (rows_removed content_key (λ (row : ContentRow). row.ns) tables.namespaces key tables.content
       s.content)
 
+  -- the tables stay sound if content changes, and keeps its key and its namespace
   pub content_changed : (key : Key) (change : ContentRow → ContentRow)
       → ((row : ContentRow) → content_key (change row) ≡ content_key row)
       → ((row : ContentRow) → (change row).ns ≡ row.ns)
@@ -101,6 +110,8 @@ module _ (tables : Tables) (s : AreTables tables) where
 
   -- ---- ingests
 
+  -- the tables stay sound if an ingest is added whose key and number are free, and whose namespace
+  -- is there
   pub ingest_added : (row : IngestRow) → has_namespace tables row.ns ≡ true
       → has_row ingest_key (ingest_key row) tables.ingests ≡ false
       → All (λ (other : IngestRow). IsTrue (not (row.number == other.number))) tables.ingests
@@ -112,6 +123,7 @@ module _ (tables : Tables) (s : AreTables tables) where
       there free s.ingests)
       (numbered_ingest_added tables.snapshots row tables.ingests fresh none s.numbered)
 
+  -- the tables stay sound if an ingest is removed
   pub ingest_removed : (key : Key) → AreTables
       (record tables { ingests = remove_row ingest_key key tables.ingests })
   ingest_removed key =
@@ -119,6 +131,7 @@ module _ (tables : Tables) (s : AreTables tables) where
       (rows_removed ingest_key (λ (row : IngestRow). row.ns) tables.namespaces key tables.ingests
       s.ingests) (numbered_ingest_removed tables.snapshots key tables.ingests s.numbered)
 
+  -- the tables stay sound if an ingest changes, and keeps its key, its namespace and its number
   pub ingest_changed : (key : Key) (change : IngestRow → IngestRow)
       → ((row : IngestRow) → ingest_key (change row) ≡ ingest_key row)
       → ((row : IngestRow) → (change row).ns ≡ row.ns)

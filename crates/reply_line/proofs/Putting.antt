@@ -27,10 +27,12 @@ use Rattle.std.specs.Io.KnownBytes.{Appends, Keeps}
 use Rattle.std.proofs.lemmas.List.{append-nil, take-append-drop, take_rest}
 use Rattle.reply_line.specs.Blocks.{WritesFront, Puts}
 
+-- a writer that took nothing holds what it held
 pub Appends-none : (held : Option (List ℕ)) → Appends held held []
 Appends-none None = tt
 Appends-none (Some xs) = sym (append-nil xs)
 
+-- a writer that took one text and then another took both, one after the other
 pub Appends-append : (h0 h1 h2 : Option (List ℕ)) (xs ys : List ℕ) → Appends h0 h1 xs → Appends h1
     h2 ys → Appends h0 h2 (xs ++ ys)
 Appends-append None h1 h2 xs ys a b = tt
@@ -38,6 +40,7 @@ Appends-append (Some s) None h2 xs ys a b = absurd a
 Appends-append (Some s) (Some t) None xs ys a b = absurd b
 Appends-append (Some s) (Some t) (Some u) xs ys a b = b ∙ ap (λ w. w ++ ys) a ∙ append_assoc s xs ys
 
+-- a writer that took a text and then kept what it held took that text
 pub Appends-Keeps : (h0 h1 h2 : Option (List ℕ)) (xs : List ℕ) → Appends h0 h1 xs → Keeps h1 h2 →
     Appends h0 h2 xs
 Appends-Keeps None h1 h2 xs a b = tt
@@ -45,6 +48,7 @@ Appends-Keeps (Some s) None h2 xs a b = absurd a
 Appends-Keeps (Some s) (Some t) None xs a b = absurd b
 Appends-Keeps (Some s) (Some t) (Some u) xs a b = b ∙ a
 
+-- a writer that took nothing of some bytes has them all left to take
 pub WritesFront-none : (held : Option (List ℕ)) (bytes : List ℕ) → WritesFront held held bytes bytes
 WritesFront-none held bytes = ([], refl, Appends-none held)
 
@@ -68,6 +72,7 @@ pub WritesFront-range : (h0 h1 h2 : Option (List ℕ)) (rest bytes : List ℕ) (
 WritesFront-range h0 h1 h2 rest bytes n w a = rw (take_rest rest n) (WritesFront-more h0 h1 h2 rest
     bytes n w a)
 
+-- a writer that took a part of some bytes took it of these with more behind them too
 pub WritesFront-append : (h0 h1 : Option (List ℕ)) (rest xs ys : List ℕ) → WritesFront h0 h1 rest xs
     → WritesFront h0 h1 (rest ++ ys) (xs ++ ys)
 WritesFront-append h0 h1 rest xs ys w = (
@@ -77,6 +82,8 @@ WritesFront-append h0 h1 rest xs ys w = (
   w.2,
 )
 
+-- a writer that took a text, then a part of some bytes, took a part of the text with those behind
+-- it
 pub WritesFront-after : (h0 h1 h2 : Option (List ℕ)) (rest xs ys : List ℕ) → Appends h0 h1 xs →
     WritesFront h1 h2 rest ys → WritesFront h0 h2 rest (xs ++ ys)
 WritesFront-after h0 h1 h2 rest xs ys a w = (
@@ -86,6 +93,7 @@ WritesFront-after h0 h1 h2 rest xs ys a w = (
       w.2,
 )
 
+-- what holds anyway holds on an error
 pub holds_on_err : {T E Q : Type 0} (r : Result T E) → Q → OnErr r Q
 holds_on_err (Ok x) q = tt
 holds_on_err (Err e) q = q

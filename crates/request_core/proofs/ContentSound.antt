@@ -130,6 +130,7 @@ after_lease_add state asked s none =
     (rows_added lease_key (λ (other : LeaseRow). other.ns) state.records.tables.namespaces row
     state.records.leases (not-false _ (or_parts _ _ f.1).0) f.2 s.leases)
 
+-- the removal of a lease leaves a sound store
 pub after_lease_remove : (state : State) (lease : RawName) → IsSound state
     → IsSound (outcome state (R.LeaseRemove lease)).after
 after_lease_remove state lease s = sound_leases state s _

@@ -90,10 +90,12 @@ each_request state (LeaseDrop asked) = changes refl (λ s none. after_lease_drop
 each_request state (LeaseResources lease) = reads refl
 each_request state (Profile v) = changes refl (λ s none. after_profile state v s)
 
+-- a request answers Done, or leaves the store as it was
 pub quiet : (state : State) (request : Request)
     → ((outcome state request).reply ≡ Done) ⊎ ((outcome state request).after ≡ state)
 quiet state request = (each_request state request).quiet
 
+-- if no fault refuses a request, the request leaves a sound store
 pub step_sound : (state : State) (request : Request) → IsSound state
     → least_fault (outcome state request) ≡ None → IsSound (outcome state request).after
 step_sound state request = (each_request state request).sound

@@ -26,11 +26,13 @@ request_sound state request s = go (least_fault (outcome state request)) refl
     go None none = step_sound state request s none
     go (Some fault) some = s
 
+-- a removal by name leaves a sound store, before its collection
 pub removal_sound : (state : State) (removal : Removal) → IsSound state
     → IsSound (removal_outcome state removal).after
 removal_sound state (Removing.Image image) s = after_image_remove state image s
 removal_sound state (Removing.Lease lease) s = after_lease_remove state lease s
 
+-- an event leaves a sound store, whatever failed in it
 pub event_sound : (state : State) (event : Event) (failed : BackNames) (answer : Answer)
     (new : State) → IsSound state → Step state event failed answer new → IsSound new
 event_sound state (requested request) failed answer new s h =
@@ -52,6 +54,7 @@ event_sound state (remove_collect removal at workers) failed (refused fault) new
     subst IsSound (sym h.2) s
 event_sound state (remove_collect removal at workers) failed (answered reply) new s h = absurd h
 
+-- a history from a sound store ends in a sound store
 pub history_sound : (base : State) (log : List Entry) (end : State) → IsSound base
     → IsLegal base log end → IsSound end
 history_sound base [] end s h = subst IsSound (sym h) s

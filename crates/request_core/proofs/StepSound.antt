@@ -93,6 +93,7 @@ after_image_set state asked s =
     (image_changed state.records.tables s.tables (asked.image.ns ∷ asked.image.name ∷ [])
     (set_image asked) (λ row. refl) (λ row. refl))
 
+-- the removal of an image leaves a sound store
 pub after_image_remove : (state : State) (image : RawName) → IsSound state
     → IsSound (outcome state (R.ImageRemove image)).after
 after_image_remove state image s =

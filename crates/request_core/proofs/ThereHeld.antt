@@ -381,6 +381,8 @@ object_there state request object is there =
     sym (there_is state object request is)
     ∙ (and_parts (not o.invalid && not o.missing) o.there there).1
 
+-- if no fault refuses a line whose lease is to hold an object, the object is there afterwards, and
+-- the lease holds it
 pub what_is_there_is_held : (state : State) (request : Request) (object : ToHold)
     (answer there : Option Text) → object_to_hold request ≡ Some object
     → words_fault state request answer there ≡ None

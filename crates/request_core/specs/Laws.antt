@@ -14,14 +14,14 @@ use Rattle.meta_types.specs.declared.request.Removal.{Removal}
 abbrev pub ARequestKeepsAStoreSound : Type 0
 ARequestKeepsAStoreSound = (state : State) (request : Request) → IsSound state → IsSound (after state request)
 
--- so does the removal that comes with a collection, before the collection
+-- the removal that comes with a collection keeps a store sound, before the collection
 abbrev pub ARemovalByNameKeepsAStoreSound : Type 0
 ARemovalByNameKeepsAStoreSound = (state : State) (removal : Removal) → IsSound state → IsSound (removal_outcome state removal).after
 
--- so does each event, whatever failed in it
+-- each event keeps a store sound, whatever failed in it
 abbrev pub AnEventKeepsAStoreSound : Type 0
 AnEventKeepsAStoreSound = (state : State) (event : Event) (failed : BackNames) (answer : Answer) (new : State) → IsSound state → Step state event failed answer new → IsSound new
 
--- and a history from a sound store ends in a sound one
+-- a history from a sound store ends in a sound one
 abbrev pub AHistoryKeepsAStoreSound : Type 0
 AHistoryKeepsAStoreSound = (base : State) (log : List Entry) (end : State) → IsSound base → IsLegal base log end → IsSound end

@@ -2,7 +2,8 @@
 ghost use Rattle.meta_types.specs.Holdings.{WhatIsThereIsHeld, WhatIsHeldStays};
 ghost use Rattle.request_core.specs.Laws.{ARequestKeepsAStoreSound, ARemovalByNameKeepsAStoreSound, AnEventKeepsAStoreSound, AHistoryKeepsAStoreSound};
 
-/// Each event of a history keeps a sound store sound, and so does the whole history.
+/// A request, a removal by name and each event keep a sound store sound, whatever failed, and so
+/// does a whole history.
 pub fn histories_keep_stores_sound()
     ensures a_request_keeps_a_store_sound { ARequestKeepsAStoreSound }
     ensures a_removal_by_name_keeps_a_store_sound { ARemovalByNameKeepsAStoreSound }
@@ -10,8 +11,9 @@ pub fn histories_keep_stores_sound()
     ensures a_history_keeps_a_store_sound { AHistoryKeepsAStoreSound }
 {}
 
-/// What a line makes under a lease, or finds there where its lease is to hold that, the lease holds
-/// after it, and each collection at which the lease hasn't expired keeps it.
+/// If a line's lease is to hold the object that the line names, and no fault refuses the line, the
+/// lease holds the object afterwards, whether the line made it or found it there. Each collection
+/// at which the lease hasn't expired keeps it.
 pub fn what_is_there_is_held_and_stays()
     ensures what_is_there_is_held { WhatIsThereIsHeld }
     ensures what_is_held_stays { WhatIsHeldStays }

@@ -30,6 +30,7 @@ module _ {Row : Type 0} (key_of : Row → Key) where
     | inr f ↦ rw f (IsPermutation-trans (row ∷ next ∷ rows) (next ∷ row ∷ rows) (next ∷ add_row key_of row rows) (IsPermutation-middle (row ∷ []) next rows) (IsPermutation-cons next (row ∷ rows) (add_row key_of row rows) (moved_up row rows)))
   ]
 
+  -- the rows in order are those that arrived
   pub same_members : (rows : List Row) → IsPermutation rows (sorted key_of rows)
   same_members [] = IsPermutation-refl []
   same_members (row ∷ rows) = IsPermutation-trans (row ∷ rows) (row ∷ sorted key_of rows) (add_row key_of row (sorted key_of rows)) (IsPermutation-cons row rows (sorted key_of rows) (same_members rows)) (moved_up row (sorted key_of rows))
@@ -56,6 +57,7 @@ module _ {Row : Type 0} (key_of : Row → Key) where
   others_kept row (true ∷ marks) (x ∷ rows) all = (all.0, others_kept row marks rows all.1)
   others_kept row (false ∷ marks) (x ∷ rows) all = others_kept row marks rows all.1
 
+  -- if no two rows have one key, no two of the kept ones have
   pub kept_apart : (marks : List Bool) (rows : List Row) → IsDistinct (same_key key_of) rows → IsDistinct (same_key key_of) (kept marks rows)
   unfolding IsDistinct
   kept_apart [] rows d = tt

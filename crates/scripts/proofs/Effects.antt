@@ -108,6 +108,7 @@ module _ (state : State) (at : ℤ) (reached : Thing → Bool) (failed : BackNam
         };
       }
 
+-- a collection whose report names no row or object, removed or failed, leaves the store as it was
 pub collections_without_effect : CollectionsWithoutEffect
 collections_without_effect state at failed report new collects none =
     collects.state_is

@@ -72,6 +72,7 @@ module _ (records : Records) (one : OneThingPerKey records) (at : ℤ) (asked : 
   one_way told other (inl a) (inr b) = absurd (not_both told.path other.path a.1 b.1)
   one_way told other (inr a) (inl b) = absurd (not_both other.path told.path b.1 a.1)
 
+-- two right answers to what keeps a row of a sound store at a moment are equal
 pub each_explanation_is_one : EachExplanationIsOne
 each_explanation_is_one state s ns kind name at told other a b =
     let object : a.object ≡ b.object = some_is_one _ a.object b.object a.is_object b.is_object in
@@ -88,6 +89,7 @@ impact_once : (now then : State) (at : ℤ) (impact other : Impact) → IsImpact
 impact_once now then at impact other a b =
     a.each b.here b.there b.plans_now b.plans_then ∙ sym b.is
 
+-- two right answers to what would be removed without a row at a moment are equal
 pub each_impact_is_one : EachImpactIsOne
 each_impact_is_one state ns kind name at impact other a b =
     let object : a.object ≡ b.object = some_is_one _ a.object b.object a.is_object b.is_object in

@@ -155,6 +155,7 @@ lines_once state s supplies others (line ∷ lines) same a b =
     ap (λ (p : List ℕ × State). p.0 ++ output_from p.1 (drop 1 supplies) lines) step
     ∙ ap (λ (out : List ℕ). (line_step state other line).0 ++ out) rest
 
+-- two runs that are refused alike, and answer each question rightly, have one output
 pub each_script_has_one_output : EachScriptHasOneOutput
 each_script_has_one_output supplies others script same a b =
     lines_once empty_store empty_is_sound supplies others (lines_of script) same a b

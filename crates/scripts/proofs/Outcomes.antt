@@ -39,6 +39,7 @@ same_report state at report new c = one_report state at no_objects report _ new 
 same_state : (state : State) (at : ℤ) (report : Report) (new : State) → Collects state at no_objects report new → new ≡ collected_state state at
 same_state state at report new c = one_state state at no_objects report _ new _ c (these_collect state at)
 
+-- the computed step of an event is one that the definitions allow, if no removal fails
 pub each_event_has_this_step : EachEventHasThisStep
 each_event_has_this_step state (requested request) = (refl, refl, refl)
 each_event_has_this_step state (collect at dry workers) = go dry (collect_fault state.records workers) refl
@@ -56,6 +57,7 @@ each_event_has_this_step state (remove_collect removal at workers) = go (remove_
     go None free = (free, these_collect (removal_outcome state removal).after at)
     go (Some fault) least = (least, refl, refl)
 
+-- the definitions allow no other step of an event, if no removal fails
 pub no_event_has_another_step : NoEventHasAnotherStep
 no_event_has_another_step state (requested request) answer new step = (step.1, step.2)
 no_event_has_another_step state (collect at true workers) (reported report) new step = (rw step.0 (ap reported (one_plan state at report _ step.2 (this_plans state at))), rw step.0 step.3)

@@ -676,12 +676,14 @@ lines_made state (line ∷ lines) written is =
       ),
     )
 
+-- bytes answer a script exactly if they are a computed output of it
 pub what_answers_is_an_output : WhatAnswersIsAnOutput
 what_answers_is_an_output script written = (
   (λ is. lines_made empty_store (lines_of script) written is),
   (λ out. answers_script script written out),
 )
 
+-- the empty store is sound, and the answer to a line leaves a sound store
 pub each_store_is_sound : EachStoreIsSound
 each_store_is_sound = (
   empty_is_sound,

@@ -149,6 +149,7 @@ from_lease =
     (text_of (done ∷ kept_reply ∷ ended_reply ∷ [])) one_namespace (adds_lease end_labels)
     asks_lease refl refl from_held
 
+-- the lease keeps its content at its end, and a nanosecond later it is the last that kept it
 pub an_end_is_explained : AnEndIsExplained
 an_end_is_explained =
     done_then add_line (refl, refl) (lease_line ∷ held_line ∷ end_line ∷ later_line ∷ [])

@@ -208,6 +208,7 @@ from_add =
     (empty_then one_namespace (again_line ∷ list_line ∷ mend_line ∷ [])
     (there ∷ names ∷ bad ∷ []) from_again)
 
+-- three requests, an empty line and a line that is no request are answered, byte for byte
 pub requests_are_answered : RequestsAreAnswered
 requests_are_answered =
     answers_script (text_of requests) (text_of replies) ([], from_add.0, from_add.1)
@@ -330,6 +331,7 @@ from_start =
     (asks_for empty_store one_namespace add_line (A.Request (R.NsAdd x)) (answered P.Done) done
     refl refl asks_ns_add refl done_text) from_b
 
+-- five additions and a collection are answered, byte for byte, with the report
 pub a_collection_is_answered : ACollectionIsAnswered
 a_collection_is_answered =
     answers_script (text_of collecting) (text_of collected)

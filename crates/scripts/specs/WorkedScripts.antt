@@ -30,6 +30,7 @@ replies = done
     ∷ codes "{\"fault\":5,\"name\":\"BadLine\"}"
     ∷ []
 
+-- these replies answer these requests; the empty line has no reply
 abbrev pub RequestsAreAnswered : Type 0
 RequestsAreAnswered = AnswersScript (text_of requests) (text_of replies)
 
@@ -61,6 +62,7 @@ report_text = codes "{\"ok\":true,\"report\":{\"backend\":{\"blobs\":[\""
 abbrev pub collected : List Text
 collected = done ∷ done ∷ done ∷ done ∷ done ∷ report_text ∷ []
 
+-- these replies answer these lines; the last is the report, which names content c
 abbrev pub ACollectionIsAnswered : Type 0
 ACollectionIsAnswered = AnswersScript (text_of collecting) (text_of collected)
 
@@ -92,5 +94,7 @@ explained = done ∷ done ∷ done
     ∷ explanation_text (codes "false") (codes "ended")
     ∷ []
 
+-- these replies answer these lines: at the end the lease keeps the content, a nanosecond later it
+-- has ended
 abbrev pub AnEndIsExplained : Type 0
 AnEndIsExplained = AnswersScript (text_of explaining) (text_of explained)

@@ -51,5 +51,6 @@ module _ (records : Records) (namespaces : ℕ) (back : BackLists) (at : ℤ) (p
         (λ none. is.1 (gone_and_named ingest_key ingest_name ingest_names (ingest_stays of.reached) records.tables.ingests row c (not_told records at of.reached of.tells (ingest row) (ingest_in records row c) none)).1),
       )
 
+  -- a plan names a row as removed exactly if no path leads to it
   pub goes : GoesWhatNoPathLeadsTo records at plan
   goes = record { content_rows = content_goes; snapshot_rows = snapshot_goes; ingest_rows = ingest_goes }

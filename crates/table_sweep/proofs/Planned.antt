@@ -25,6 +25,7 @@ pub kept_by : {Row : Type 0} (stays : Row → Bool) (rows : List Row) (mask : Li
 kept_by stays rows mask is = ap (λ m. kept m rows) is ∙ kept_is stays rows
 
 module _ (records : Records) (at : ℤ) (reached : Thing → Bool) (masks : Masks) (are : AreMasks records at reached masks) where
+  -- each mask is as long as its kind has rows
   pub fit : FitRows records.tables records.leases masks
   fit = record {
     images = ap length are.images ∙ length-map records.tables.images (image_stays records.profile at);

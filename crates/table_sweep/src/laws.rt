@@ -2,7 +2,7 @@
 ghost use Rattle.table_sweep.specs.Laws.{ReachedMarksPlanACollection, APlanFollowsThePaths};
 
 /// By marks that are the reached numbers, a plan is that of a collection: it removes a row exactly
-/// where no path leads to it.
+/// if no path leads to it.
 pub fn a_plan_follows_the_paths()
     ensures by_reached_marks { ReachedMarksPlanACollection }
     ensures by_paths { APlanFollowsThePaths }

@@ -28,23 +28,24 @@ FailsAt removed failed left = Collects free_chain first_of_march (snapshots_name
     (record (plain_report (snapshots_named removed) one_namespace (record nothing_removed { snapshots = chain_names overlayfs }) 0) { failed = snapshots_named (failed ∷ []) })
     (with_objects left)
 
--- where no removal passes, nothing goes: a parent isn't tried before its child has gone
+-- if the first call fails, no object is removed: a parent isn't tried before its child has gone
 abbrev pub TheFirstRemovalFails : Type 0
 TheFirstRemovalFails = FailsAt [] (overlayfs, 4) (chain_object 1 None ∷ chain_object 2 (Some 1) ∷ chain_object 3 (Some 2) ∷ chain_object 4 (Some 3) ∷ [])
 
--- after one call the last has gone
+-- if the second call fails, only the last object is removed
 abbrev pub TheSecondRemovalFails : Type 0
 TheSecondRemovalFails = FailsAt ((overlayfs, 4) ∷ []) (overlayfs, 3) (chain_object 1 None ∷ chain_object 2 (Some 1) ∷ chain_object 3 (Some 2) ∷ [])
 
--- after two calls the last two
+-- if the third call fails, the last two objects are removed
 abbrev pub TheThirdRemovalFails : Type 0
 TheThirdRemovalFails = FailsAt ((overlayfs, 4) ∷ (overlayfs, 3) ∷ []) (overlayfs, 2) (chain_object 1 None ∷ chain_object 2 (Some 1) ∷ [])
 
--- after three calls all but the first
+-- if the fourth call fails, all objects but the first are removed
 abbrev pub TheLastRemovalFails : Type 0
 TheLastRemovalFails = FailsAt ((overlayfs, 4) ∷ (overlayfs, 3) ∷ (overlayfs, 2) ∷ []) (overlayfs, 1) (chain_object 1 None ∷ [])
 
--- a later collection removes what was left, though no row names it any more
+-- a later collection removes the two objects that the third call left, though no row names them any
+-- more
 abbrev pub ALaterCollectionRemovesTheRest : Type 0
 ALaterCollectionRemovesTheRest = Collects (with_objects (chain_object 1 None ∷ chain_object 2 (Some 1) ∷ [])) first_of_march no_objects
     (plain_report (snapshots_named ((overlayfs, 2) ∷ (overlayfs, 1) ∷ [])) one_namespace nothing_removed 0) (used_up_to 5)

@@ -44,7 +44,7 @@ ACycleGoes = Collects cycle_alone first_of_march no_objects
 abbrev pub cycle_under_image : State
 cycle_under_image = after_all empty_store (NsAdd x ∷ cycle ++ (adds_image b [] ∷ []))
 
--- and stays where an image leads into it
+-- a cycle stays if an image leads into it
 abbrev pub ACycleUnderAnImageStays : Type 0
 ACycleUnderAnImageStays = Collects cycle_under_image first_of_march no_objects
     (plain_report no_objects (record one_namespace { content = 2; images = 1 }) nothing_removed 2) cycle_under_image
@@ -57,7 +57,7 @@ flat_label = (codes "containerd.io/gc.flat", codes "t") ∷ []
 abbrev pub held_in_both_modes : State
 held_in_both_modes = after_all empty_store (NsAdd x ∷ adds b [] ∷ adds a (content_label b) ∷ adds_lease flat_label ∷ holds (codes "content") a ∷ adds_image a [] ∷ [])
 
--- is scanned in both modes, and its labels are followed
+-- content that an image and a flat lease hold is scanned in both modes, and its labels are followed
 abbrev pub BothModesAreScanned : Type 0
 BothModesAreScanned = Collects held_in_both_modes first_of_march no_objects
     (plain_report no_objects (record one_namespace { content = 2; images = 1; leases = 1 }) nothing_removed 3) held_in_both_modes
@@ -79,11 +79,11 @@ AFlatLeaseFollowsNoLabels = Collects image_removed first_of_march no_objects
 abbrev pub leased : State
 leased = after_all empty_store (NsAdd x ∷ adds_lease ((codes "containerd.io/gc.expire", first_of_march_text) ∷ []) ∷ adds_held a ∷ [])
 
--- at that very moment it still holds
+-- at the very moment of its expiry the lease still holds its content
 abbrev pub ALeaseHoldsAtItsExpiry : Type 0
 ALeaseHoldsAtItsExpiry = Collects leased first_of_march no_objects (plain_report no_objects (record one_namespace { content = 1; leases = 1 }) nothing_removed 1) leased
 
--- a nanosecond later both go
+-- a nanosecond later the lease and its content go
 abbrev pub AnExpiredLeaseGoes : Type 0
 AnExpiredLeaseGoes = Collects leased just_after no_objects
     (plain_report (record no_objects { blobs = a ∷ [] }) one_namespace (record nothing_removed { content = (x, a) ∷ []; leases = (x, l) ∷ [] }) 0) namespace_alone

@@ -17,7 +17,7 @@ use Rattle.meta_types.specs.declared.request.Removal.TheVariants as Removing
 abbrev pub expiring : State
 expiring = after_all empty_store (Profile 2 ∷ [])
 
--- its report is of profile 2, also where nothing is stored
+-- the report of a collection in profile 2 names profile 2, also if nothing is stored
 abbrev pub AnEmptyStoreIsCollected : Type 0
 AnEmptyStoreIsCollected = Collects expiring first_of_march no_objects (report_with 2 no_objects (record one_namespace { namespaces = 0 }) nothing_removed 0) expiring
 
@@ -25,7 +25,7 @@ AnEmptyStoreIsCollected = Collects expiring first_of_march no_objects (report_wi
 abbrev pub image_to_expire : State
 image_to_expire = after_all expiring (NsAdd x ∷ adds a [] ∷ adds_image a ((codes "containerd.io/gc.expire", first_of_march_text) ∷ []) ∷ [])
 
--- at that very moment it still holds
+-- at the very moment of its expiry the image still holds its content
 abbrev pub AnImageHoldsAtItsExpiry : Type 0
 AnImageHoldsAtItsExpiry = Collects image_to_expire first_of_march no_objects (report_with 2 no_objects (record one_namespace { content = 1; images = 1 }) nothing_removed 1) image_to_expire
 
@@ -33,7 +33,7 @@ AnImageHoldsAtItsExpiry = Collects image_to_expire first_of_march no_objects (re
 abbrev pub expired_image_gone : State
 expired_image_gone = after_all expiring (NsAdd x ∷ [])
 
--- a nanosecond later both go
+-- a nanosecond later the image and its content go
 abbrev pub AnExpiredImageGoes : Type 0
 AnExpiredImageGoes = Collects image_to_expire just_after no_objects
     (report_with 2 (record no_objects { blobs = a ∷ [] }) one_namespace (record nothing_removed { content = (x, a) ∷ []; images = (x, i) ∷ [] }) 0)

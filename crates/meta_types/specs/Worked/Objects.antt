@@ -65,7 +65,7 @@ chain_alone = record {
   backends = record { blobs = []; snapshots = chain_object 1 None ∷ chain_object 2 (Some 1) ∷ chain_object 3 (Some 2) ∷ chain_object 4 (Some 3) ∷ []; ingests = [] };
 }
 
--- a flat lease on the last keeps all parents, and not what the label names
+-- a flat lease on the last snapshot keeps all its parents, and not the content that its label names
 abbrev pub AFlatLeaseKeepsParents : Type 0
 AFlatLeaseKeepsParents = Collects chain_and_content first_of_march no_objects
     (plain_report (record no_objects { blobs = b ∷ [] }) (record one_namespace { leases = 1; snapshots = 4 }) (record nothing_removed { content = (x, b) ∷ [] }) 4) chain_alone
@@ -104,7 +104,7 @@ abbrev pub AnIngestHoldsForADay : Type 0
 AnIngestHoldsForADay = Collects ingesting (pos 1709337600000000000) no_objects
     (plain_report no_objects (record one_namespace { content = 1; ingests = 1 }) nothing_removed 2) ingesting
 
--- a nanosecond later it goes, with what it expected
+-- a nanosecond later the ingest goes, with the content that it expected
 abbrev pub AnIngestGoesAfterADay : Type 0
 AnIngestGoesAfterADay = Collects ingesting (pos 1709337600000000001) no_objects
     (plain_report (record no_objects { blobs = b ∷ []; ingests = 1 ∷ [] }) one_namespace (record nothing_removed { content = (x, b) ∷ []; ingests = (x, codes "r") ∷ [] }) 0) (used_up_to 2)

@@ -37,7 +37,7 @@ no_times = codes ""
 abbrev pub TimesAreRead : Type 0
 TimesAreRead = map (λ (row : Text × ℤ). instant_of row.0) times ≡ map (λ (row : Text × ℤ). Some row.1) times
 
--- none of the others is read
+-- none of the other texts is read as a moment
 abbrev pub OthersAreNoTimes : Type 0
 OthersAreNoTimes = map instant_of no_times ≡ map (λ (text : Text). None) no_times
 

@@ -1,6 +1,7 @@
 use Rattle.kept_run.proofs.Joining.{rests_both, pauses_both, kept_both}
 use Rattle.kept_run.proofs.laws.calls_join.Goals as goal
 
+-- the entries of the first call and then those of the second are entries of one call
 pub returns : goal.returns
 returns g c = record {
   joined = λ first old from mid to before contents contents2 begun piece piece2 unread left left2

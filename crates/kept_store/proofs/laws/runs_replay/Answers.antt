@@ -1,5 +1,6 @@
 use Rattle.kept_store.proofs.Replayed.{runs_replay}
 use Rattle.kept_store.proofs.laws.runs_replay.Goals as goal
 
+-- a line that isn't logged leaves the store as it was
 pub returns : goal.returns
 returns c = record { runs = runs_replay }
