@@ -153,7 +153,7 @@ func (cs *contentStore) findLost(ctx context.Context, dgst digest.Digest) error 
 		return err
 	}
 	for _, ns := range names {
-		r, err := cs.s.client.Call(ctx, getContent(ns, dgst))
+		r, err := cs.s.client.Call(ctx, getContent(dgst).With("ns", ns))
 		if r.OK {
 			log.G(ctx).WithField("digest", dgst).WithField("namespace",
 				ns).Error("content has lost its blob")
@@ -207,7 +207,7 @@ func (sn *snapshotter) mendRows(ctx context.Context, keys map[string]bool) error
 	}
 	rows := map[string][]metad.Row{}
 	for _, ns := range names {
-		if err := sn.s.rows(ctx, sn.line("snap.list", ns), func(r metad.Row) error {
+		if err := sn.s.rows(ctx, sn.line("snap.list").With("ns", ns), func(r metad.Row) error {
 			if r.Kind == "committed" && len(keys) == 0 && sn.s.folders.Snapshotters[sn.name] == "" {
 				return fmt.Errorf("the store has snapshots, and snapshotter %s has none: is it mounted? %w",
 					sn.name, errdefs.ErrFailedPrecondition)

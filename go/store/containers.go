@@ -12,9 +12,7 @@ import (
 	api "github.com/containerd/containerd/api/services/containers/v1"
 	"github.com/containerd/containerd/containers"
 	"github.com/containerd/containerd/errdefs"
-	"github.com/containerd/containerd/filters"
 	"github.com/containerd/containerd/identifiers"
-	"github.com/containerd/containerd/log"
 	"github.com/gogo/protobuf/types"
 
 	"metad/metad"
@@ -30,6 +28,8 @@ func NewContainerStore(s *Store) containers.Store { return &containerStore{s} }
 // noSnapshot is in the row of a container that had a snapshot and has none any more: a snapshot can
 // be replaced, but not taken away. No snapshotter has this name.
 var noSnapshot = [2]string{"containerd-metad", "none"}
+
+var containerKind = kind[containers.Container]{containerOf, AdaptContainer}
 
 func containerOf(row metad.Row) (containers.Container, error) {
 	c, err := containerOfData(row)
@@ -131,109 +131,60 @@ func unpacked(text string) ([]byte, error) {
 	return io.ReadAll(flate.NewReader(bytes.NewReader(data)))
 }
 
-func getContainer(ns, id string) metad.Line {
-	return metad.Line{"op": "container.get", "ns": ns}.With("name", id)
+func getContainer(id string) metad.Line {
+	return metad.Line{"op": "container.get"}.With("name", id)
 }
 
 func (cs *containerStore) Get(ctx context.Context, id string) (containers.Container, error) {
-	ns, _, err := requested(ctx)
-	if err != nil {
-		return containers.Container{}, err
-	}
-	r, err := cs.s.client.Call(ctx, getContainer(ns, id))
-	if err != nil {
-		return containers.Container{}, err
-	}
-	return containerOf(r.Row)
+	return containerKind.get(ctx, cs.s, getContainer(id))
 }
 
-// List leaves out, and tells, a container whose data can't be read.
 func (cs *containerStore) List(ctx context.Context, fs ...string) ([]containers.Container, error) {
-	ns, _, err := requested(ctx)
-	if err != nil {
-		return nil, err
-	}
-	filter, err := filters.ParseAll(fs...)
-	if err != nil {
-		return nil, fmt.Errorf("%s: %w", err, errdefs.ErrInvalidArgument)
-	}
-	var all []containers.Container
-	err = cs.s.rows(ctx, metad.Line{"op": "container.list", "ns": ns}, func(row metad.Row) error {
-		c, err := containerOf(row)
-		if err != nil {
-			log.G(ctx).WithError(err).Error("a row can't be read")
-		} else if filter.Match(AdaptContainer(c)) {
-			all = append(all, c)
-		}
-		return nil
-	})
-	return all, err
+	return containerKind.list(ctx, cs.s, metad.Line{"op": "container.list"}, fs)
 }
 
 func (cs *containerStore) Create(ctx context.Context, c containers.Container) (containers.Container,
 	error) {
-	ns, _, err := requested(ctx)
-	if err != nil {
-		return containers.Container{}, err
-	}
-	if err := checkLabels(c.Labels); err != nil {
-		return containers.Container{}, err
-	}
 	c.CreatedAt = cs.s.moment().UTC()
 	c.UpdatedAt = c.CreatedAt
-	line := metad.Line{"op": "container.add", "ns": ns, "name": c.ID}.WithLabels(c.Labels)
+	line := metad.Line{"op": "container.add", "name": c.ID}
 	if err := setContainer(line, c); err != nil {
 		return containers.Container{}, err
 	}
-	if _, err := cs.s.addOne(ctx, ns, line); err != nil {
+	if err := cs.s.create(ctx, line, c.Labels); err != nil {
 		return containers.Container{}, err
 	}
-	cs.s.changed(false)
 	return c, nil
 }
 
-// Update is one line if only labels change. What else changes is written with what stays of it.
 func (cs *containerStore) Update(ctx context.Context, c containers.Container,
 	paths ...string) (containers.Container, error) {
-	ns, _, err := requested(ctx)
-	if err != nil {
-		return containers.Container{}, err
-	}
 	isWhole := len(paths) == 0
 	if isWhole {
 		paths = []string{"labels", "spec", "extensions", "image", "snapshotkey"}
 	}
-	line := metad.Line{"op": "container.set", "ns": ns, "name": c.ID}.AskingForRow()
-	others, err := cs.s.relabel(line, c.Labels, paths)
-	if err != nil {
-		return containers.Container{}, err
-	}
-	if len(others) > 0 {
-		defer cs.s.rowLocks.lock("container", ns, c.ID)()
+	line := metad.Line{"op": "container.set", "name": c.ID}
+	row, err := cs.s.update(ctx, line, c.Labels, paths, func(others []string) error {
 		updated, err := cs.Get(ctx, c.ID)
 		if err != nil {
-			return containers.Container{}, err
+			return err
 		}
 		if isWhole && (updated.Snapshotter != c.Snapshotter || updated.Runtime.Name != c.Runtime.Name) {
-			return containers.Container{}, fmt.Errorf("snapshotter and runtime of container %q stay: %w",
-				c.ID, errdefs.ErrInvalidArgument)
+			return fmt.Errorf("snapshotter and runtime of container %q stay: %w", c.ID,
+				errdefs.ErrInvalidArgument)
 		}
 		if updated.SnapshotKey != "" {
 			line["snapshotter"], line["key"] = noSnapshot[0], noSnapshot[1]
 		}
 		if err := maskContainer(&updated, c, others); err != nil {
-			return containers.Container{}, err
+			return err
 		}
-		if err := setContainer(line, updated); err != nil {
-			return containers.Container{}, err
-		}
-	}
-	r, err := cs.s.client.Call(ctx, line)
+		return setContainer(line, updated)
+	})
 	if err != nil {
 		return containers.Container{}, err
 	}
-	cs.s.changed(false)
-	return containerOf(r.Row)
+	return containerOf(row)
 }
 
 // maskContainer applies the field paths of a container that aren't of labels.
@@ -255,22 +206,12 @@ func maskContainer(have *containers.Container, want containers.Container, paths 
 			}
 			have.Extensions[extension] = want.Extensions[extension]
 		default:
-			return fmt.Errorf("cannot update %q of container %q: %w", path, want.ID,
-				errdefs.ErrInvalidArgument)
+			return cannotUpdate("container", want.ID, path)
 		}
 	}
 	return nil
 }
 
 func (cs *containerStore) Delete(ctx context.Context, id string) error {
-	ns, _, err := requested(ctx)
-	if err != nil {
-		return err
-	}
-	line := metad.Line{"op": "container.remove", "ns": ns}.With("name", id)
-	if _, err := cs.s.client.Call(ctx, line); err != nil {
-		return err
-	}
-	cs.s.changed(true)
-	return nil
+	return cs.s.delete(ctx, metad.Line{"op": "container.remove"}.With("name", id))
 }

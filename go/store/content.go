@@ -8,7 +8,7 @@ import (
 	"github.com/containerd/containerd/content"
 	"github.com/containerd/containerd/errdefs"
 	"github.com/containerd/containerd/filters"
-	"github.com/containerd/containerd/log"
+	"github.com/containerd/containerd/leases"
 	"github.com/opencontainers/go-digest"
 	ocispec "github.com/opencontainers/image-spec/specs-go/v1"
 
@@ -24,6 +24,8 @@ type contentStore struct {
 
 // ingestRef names an ingest's file.
 func ingestRef(number uint32) string { return strconv.FormatUint(uint64(number), 10) }
+
+var contentKind = kind[content.Info]{contentInfo, content.AdaptInfo}
 
 func contentInfo(row metad.Row) (content.Info, error) {
 	data, err := decodeData(row.Data)
@@ -43,12 +45,12 @@ func contentInfo(row metad.Row) (content.Info, error) {
 	}, nil
 }
 
-func getContent(ns string, dgst digest.Digest) metad.Line {
-	return metad.Line{"op": "content.get", "ns": ns}.With("digest", dgst.String())
+func getContent(dgst digest.Digest) metad.Line {
+	return metad.Line{"op": "content.get"}.With("digest", dgst.String())
 }
 
-func getIngest(ns, ref string) metad.Line {
-	return metad.Line{"op": "ingest.get", "ns": ns}.With("ref", ref)
+func getIngest(ref string) metad.Line {
+	return metad.Line{"op": "ingest.get"}.With("ref", ref)
 }
 
 // abortIngest removes an ingest, which its lease then doesn't hold any more.
@@ -57,79 +59,32 @@ func abortIngest(ns, lease, ref string) metad.Line {
 }
 
 func (cs *contentStore) Info(ctx context.Context, dgst digest.Digest) (content.Info, error) {
-	ns, _, err := requested(ctx)
-	if err != nil {
-		return content.Info{}, err
-	}
-	r, err := cs.s.client.Call(ctx, getContent(ns, dgst))
-	if err != nil {
-		return content.Info{}, err
-	}
-	return contentInfo(r.Row)
+	return contentKind.get(ctx, cs.s, getContent(dgst))
 }
 
 func (cs *contentStore) Update(ctx context.Context, info content.Info,
 	paths ...string) (content.Info, error) {
-	ns, _, err := requested(ctx)
-	if err != nil {
-		return content.Info{}, err
-	}
 	if len(paths) == 0 {
 		paths = []string{"labels"}
 	}
-	line := metad.Line{"op": "content.set", "ns": ns, "digest": info.Digest}.AskingForRow()
-	others, err := cs.s.relabel(line, info.Labels, paths)
+	line := metad.Line{"op": "content.set", "digest": info.Digest}
+	row, err := cs.s.update(ctx, line, info.Labels, paths,
+		onlyLabels("content", info.Digest.String()))
 	if err != nil {
 		return content.Info{}, err
 	}
-	if len(others) > 0 {
-		return content.Info{}, fmt.Errorf("cannot update %q of content %q: %w", others[0], info.Digest,
-			errdefs.ErrInvalidArgument)
-	}
-	r, err := cs.s.client.Call(ctx, line)
-	if err != nil {
-		return content.Info{}, err
-	}
-	cs.s.changed(false)
-	return contentInfo(r.Row)
+	return contentInfo(row)
 }
 
-// Walk leaves out, and tells, content whose data can't be read.
 func (cs *contentStore) Walk(ctx context.Context, fn content.WalkFunc, fs ...string) error {
-	ns, _, err := requested(ctx)
-	if err != nil {
-		return err
-	}
-	filter, err := filters.ParseAll(fs...)
-	if err != nil {
-		return err
-	}
-	return cs.s.rows(ctx, metad.Line{"op": "content.list", "ns": ns}, func(row metad.Row) error {
-		info, err := contentInfo(row)
-		if err != nil {
-			log.G(ctx).WithError(err).Error("a row can't be read")
-			return nil
-		}
-		if filter.Match(content.AdaptInfo(info)) {
-			return fn(info)
-		}
-		return nil
-	})
+	return contentKind.walk(ctx, cs.s, metad.Line{"op": "content.list"}, fs, fn)
 }
 
 // Delete removes the row. A collection removes the blob if no namespace has a row of it.
 func (cs *contentStore) Delete(ctx context.Context, dgst digest.Digest) error {
-	ns, lease, err := requested(ctx)
-	if err != nil {
-		return err
-	}
-	line := metad.Line{"op": "content.remove", "ns": ns}.With("digest", dgst.String()).
-		With("drop", lease)
-	if _, err := cs.s.client.Call(ctx, line); err != nil {
-		return err
-	}
-	cs.s.changed(true)
-	return nil
+	lease, _ := leases.FromContext(ctx)
+	return cs.s.delete(ctx, metad.Line{"op": "content.remove"}.With("digest", dgst.String()).
+		With("drop", lease))
 }
 
 func (cs *contentStore) ListStatuses(ctx context.Context, fs ...string) ([]content.Status, error) {
@@ -160,11 +115,7 @@ func (cs *contentStore) ListStatuses(ctx context.Context, fs ...string) ([]conte
 }
 
 func (cs *contentStore) Status(ctx context.Context, ref string) (content.Status, error) {
-	ns, _, err := requested(ctx)
-	if err != nil {
-		return content.Status{}, err
-	}
-	r, err := cs.s.client.Call(ctx, getIngest(ns, ref))
+	r, err := cs.s.ask(ctx, getIngest(ref))
 	if err != nil {
 		return content.Status{}, err
 	}
@@ -183,7 +134,8 @@ func (cs *contentStore) Abort(ctx context.Context, ref string) error {
 	cs.s.filesL.RLock()
 	defer cs.s.filesL.RUnlock()
 
-	replies, err := cs.s.client.Do(ctx, getIngest(ns, ref), abortIngest(ns, lease, ref))
+	replies, err := cs.s.client.Do(ctx, getIngest(ref).With("ns", ns),
+		abortIngest(ns, lease, ref))
 	if err != nil {
 		return err
 	}
@@ -241,14 +193,14 @@ func (cs *contentStore) refuseThere(ctx context.Context, ns, lease string,
 	if _, err := cs.Store.Info(ctx, dgst); errdefs.IsNotFound(err) {
 		return nil
 	}
-	r, err := cs.s.client.Call(ctx, getContent(ns, dgst))
+	r, err := cs.s.client.Call(ctx, getContent(dgst).With("ns", ns))
 	if r.Fault == metad.NotFound {
 		return nil
 	}
 	if err != nil {
 		return err
 	}
-	if err := cs.s.hold(ctx, ns, lease, "content", dgst.String()); err != nil {
+	if err := cs.s.hold(ctx, ns, lease, leases.Resource{Type: "content", ID: dgst.String()}); err != nil {
 		return err
 	}
 	return fmt.Errorf("content %v: %w", dgst, errdefs.ErrAlreadyExists)

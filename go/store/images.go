@@ -6,9 +6,7 @@ import (
 	"strings"
 
 	"github.com/containerd/containerd/errdefs"
-	"github.com/containerd/containerd/filters"
 	"github.com/containerd/containerd/images"
-	"github.com/containerd/containerd/log"
 	"github.com/opencontainers/go-digest"
 	ocispec "github.com/opencontainers/image-spec/specs-go/v1"
 
@@ -21,6 +19,8 @@ type imageStore struct {
 
 // NewImageStore returns the images of a store.
 func NewImageStore(s *Store) images.Store { return &imageStore{s} }
+
+var imageKind = kind[images.Image]{imageOf, AdaptImage}
 
 func imageOf(row metad.Row) (images.Image, error) {
 	data, err := decodeData(row.Data)
@@ -64,100 +64,47 @@ func setTarget(line metad.Line, image images.Image) error {
 	return err
 }
 
-func getImage(ns, name string) metad.Line {
-	return metad.Line{"op": "image.get", "ns": ns}.With("name", name)
-}
-
 func (is *imageStore) Get(ctx context.Context, name string) (images.Image, error) {
-	ns, _, err := requested(ctx)
-	if err != nil {
-		return images.Image{}, err
-	}
-	r, err := is.s.client.Call(ctx, getImage(ns, name))
-	if err != nil {
-		return images.Image{}, err
-	}
-	return imageOf(r.Row)
+	return imageKind.get(ctx, is.s, metad.Line{"op": "image.get"}.With("name", name))
 }
 
-// List leaves out, and tells, an image whose data can't be read: the others are there all the same.
 func (is *imageStore) List(ctx context.Context, fs ...string) ([]images.Image, error) {
-	ns, _, err := requested(ctx)
-	if err != nil {
-		return nil, err
-	}
-	filter, err := filters.ParseAll(fs...)
-	if err != nil {
-		return nil, fmt.Errorf("%s: %w", err, errdefs.ErrInvalidArgument)
-	}
-	var all []images.Image
-	err = is.s.rows(ctx, metad.Line{"op": "image.list", "ns": ns}, func(row metad.Row) error {
-		image, err := imageOf(row)
-		if err != nil {
-			log.G(ctx).WithError(err).Error("a row can't be read")
-		} else if filter.Match(AdaptImage(image)) {
-			all = append(all, image)
-		}
-		return nil
-	})
-	return all, err
+	return imageKind.list(ctx, is.s, metad.Line{"op": "image.list"}, fs)
 }
 
 func (is *imageStore) Create(ctx context.Context, image images.Image) (images.Image, error) {
-	ns, _, err := requested(ctx)
-	if err != nil {
-		return images.Image{}, err
-	}
-	if err := checkLabels(image.Labels); err != nil {
-		return images.Image{}, err
-	}
 	image.CreatedAt = is.s.moment().UTC()
 	image.UpdatedAt = image.CreatedAt
-	line := metad.Line{"op": "image.add", "ns": ns}.With("name", image.Name).WithLabels(image.Labels)
+	line := metad.Line{"op": "image.add"}.With("name", image.Name)
 	if err := setTarget(line, image); err != nil {
 		return images.Image{}, err
 	}
-	if _, err := is.s.addOne(ctx, ns, line); err != nil {
+	if err := is.s.create(ctx, line, image.Labels); err != nil {
 		return images.Image{}, err
 	}
-	is.s.changed(false)
 	return image, nil
 }
 
-// Update is one line if only labels change. What else changes is written with what stays of it.
 func (is *imageStore) Update(ctx context.Context, image images.Image,
 	paths ...string) (images.Image, error) {
-	ns, _, err := requested(ctx)
-	if err != nil {
-		return images.Image{}, err
-	}
 	if len(paths) == 0 {
 		paths = []string{"labels", "target"}
 	}
-	line := metad.Line{"op": "image.set", "ns": ns, "name": image.Name}.AskingForRow()
-	others, err := is.s.relabel(line, image.Labels, paths)
-	if err != nil {
-		return images.Image{}, err
-	}
-	if len(others) > 0 {
-		defer is.s.rowLocks.lock("image", ns, image.Name)()
+	line := metad.Line{"op": "image.set", "name": image.Name}
+	row, err := is.s.update(ctx, line, image.Labels, paths, func(others []string) error {
 		updated, err := is.Get(ctx, image.Name)
 		if err != nil {
-			return images.Image{}, err
+			return err
 		}
 		if err := maskTarget(&updated, image, others); err != nil {
-			return images.Image{}, err
+			return err
 		}
-		if err := setTarget(line, updated); err != nil {
-			return images.Image{}, err
-		}
-	}
-	r, err := is.s.client.Call(ctx, line)
+		return setTarget(line, updated)
+	})
 	if err != nil {
 		return images.Image{}, err
 	}
-	is.s.changed(false)
-	return imageOf(r.Row)
+	return imageOf(row)
 }
 
 // maskTarget applies the field paths of an image's target.
@@ -175,22 +122,12 @@ func maskTarget(have *images.Image, want images.Image, paths []string) error {
 			}
 			have.Target.Annotations[key] = want.Target.Annotations[key]
 		default:
-			return fmt.Errorf("cannot update %q of image %q: %w", path, want.Name,
-				errdefs.ErrInvalidArgument)
+			return cannotUpdate("image", want.Name, path)
 		}
 	}
 	return nil
 }
 
 func (is *imageStore) Delete(ctx context.Context, name string, _ ...images.DeleteOpt) error {
-	ns, _, err := requested(ctx)
-	if err != nil {
-		return err
-	}
-	line := metad.Line{"op": "image.remove", "ns": ns}.With("name", name)
-	if _, err := is.s.client.Call(ctx, line); err != nil {
-		return err
-	}
-	is.s.changed(true)
-	return nil
+	return is.s.delete(ctx, metad.Line{"op": "image.remove"}.With("name", name))
 }

@@ -6,9 +6,7 @@ import (
 	"strings"
 
 	"github.com/containerd/containerd/errdefs"
-	"github.com/containerd/containerd/filters"
 	"github.com/containerd/containerd/leases"
-	"github.com/containerd/containerd/log"
 
 	"metad/metad"
 )
@@ -19,6 +17,8 @@ type leaseManager struct {
 
 // NewLeaseManager returns the leases of a store.
 func NewLeaseManager(s *Store) leases.Manager { return &leaseManager{s} }
+
+var leaseKind = kind[leases.Lease]{leaseOf, adaptLease}
 
 func leaseOf(row metad.Row) (leases.Lease, error) {
 	data, err := decodeData(row.Data)
@@ -42,74 +42,33 @@ func (lm *leaseManager) Create(ctx context.Context, opts ...leases.Opt) (leases.
 	if l.ID == "" {
 		return leases.Lease{}, fmt.Errorf("a lease needs an id: %w", errdefs.ErrInvalidArgument)
 	}
-	ns, _, err := requested(ctx)
-	if err != nil {
-		return leases.Lease{}, err
-	}
-	if err := checkLabels(l.Labels); err != nil {
-		return leases.Lease{}, err
-	}
 	l.CreatedAt = lm.s.moment().UTC()
 	data, err := rowData{Created: l.CreatedAt}.encode()
 	if err != nil {
 		return leases.Lease{}, err
 	}
-	line := metad.Line{"op": "lease.add", "ns": ns, "id": l.ID}.WithLabels(l.Labels).WithData(data)
-	if _, err := lm.s.addOne(ctx, ns, line); err != nil {
+	line := metad.Line{"op": "lease.add", "id": l.ID}.WithData(data)
+	if err := lm.s.create(ctx, line, l.Labels); err != nil {
 		return leases.Lease{}, err
 	}
-	lm.s.changed(false)
 	return l, nil
 }
 
 func (lm *leaseManager) Delete(ctx context.Context, lease leases.Lease,
 	_ ...leases.DeleteOpt) error {
-	ns, _, err := requested(ctx)
-	if err != nil {
-		return err
-	}
-	line := metad.Line{"op": "lease.remove", "ns": ns}.With("id", lease.ID)
-	if _, err := lm.s.client.Call(ctx, line); err != nil {
-		return err
-	}
-	lm.s.changed(true)
-	return nil
+	return lm.s.delete(ctx, metad.Line{"op": "lease.remove"}.With("id", lease.ID))
 }
 
-// List leaves out, and tells, a lease whose data can't be read.
 func (lm *leaseManager) List(ctx context.Context, fs ...string) ([]leases.Lease, error) {
-	ns, _, err := requested(ctx)
-	if err != nil {
-		return nil, err
-	}
-	filter, err := filters.ParseAll(fs...)
-	if err != nil {
-		return nil, fmt.Errorf("%s: %w", err, errdefs.ErrInvalidArgument)
-	}
-	var all []leases.Lease
-	err = lm.s.rows(ctx, metad.Line{"op": "lease.list", "ns": ns}, func(row metad.Row) error {
-		l, err := leaseOf(row)
-		if err != nil {
-			log.G(ctx).WithError(err).Error("a row can't be read")
-		} else if filter.Match(adaptLease(l)) {
-			all = append(all, l)
-		}
-		return nil
-	})
-	return all, err
+	return leaseKind.list(ctx, lm.s, metad.Line{"op": "lease.list"}, fs)
 }
 
 func (lm *leaseManager) AddResource(ctx context.Context, lease leases.Lease,
 	r leases.Resource) error {
-	ns, _, err := requested(ctx)
-	if err != nil {
-		return err
-	}
 	if err := checkType(r.Type); err != nil {
 		return err
 	}
-	if _, err := lm.s.client.Call(ctx, resourceLine("lease.hold", ns, lease.ID, r.Type,
-		r.ID)); err != nil {
+	if _, err := lm.s.ask(ctx, resourceLine("lease.hold", lease.ID, r)); err != nil {
 		return err
 	}
 	lm.s.changed(false)
@@ -128,7 +87,7 @@ func (lm *leaseManager) DeleteResource(ctx context.Context, lease leases.Lease,
 	}
 	replies, err := lm.s.client.Do(ctx,
 		metad.Line{"op": "lease.get", "ns": ns}.With("id", lease.ID),
-		resourceLine("lease.drop", ns, lease.ID, r.Type, r.ID))
+		resourceLine("lease.drop", lease.ID, r).With("ns", ns))
 	if err != nil {
 		return err
 	}
@@ -144,11 +103,7 @@ func (lm *leaseManager) DeleteResource(ctx context.Context, lease leases.Lease,
 
 func (lm *leaseManager) ListResources(ctx context.Context, lease leases.Lease) ([]leases.Resource,
 	error) {
-	ns, _, err := requested(ctx)
-	if err != nil {
-		return nil, err
-	}
-	r, err := lm.s.client.Call(ctx, metad.Line{"op": "lease.resources", "ns": ns}.With("id", lease.ID))
+	r, err := lm.s.ask(ctx, metad.Line{"op": "lease.resources"}.With("id", lease.ID))
 	if err != nil {
 		return nil, err
 	}
@@ -169,15 +124,15 @@ func checkType(typ string) error {
 	return fmt.Errorf("resource type %q: %w", typ, errdefs.ErrNotImplemented)
 }
 
-func resourceLine(op, ns, id, typ, resource string) metad.Line {
-	return metad.Line{"op": op, "ns": ns, "type": typ}.With("id", id).With("resource", resource)
+func resourceLine(op, lease string, r leases.Resource) metad.Line {
+	return metad.Line{"op": op, "type": r.Type}.With("id", lease).With("resource", r.ID)
 }
 
 // hold gives a resource to the lease of a request, if it has one.
-func (s *Store) hold(ctx context.Context, ns, lease, typ, resource string) error {
+func (s *Store) hold(ctx context.Context, ns, lease string, r leases.Resource) error {
 	if lease == "" {
 		return nil
 	}
-	_, err := s.client.Call(ctx, resourceLine("lease.hold", ns, lease, typ, resource))
+	_, err := s.client.Call(ctx, resourceLine("lease.hold", lease, r).With("ns", ns))
 	return err
 }

@@ -71,7 +71,7 @@ func (n *namespaceStore) Create(ctx context.Context, namespace string, ls map[st
 }
 
 func (n *namespaceStore) Labels(ctx context.Context, namespace string) (map[string]string, error) {
-	r, err := n.s.client.Call(ctx, getContainer(ownNamespace, namespace))
+	r, err := n.s.client.Call(ctx, getContainer(namespace).With("ns", ownNamespace))
 	if r.Fault == metad.NotFound {
 		return map[string]string{}, nil
 	}

@@ -133,8 +133,8 @@ func TestStartMovesIngestWithoutRowToLost(t *testing.T) {
 		cw.Write([]byte(ref))
 		w.must(cw.Close())
 	}
-	kept := w.row(true, getIngest("one", "kept")).Number
-	aborted := w.row(true, getIngest("one", "aborted")).Number
+	kept := w.row(true, getIngest("kept").With("ns", "one")).Number
+	aborted := w.row(true, getIngest("aborted").With("ns", "one")).Number
 	w.do(metad.Line{"op": "ingest.abort", "ns": "one", "ref": "aborted"})
 	half := filepath.Join("ingest", strings.Repeat("0", 64))
 	w.must(os.Mkdir(w.path("content", half), 0700))
@@ -155,7 +155,7 @@ func TestStartLeavesWhatTheNextCollectionRemoves(t *testing.T) {
 	cw, err := content.OpenWriter(w.lease("holder"), w.s.ContentStore(), content.WithRef("aborted"))
 	w.must(err)
 	w.must(cw.Close())
-	aborted := ingestPath(ingestFolder(w.row(true, getIngest("one", "aborted")).Number))
+	aborted := ingestPath(ingestFolder(w.row(true, getIngest("aborted").With("ns", "one")).Number))
 	dgst, number := w.write("text"), w.snapshot("base", "")
 	w.do(metad.Line{"op": "ingest.abort", "ns": "one", "ref": "aborted"},
 		metad.Line{"op": "content.remove", "ns": "one", "digest": dgst},

@@ -6,7 +6,7 @@ import (
 	"strconv"
 
 	"github.com/containerd/containerd/errdefs"
-	"github.com/containerd/containerd/filters"
+	"github.com/containerd/containerd/leases"
 	"github.com/containerd/containerd/log"
 	"github.com/containerd/containerd/mount"
 	"github.com/containerd/containerd/snapshots"
@@ -44,15 +44,17 @@ var snapshotKinds = map[string]snapshots.Kind{
 	"committed": snapshots.KindCommitted,
 }
 
-func (sn *snapshotter) line(op, ns string) metad.Line {
-	return metad.Line{"op": op, "ns": ns, "snapshotter": sn.name}
+func (sn *snapshotter) line(op string) metad.Line {
+	return metad.Line{"op": op, "snapshotter": sn.name}
 }
 
-func (sn *snapshotter) get(ns, key string) metad.Line {
-	return sn.line("snap.get", ns).With("key", key)
+func (sn *snapshotter) get(key string) metad.Line { return sn.line("snap.get").With("key", key) }
+
+func (sn *snapshotter) resource(key string) leases.Resource {
+	return leases.Resource{Type: "snapshots/" + sn.name, ID: key}
 }
 
-func (sn *snapshotter) resource() string { return "snapshots/" + sn.name }
+var snapshotKind = kind[snapshots.Info]{snapshotInfo, AdaptSnapshot}
 
 func snapshotInfo(row metad.Row) (snapshots.Info, error) {
 	data, err := decodeData(row.Data)
@@ -79,51 +81,30 @@ func inherited(ls map[string]string) snapshots.Opt {
 }
 
 func (sn *snapshotter) row(ctx context.Context, key string) (metad.Row, error) {
-	ns, _, err := requested(ctx)
-	if err != nil {
-		return metad.Row{}, err
-	}
-	r, err := sn.s.client.Call(ctx, sn.get(ns, key))
+	r, err := sn.s.ask(ctx, sn.get(key))
 	return r.Row, err
 }
 
 func (sn *snapshotter) Stat(ctx context.Context, key string) (snapshots.Info, error) {
-	row, err := sn.row(ctx, key)
-	if err != nil {
-		return snapshots.Info{}, err
-	}
-	return snapshotInfo(row)
+	return snapshotKind.get(ctx, sn.s, sn.get(key))
 }
 
 func (sn *snapshotter) Update(ctx context.Context, info snapshots.Info,
 	paths ...string) (snapshots.Info, error) {
-	ns, _, err := requested(ctx)
-	if err != nil {
-		return snapshots.Info{}, err
-	}
 	if len(paths) == 0 {
 		paths = []string{"labels"}
 	}
-	line := sn.line("snap.set", ns).With("key", info.Name).AskingForRow()
-	others, err := sn.s.relabel(line, info.Labels, paths)
+	row, err := sn.s.update(ctx, sn.line("snap.set").With("key", info.Name), info.Labels, paths,
+		onlyLabels("snapshot", info.Name))
 	if err != nil {
 		return snapshots.Info{}, err
 	}
-	if len(others) > 0 {
-		return snapshots.Info{}, fmt.Errorf("cannot update %q of snapshot %q: %w", others[0], info.Name,
-			errdefs.ErrInvalidArgument)
-	}
-	r, err := sn.s.client.Call(ctx, line)
-	if err != nil {
-		return snapshots.Info{}, err
-	}
-	sn.s.changed(false)
-	updated, err := snapshotInfo(r.Row)
+	updated, err := snapshotInfo(row)
 	if err != nil {
 		return snapshots.Info{}, err
 	}
 	_, err = sn.Snapshotter.Update(ctx, snapshots.Info{
-		Name:   backendKey(r.Row.Number, r.Row.Kind),
+		Name:   backendKey(row.Number, row.Kind),
 		Labels: snapshots.FilterInheritedLabels(updated.Labels),
 	}, "labels")
 	return updated, err
@@ -187,7 +168,7 @@ func (sn *snapshotter) create(ctx context.Context, op string, makeBackend backen
 		WithLease(lease)}
 	target := base.Labels[labelSnapshotRef]
 	if target != "" {
-		lines = append(lines, sn.get(ns, target))
+		lines = append(lines, sn.get(target).With("ns", ns))
 	}
 	replies, err := sn.s.add(ctx, ns, lines...)
 	if err != nil {
@@ -201,7 +182,7 @@ func (sn *snapshotter) create(ctx context.Context, op string, makeBackend backen
 				sn.undo(ctx, ns, lease, key)
 			}
 			if err == nil {
-				err = sn.s.hold(ctx, ns, lease, sn.resource(), target)
+				err = sn.s.hold(ctx, ns, lease, sn.resource(target))
 			}
 			if err == nil {
 				err = fmt.Errorf("target snapshot %q: %w", target, errdefs.ErrAlreadyExists)
@@ -236,7 +217,7 @@ func (sn *snapshotter) createBackend(ctx context.Context, ns string, row metad.R
 	}
 	var mounts []mount.Mount
 	err := sn.finishing(ctx, func() (metad.Row, error) {
-		r, err := sn.s.client.Call(ctx, sn.get(ns, row.Parent))
+		r, err := sn.s.client.Call(ctx, sn.get(row.Parent).With("ns", ns))
 		return r.Row, err
 	}, func() (err error) {
 		mounts, err = makeBackend(ctx, backendKey(row.Number, "active"), parent, inherited(base.Labels))
@@ -255,7 +236,8 @@ func (sn *snapshotter) undo(ctx context.Context, ns, lease, key string) {
 
 // removeRow removes a row, which its lease then doesn't hold any more.
 func (sn *snapshotter) removeRow(ctx context.Context, ns, lease, key string) error {
-	_, err := sn.s.client.Call(ctx, sn.line("snap.remove", ns).With("key", key).With("drop", lease))
+	_, err := sn.s.client.Call(ctx, sn.line("snap.remove").With("ns", ns).With("key", key).
+		With("drop", lease))
 	return err
 }
 
@@ -337,26 +319,9 @@ func (sn *snapshotter) Remove(ctx context.Context, key string) error {
 	return nil
 }
 
-// Walk leaves out, and tells, a snapshot whose data can't be read.
 func (sn *snapshotter) Walk(ctx context.Context, fn snapshots.WalkFunc, fs ...string) error {
-	ns, _, err := requested(ctx)
-	if err != nil {
-		return err
-	}
-	filter, err := filters.ParseAll(fs...)
-	if err != nil {
-		return err
-	}
-	return sn.s.rows(ctx, sn.line("snap.list", ns), func(row metad.Row) error {
-		info, err := snapshotInfo(row)
-		if err != nil {
-			log.G(ctx).WithError(err).Error("a row can't be read")
-			return nil
-		}
-		if filter.Match(AdaptSnapshot(info)) {
-			return fn(ctx, info)
-		}
-		return nil
+	return snapshotKind.walk(ctx, sn.s, sn.line("snap.list"), fs, func(info snapshots.Info) error {
+		return fn(ctx, info)
 	})
 }
 
@@ -373,8 +338,7 @@ func (sn *snapshotter) newSnapshot(op string, opts []snapshots.Opt) (snapshots.I
 		return base, nil, err
 	}
 	data, err := rowData{Created: sn.s.moment().UTC()}.encode()
-	line := metad.Line{"op": op, "snapshotter": sn.name}.WithLabels(base.Labels).WithData(data).
-		AskingForRow()
+	line := sn.line(op).WithLabels(base.Labels).WithData(data).AskingForRow()
 	return base, line, err
 }
 

@@ -227,7 +227,7 @@ func (w *world) snapshotRow(there bool, key string) metad.Row {
 
 func (w *world) contentRow(there bool, dgst digest.Digest) {
 	w.t.Helper()
-	w.row(there, getContent("one", dgst))
+	w.row(there, getContent(dgst).With("ns", "one"))
 }
 
 // failingContent is a content store whose removals may fail or wait.
