@@ -12,11 +12,14 @@ import (
 	"net"
 	"os"
 	"os/exec"
+	"strconv"
 	"sync"
 	"sync/atomic"
 	"syscall"
 
 	"github.com/containerd/containerd/errdefs"
+
+	"metad/internal/knows"
 )
 
 // Client sends lines to one process or socket.
@@ -25,6 +28,8 @@ type Client struct {
 	// wait returns how the other side ended. It is called once, behind its last reply.
 	wait func() error
 	done chan struct{}
+
+	numbered bool // each reply begins with its line's number and a space
 
 	// sendL gives the lines the order of their calls.
 	sendL sync.Mutex
@@ -44,9 +49,22 @@ type call struct {
 	done    chan struct{}
 }
 
+// StartService starts a metad program that keeps a store. The command is the program and its word
+// serve. If serve has the word --numbered it is given too, and each reply begins with its line's
+// number: a reply to another line than the one that waits ends the client.
+func StartService(ctx context.Context, command []string, words ...string) (*Client, error) {
+	numbered := knows.Word(ctx, command, "--numbered")
+	if numbered {
+		words = append(words[:len(words):len(words)], "--numbered")
+	}
+	return start(numbered, command[0], append(command[1:len(command):len(command)], words...))
+}
+
 // Start runs a program that answers each line of its input by a line. Signals of the terminal don't
 // reach it: its input ends when this process does.
-func Start(program string, args ...string) (*Client, error) {
+func Start(program string, args ...string) (*Client, error) { return start(false, program, args) }
+
+func start(numbered bool, program string, args []string) (*Client, error) {
 	cmd := exec.Command(program, args...)
 	cmd.Stderr = os.Stderr
 	cmd.SysProcAttr = &syscall.SysProcAttr{Setpgid: true}
@@ -62,10 +80,12 @@ func Start(program string, args ...string) (*Client, error) {
 		return nil, err
 	}
 	widen(out)
-	return newClient(in, out, in.Close, func() error {
+	c := &Client{in: in, closeInput: in.Close, numbered: numbered, wait: func() error {
 		cmd.Wait()
 		return errors.New(cmd.ProcessState.String())
-	}), nil
+	}}
+	c.begin(out)
+	return c, nil
 }
 
 // widest is the size of the pipe of replies: a listing needs few turns of both sides.
@@ -89,16 +109,18 @@ func Dial(path string) (*Client, error) {
 	if err != nil {
 		return nil, err
 	}
-	return newClient(conn, conn, conn.(*net.UnixConn).CloseWrite, func() error {
+	c := &Client{in: conn, closeInput: conn.(*net.UnixConn).CloseWrite, wait: func() error {
 		conn.Close()
 		return errors.New("the connection is closed")
-	}), nil
+	}}
+	c.begin(conn)
+	return c, nil
 }
 
-func newClient(in io.Writer, out io.Reader, closeInput, wait func() error) *Client {
-	c := &Client{in: in, closeInput: closeInput, wait: wait, done: make(chan struct{})}
+// begin has the client read what the other side writes.
+func (c *Client) begin(out io.Reader) {
+	c.done = make(chan struct{})
 	go c.read(bufio.NewReaderSize(out, 1<<16))
-	return c
 }
 
 // Done is closed when the other side has ended.
@@ -117,14 +139,14 @@ func (c *Client) Trips() (trips, lines uint64) {
 }
 
 func (c *Client) read(out *bufio.Reader) {
-	for {
+	for number := uint64(1); ; number++ {
 		line, err := out.ReadBytes('\n')
 		if err != nil {
 			break
 		}
-		if !c.deliver(line) {
+		if err := c.take(line, number); err != nil {
 			// No caller may get another's reply, so nothing is read any more.
-			c.fail(errors.New("metad sent a reply that no line asked for"))
+			c.fail(err)
 			c.closeInput()
 			io.Copy(io.Discard, out)
 			break
@@ -132,6 +154,22 @@ func (c *Client) read(out *bufio.Reader) {
 	}
 	c.fail(fmt.Errorf("metad has ended: %v", c.wait()))
 	close(c.done)
+}
+
+// take takes the reply to the line of this number.
+func (c *Client) take(reply []byte, number uint64) error {
+	if c.numbered {
+		own := strconv.AppendUint(nil, number, 10)
+		own = append(own, ' ')
+		if !bytes.HasPrefix(reply, own) {
+			return fmt.Errorf("metad sent %.30q where the reply to line %d was due", reply, number)
+		}
+		reply = reply[len(own):]
+	}
+	if !c.deliver(reply) {
+		return errors.New("metad sent a reply that no line asked for")
+	}
+	return nil
 }
 
 // deliver hands a reply to the first call that misses one. It returns false if there is none.

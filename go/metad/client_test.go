@@ -8,6 +8,7 @@ import (
 	"errors"
 	"fmt"
 	"net"
+	"os"
 	"path/filepath"
 	"strings"
 	"sync"
@@ -204,4 +205,62 @@ func TestQuestionsAloneAreSentOn(t *testing.T) {
 		t.Errorf("sent on:\n%s", strings.Join(sent, "\n"))
 	}
 	mu.Unlock()
+}
+
+// program writes a script that numbers its replies, or tells its words, and returns its path.
+func program(t *testing.T, usage, answers string) string {
+	t.Helper()
+	path := filepath.Join(t.TempDir(), "program")
+	text := "#!/bin/sh\n[ $# -gt 1 ] || { echo 'usage: program serve " + usage + "' >&2; exit 2; }\n" +
+		"case \"$*\" in *--numbered) is=yes ;; *) is= ;; esac\nn=0\n" +
+		"while read -r line; do n=$((n + 1))\n" + answers + "\ndone\n"
+	if err := os.WriteFile(path, []byte(text), 0o700); err != nil {
+		t.Fatal(err)
+	}
+	return path
+}
+
+const answersEach = `printf '%s{"names":["%s"],"ok":true}\n' "${is:+$n }" "$n"`
+
+func TestNumbersOfRepliesAreTakenOff(t *testing.T) {
+	for usage, name := range map[string]string{"--dir DIR [--numbered]": "numbered", "--dir DIR": "plain"} {
+		path := program(t, usage, answersEach)
+		c, err := StartService(background, []string{path, "serve"}, "--dir", "d")
+		if err != nil {
+			t.Fatal(err)
+		}
+		if c.numbered != (name == "numbered") {
+			t.Errorf("%s: numbered is %v", name, c.numbered)
+		}
+		for i := 1; i <= 3; i++ {
+			r, err := c.Call(background, Line{"op": "x"})
+			if err != nil || r.Names[0] != fmt.Sprint(i) {
+				t.Errorf("%s: %v, %v, want the reply to line %d", name, err, r.Names, i)
+			}
+		}
+		c.Close()
+	}
+}
+
+// A reply of another line, whatever its text, ends the client: no caller gets it.
+func TestAReplyToAnotherLineEndsTheClient(t *testing.T) {
+	for _, answer := range []string{`echo "3 {\"ok\":true}"`, `echo "{\"ok\":true}"`,
+		`echo "1 {\"ok\":true}"; echo "1 {\"ok\":true}"`, `echo "01 {\"ok\":true}"`, `echo "1{\"ok\":true}"`,
+		`echo " {\"ok\":true}"`, `echo`, `echo "0 {\"ok\":true}"`} {
+		c, err := StartService(background, []string{program(t, "--numbered", answer), "serve"}, "--dir", "d")
+		if err != nil {
+			t.Fatal(err)
+		}
+		replies, err := c.Do(background, Line{"op": "x"}, Line{"op": "x"})
+		if !errdefs.IsUnavailable(err) {
+			t.Errorf("%s: %v, %v, want unavailable", answer, err, replies)
+		}
+		if err == nil || !strings.Contains(err.Error(), "was due") {
+			t.Errorf("%s: %v, want the line that was due", answer, err)
+		}
+		c.Close()
+		if _, err := c.Call(background, Line{"op": "x"}); !errdefs.IsUnavailable(err) {
+			t.Errorf("%s: %v, want unavailable", answer, err)
+		}
+	}
 }

@@ -91,9 +91,7 @@ func (c Config) start(ctx context.Context, root string, files store.Folders) (*m
 	} else if err := c.makeStore(ctx, folder); err != nil {
 		return nil, err
 	}
-	words := append(append([]string{}, c.Command[1:]...), "--dir", folder, "--workers",
-		strconv.Itoa(c.Workers))
-	return metad.Start(c.Command[0], words...)
+	return metad.StartService(ctx, c.Command, "--dir", folder, "--workers", strconv.Itoa(c.Workers))
 }
 
 // These are how a metad program ends to words that it doesn't know, and if it can't make a store

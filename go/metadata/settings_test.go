@@ -10,7 +10,8 @@ import (
 	"metad/store"
 )
 
-// world is a root, with a program that notes its words in a file "calls" and then runs a script.
+// world is a root, with a program that notes its words in a file "calls", tells those of serve where
+// it is given none, and else runs a script.
 type world struct {
 	t    *testing.T
 	root string
@@ -20,7 +21,8 @@ type world struct {
 func newWorld(t *testing.T, script string) *world {
 	w := &world{t: t, root: t.TempDir()}
 	program := filepath.Join(w.root, "program")
-	text := "#!/bin/sh\necho \"$*\" >> '" + filepath.Join(w.root, "calls") + "'\n" + script
+	text := "#!/bin/sh\necho \"$*\" >> '" + filepath.Join(w.root, "calls") + "'\n" +
+		"[ $# -gt 1 ] || { echo \"usage: program serve $KNOWS | new\"; exit 2; }\n" + script
 	if err := os.WriteFile(program, []byte(text), 0700); err != nil {
 		t.Fatal(err)
 	}
@@ -61,24 +63,28 @@ func wants(t *testing.T, calls []string, err error, want ...string) {
 	}
 }
 
-const serves = "serve --dir FOLDER --workers 3"
+// asks and serves are the words of a program that is asked for its words, and then serves.
+const (
+	asks   = "serve"
+	serves = "serve --dir FOLDER --workers 3"
+)
 
 func TestFirstStartMakesTheStore(t *testing.T) {
 	w := newWorld(t, "exit 0")
 	calls, err := w.start()
-	wants(t, calls, err, "serve --new --dir FOLDER", serves)
+	wants(t, calls, err, "serve --new --dir FOLDER", asks, serves)
 }
 
 func TestFirstStartOfAProgramWithAnotherWord(t *testing.T) {
 	w := newWorld(t, `[ "$2" != --new ] || exit 2`)
 	calls, err := w.start()
-	wants(t, calls, err, "serve --new --dir FOLDER", "new --dir FOLDER", serves)
+	wants(t, calls, err, "serve --new --dir FOLDER", "new --dir FOLDER", asks, serves)
 }
 
 func TestFirstStartOfAProgramWithoutAWord(t *testing.T) {
 	w := newWorld(t, `case "$1$2" in new*|*--new) exit 2 ;; esac`)
 	calls, err := w.start()
-	wants(t, calls, err, "serve --new --dir FOLDER", "new --dir FOLDER", serves)
+	wants(t, calls, err, "serve --new --dir FOLDER", "new --dir FOLDER", asks, serves)
 }
 
 // A first start that was cut left a store, and nothing in the folder of content.
@@ -86,7 +92,7 @@ func TestStartBehindACutFirstStart(t *testing.T) {
 	w := newWorld(t, `[ "$2" != --new ] || exit 3`)
 	w.write("metad", "metad.journal")
 	calls, err := w.start()
-	wants(t, calls, err, "serve --new --dir FOLDER", serves)
+	wants(t, calls, err, "serve --new --dir FOLDER", asks, serves)
 }
 
 func TestLaterStartMakesNoStore(t *testing.T) {
@@ -94,7 +100,16 @@ func TestLaterStartMakesNoStore(t *testing.T) {
 	w.write("content", "metad.id")
 	w.write("metad", "metad.journal-wal")
 	calls, err := w.start()
-	wants(t, calls, err, serves)
+	wants(t, calls, err, asks, serves)
+}
+
+func TestRepliesAreNumberedWhereTheProgramCan(t *testing.T) {
+	t.Setenv("KNOWS", "--dir DIR [--numbered]")
+	w := newWorld(t, "exit 0")
+	w.write("content", "metad.id")
+	w.write("metad", "metad.journal")
+	calls, err := w.start()
+	wants(t, calls, err, asks, serves+" --numbered")
 }
 
 func TestStoreThatIsGoneIsNotMadeAgain(t *testing.T) {

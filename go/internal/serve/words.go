@@ -8,21 +8,17 @@ import (
 	"io"
 	"math"
 	"os"
-	"os/exec"
 	"os/signal"
 	"runtime"
 	"strconv"
-	"strings"
 	"syscall"
 	"time"
+
+	"metad/internal/knows"
 )
 
-const (
-	// spare is how many files are open beside the clients': pipes, listeners, the poller.
-	spare = 32
-	// askMost is how long the program may take to tell its words.
-	askMost = 10 * time.Second
-)
+// spare is how many files are open beside the clients': pipes, listeners, the poller.
+const spare = 32
 
 const usage = "usage: metad-serve [--socket PATH [--group GROUP]] [--idle SECONDS] " +
 	"[--metrics ADDRESS]\n" +
@@ -201,36 +197,17 @@ func (it asked) options() (Options, error) {
 		options.Command = append(options.Command, "--new")
 	}
 	if it.clock != "" {
-		if !knows(program, "--clock") {
+		if !knows.Word(context.Background(), options.Command[:2], "--clock") {
 			return options, refused("--clock: %s serve doesn't know this word", program)
 		}
 		options.Command = append(options.Command, "--clock", it.clock)
 		options.Clock = time.Now
 	}
-	if options.Numbered = knows(program, "--numbered"); options.Numbered {
+	options.Numbered = knows.Word(context.Background(), options.Command[:2], "--numbered")
+	if options.Numbered {
 		options.Command = append(options.Command, "--numbered")
 	}
 	return options, nil
-}
-
-// knows tells whether the program's serve has a word: it tells its words where it is given none.
-func knows(program, word string) bool {
-	until, stop := context.WithTimeout(context.Background(), askMost)
-	defer stop()
-	told, _ := exec.CommandContext(until, program, "serve").CombinedOutput()
-	for _, line := range strings.Split(string(told), "\n") {
-		at := strings.Index(line, "serve ")
-		if at < 0 {
-			continue
-		}
-		ofServe, _, _ := strings.Cut(line[at:], " | ")
-		for _, found := range strings.Fields(ofServe) {
-			if strings.Trim(found, "[]") == word {
-				return true
-			}
-		}
-	}
-	return false
 }
 
 // listeners are the sockets of the words, or systemd's.
