@@ -29,7 +29,9 @@ def program(named: Optional[str]) -> str:
     command = os.path.join(here, "metad")
     if os.path.exists(command) and subprocess.call([command, "built"]) == 0:
         return found
-    raise Missing("metad isn't built: run ./metad build, or name a program by --metad PROGRAM")
+    raise Missing(
+        "metad isn't built: run ./metad build, use a pack, or name a program by --metad PROGRAM"
+    )
 
 
 class Metad:
