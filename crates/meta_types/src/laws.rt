@@ -85,8 +85,8 @@ pub fn ends_are_read()
     ensures { EndsAreRead }
 {}
 
-/// An image keeps its content and what that references, also in a cycle, which nothing else keeps.
-/// Only a label whose key is one of references references.
+/// An image keeps its content and what that references, also in a cycle; a cycle that nothing leads
+/// to is removed. Only a label whose key is one of references references.
 pub fn images_keep_content()
     ensures an_image_keeps_its_content { AnImageKeepsItsContent }
     ensures a_cycle_goes { ACycleGoes }
@@ -95,7 +95,8 @@ pub fn images_keep_content()
 {}
 
 /// A lease keeps what it holds up to its expiry, the moment included, and is removed after it. A
-/// flat lease follows no labels.
+/// flat lease follows no labels. Content that an image and a flat lease hold is scanned in both
+/// modes.
 pub fn leases_hold_until_their_expiry()
     ensures both_modes_are_scanned { BothModesAreScanned }
     ensures a_flat_lease_follows_no_labels { AFlatLeaseFollowsNoLabels }
