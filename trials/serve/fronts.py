@@ -110,6 +110,14 @@ def connect(path):
     return client
 
 
+def reach(path):
+    """A connection to a socket that is being made: its file is there a moment before it listens."""
+    client = socket.socket(socket.AF_UNIX)
+    client.settimeout(WAIT)
+    until(lambda: client.connect_ex(path) == 0)
+    return client
+
+
 def lines_of(client, count):
     """So many replies; fewer where the connection ends."""
     text = b""

@@ -11,7 +11,7 @@ import tempfile
 import time
 import urllib.request
 
-from fronts import HERE, KILL, STAND_IN, TERM, TOOL, Front, Told, all_of, ask, lines_of, until
+from fronts import HERE, KILL, STAND_IN, TERM, TOOL, Front, Told, all_of, ask, lines_of, reach, until
 
 wants = Told.wants
 PROGRAM = os.path.join(HERE, "program")
@@ -61,10 +61,7 @@ def metrics(program=None):
     words = [TOOL, "--socket", path, "--metrics", address, "--program", program, "--dir", store,
              "--new"]
     with subprocess.Popen(words, stderr=subprocess.DEVNULL) as run:
-        until(lambda: os.path.exists(path))
-        with socket.socket(socket.AF_UNIX) as client:
-            client.connect(path)
-            client.settimeout(60)
+        with reach(path) as client:
             for line in (b'{"op":"ns.add","ns":"x"}', b'{"op":"ns.add","ns":"x"}', b"no request",
                          b'{"op":"image.get","ns":"x","name":"y"}',
                          b'{"op":"gc.run","at":"2024-03-01T00:00:00Z"}',
@@ -107,8 +104,7 @@ def early():
     late = ["/bin/sh", "-c", 'sleep 1; exec "$@"', "sh", *STAND_IN]
     for signals in ([], [TERM]):
         front = Front(late)
-        until(lambda: os.path.exists(front.path))
-        with front.connect() as client:
+        with reach(front.path) as client:
             client.sendall(b"=early\n")
             time.sleep(0.2)
             for number in signals:
@@ -126,6 +122,7 @@ def early():
 
 def hung_up():
     """SIGHUP is a clean end; a terminal's signals reach the front alone."""
+    signal.signal(signal.SIGHUP, signal.SIG_DFL)  # where nohup runs this trial fronts would ignore it
     with Front() as front:
         client = front.connect()
         client.sendall(b"sleep=1\n=line\n")
@@ -169,8 +166,7 @@ def killed():
     with Front(STAND_IN + ["--lock", lock]) as front:
         wants("a folder that stays in use ends it with 4", front.ends() == 4)
     front = Front(STAND_IN + ["--lock", lock])
-    until(lambda: os.path.exists(front.path))
-    with front.connect() as client:
+    with reach(front.path) as client:
         client.sendall(b"=waits\n")
         time.sleep(1)
         held.stdin.close()
@@ -207,9 +203,7 @@ def words():
                  "--program", PROGRAM, *clock]
         with subprocess.Popen(given, env=env, stderr=subprocess.PIPE) as run:
             wants("it is served", b"is served" in run.stderr.readline())
-            with socket.socket(socket.AF_UNIX) as client:
-                client.connect(path)
-                client.settimeout(60)
+            with reach(path) as client:
                 wants("a reply is as it is", ask(client, b"=x") == b"=x\n")
                 ask(client, b'{"op":"gc.run"}')
             run.send_signal(TERM)
@@ -234,6 +228,37 @@ def words():
           b"doesn't know this word" in done.stderr and not os.path.exists(path), done)
 
 
+def moment(program=None):
+    """With --moment a line that wants a moment gets the front's, whatever answers; another stays."""
+    stays = (b'{"op":"gc.run","at":"2024-03-01T00:00:00Z"}', b'{"op":"gc.run","at":""}', b'{"op":"gc.run"',
+             b'{"op":"image.remove","ns":"x","name":"y"}', b'{"op":"image.list","ns":"x"}', b"?")
+    wants_one = (b'{"op":"gc.run"}', b'{"ns":"x","op":"ingest.open","ref":"r"}')
+    with Front(["/bin/cat"], words=["--moment"]) as front, front.connect() as client:
+        for line in wants_one:
+            got = ask(client, line)
+            found = re.fullmatch(re.escape(line[:-1]) +
+                                 rb',"at":"(\d{4}-\d\d-\d\dT[0-9:]{8})(\.\d+)?Z"}\n', got)
+            if wants("a line gets the front's moment", found, got):
+                when = calendar.timegm(time.strptime(found[1].decode(), "%Y-%m-%dT%H:%M:%S"))
+                wants("which is now", abs(time.time() - when) < 60, got)
+        for line in stays:
+            wants("a line stays as it is", ask(client, line) == line + b"\n", line)
+        wants("it ends with 0", front.ends(TERM) == 0)
+    with Front(["/bin/cat"]) as front, front.connect() as client:
+        for line in wants_one + stays:
+            wants("without the word each line stays as it is", ask(client, line) == line + b"\n", line)
+        wants("it ends with 0", front.ends(TERM) == 0)
+    if not program:
+        return
+    command = [program, "serve", "--new", "--dir", tempfile.mkdtemp(prefix="metad-serve-")]
+    with Front(command, words=["--moment"]) as front, front.connect() as client:
+        got = ask(client, b'{"op":"gc.run"}')
+        wants("a store is collected at the front's moment", b'"ok":true' in got, got)
+        got = ask(client, b'{"op":"gc.run","at":""}')
+        wants("a moment that is none is refused", got.startswith(b'{"fault":1,'), got)
+        wants("it ends with 0", front.ends(TERM) == 0)
+
+
 def closed():
     """A front whose standard error nobody reads goes on."""
     read, write = os.pipe()
@@ -242,20 +267,14 @@ def closed():
     with subprocess.Popen([TOOL, "--socket", path, "--", *STAND_IN], stderr=write) as run:
         os.close(write)
         os.close(read)
-        until(lambda: os.path.exists(path))
-        with socket.socket(socket.AF_UNIX) as client:
-            client.connect(path)
-            client.settimeout(60)
+        with reach(path) as client:
             wants("it serves", ask(client, b"=x") == b"=x\n")
         run.send_signal(TERM)
         wants("it ends with 0", run.wait(60) == 0)
     code = "import os, sys\nfor it in (0, 1, 2): os.close(it)\nos.execv(sys.argv[1], sys.argv[1:])"
     with subprocess.Popen([sys.executable, "-c", code, TOOL, "--socket", path, "--",
                            *STAND_IN]) as run:
-        until(lambda: os.path.exists(path))
-        with socket.socket(socket.AF_UNIX) as client:
-            client.connect(path)
-            client.settimeout(60)
+        with reach(path) as client:
             wants("without any it serves too", ask(client, b"=x") == b"=x\n")
         run.send_signal(TERM)
         wants("it ends with 0 too", run.wait(60) == 0)
@@ -264,5 +283,6 @@ def closed():
 def run(program=None):
     """All of them."""
     metrics(program)
+    moment(program)
     for trial in (ready, early, hung_up, killed, group, words, closed):
         trial()

@@ -22,9 +22,9 @@ const spare = 32
 
 const usage = "usage: metad-serve [--socket PATH [--group GROUP]] [--idle SECONDS] " +
 	"[--metrics ADDRESS]\n" +
-	"                   (--dir DIR [--workers N] [--checkpoint] [--new] [--clock SECONDS] " +
-	"[--program FILE] |\n                    " +
-	"-- COMMAND ..)\n"
+	"                   [--moment] (--dir DIR [--workers N] [--checkpoint] [--new] " +
+	"[--clock SECONDS]\n" +
+	"                   [--program FILE] | [--numbered] -- COMMAND ..)\n"
 
 const help = `
 Each connection sends lines and gets a reply to each, in its order. Without --socket systemd hands
@@ -38,12 +38,12 @@ has more.
   --group GROUP      its members may connect too; without it the owner alone
   --idle SECONDS     a client that sends and takes nothing for so long is cut off
   --metrics ADDRESS  counts in Prometheus' text, at http://ADDRESS/metrics, on loopback alone
+  --moment           a line that wants a member "at" and has none gets the front's moment
   --dir DIR          the folder of the store
   --workers N        so many threads mark and sweep; 1 without
   --checkpoint       the service writes one first
   --new              the service makes a new store
-  --clock SECONDS    the service refuses moments farther from its clock than that; a line that wants
-                     one and has none gets the front's
+  --clock SECONDS    as --moment, and the service refuses moments farther from its clock than that
   --program FILE     the metad that answers; without it the one on the path
   --numbered         COMMAND begins each reply with its line's number and a space
 `
@@ -65,7 +65,7 @@ type asked struct {
 	clock                  string
 	idle                   float64
 	checkpoint, isNew      bool
-	numbered               bool
+	numbered, moment       bool
 	command                []string
 	hasCommand             bool
 }
@@ -147,6 +147,7 @@ func read(words []string) (asked, error) {
 	flags.BoolVar(&it.checkpoint, "checkpoint", false, "")
 	flags.BoolVar(&it.isNew, "new", false, "")
 	flags.BoolVar(&it.numbered, "numbered", false, "")
+	flags.BoolVar(&it.moment, "moment", false, "")
 	if err := flags.Parse(words); err != nil {
 		if errors.Is(err, flag.ErrHelp) {
 			return it, err
@@ -167,6 +168,9 @@ func (it asked) options() (Options, error) {
 	}
 	if !math.IsInf(it.idle, 1) {
 		options.Idle = time.Duration(it.idle * float64(time.Second))
+	}
+	if it.moment || it.clock != "" {
+		options.Clock = time.Now
 	}
 	if it.hasCommand {
 		ofStore := it.dir+it.workers+it.program+it.clock != "" || it.checkpoint || it.isNew
@@ -201,7 +205,6 @@ func (it asked) options() (Options, error) {
 			return options, refused("--clock: %s serve doesn't know this word", program)
 		}
 		options.Command = append(options.Command, "--clock", it.clock)
-		options.Clock = time.Now
 	}
 	options.Numbered = knows.Word(context.Background(), options.Command[:2], "--numbered")
 	if options.Numbered {
