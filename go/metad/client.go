@@ -39,7 +39,7 @@ type Client struct {
 	calls  []*call // those that still miss replies, in the order of their lines
 	err    error   // why no line is taken any more
 
-	trips, lines uint64
+	trips, lines atomic.Uint64
 }
 
 // call has the replies to lines that were sent together.
@@ -135,7 +135,7 @@ func (c *Client) Close() error {
 
 // Trips returns how many groups of lines were sent, and how many lines.
 func (c *Client) Trips() (trips, lines uint64) {
-	return atomic.LoadUint64(&c.trips), atomic.LoadUint64(&c.lines)
+	return c.trips.Load(), c.lines.Load()
 }
 
 func (c *Client) read(out *bufio.Reader) {
@@ -267,8 +267,8 @@ func (c *Client) write(text []byte, call *call) error {
 	c.calls = append(c.calls, call)
 	c.callsL.Unlock()
 
-	atomic.AddUint64(&c.trips, 1)
-	atomic.AddUint64(&c.lines, uint64(call.missing))
+	c.trips.Add(1)
+	c.lines.Add(uint64(call.missing))
 	if _, err := c.in.Write(text); err != nil {
 		return fmt.Errorf("metad takes no lines: %v: %w", err, errdefs.ErrUnavailable)
 	}

@@ -12,6 +12,7 @@ import (
 	"path/filepath"
 	"strings"
 	"sync"
+	"syscall"
 	"testing"
 
 	"github.com/containerd/containerd/errdefs"
@@ -177,7 +178,8 @@ func TestQuestionsAloneAreSentOn(t *testing.T) {
 		t.Fatal(err)
 	}
 	defer l.Close()
-	go c.ServeQuestions(l)
+	served := make(chan error)
+	go func() { served <- c.ServeQuestions(l) }()
 	conn, err := net.Dial("unix", path)
 	if err != nil {
 		t.Fatal(err)
@@ -205,6 +207,47 @@ func TestQuestionsAloneAreSentOn(t *testing.T) {
 		t.Errorf("sent on:\n%s", strings.Join(sent, "\n"))
 	}
 	mu.Unlock()
+	l.Close()
+	if err := <-served; !errors.Is(err, net.ErrClosed) {
+		t.Errorf("it ends by %v", err)
+	}
+	if _, err := replies.ReadString('\n'); err == nil {
+		t.Error("a connection outlives its listener")
+	}
+}
+
+// refusing is a listener of which the first Accept fails, as with too many open files.
+type refusing struct {
+	net.Listener
+	refused bool
+}
+
+func (l *refusing) Accept() (net.Conn, error) {
+	if !l.refused {
+		l.refused = true
+		return nil, syscall.EMFILE
+	}
+	return l.Listener.Accept()
+}
+
+func TestQuestionsGoOnAfterARefusedConnection(t *testing.T) {
+	c := answered(t, named)
+	defer c.Close()
+	path := filepath.Join(t.TempDir(), "questions")
+	l, err := net.Listen("unix", path)
+	if err != nil {
+		t.Fatal(err)
+	}
+	defer l.Close()
+	go c.ServeQuestions(&refusing{Listener: l})
+	asker, err := Dial(path)
+	if err != nil {
+		t.Fatal(err)
+	}
+	defer asker.Close()
+	if r, err := asker.Call(background, Line{"op": "image.get", "name": "a"}); err != nil || r.Names[0] != "a" {
+		t.Errorf("%v, %+v", err, r)
+	}
 }
 
 // program writes a script that numbers its replies, or tells its words, and returns its path.

@@ -10,7 +10,7 @@ import (
 )
 
 // Line is a request by its members: texts, and labels as a map of texts.
-type Line map[string]interface{}
+type Line map[string]any
 
 // With returns the line with one more member, which is left out if it is empty.
 func (l Line) With(member, value string) Line {
@@ -68,5 +68,5 @@ func (l Line) encode(to *bytes.Buffer) error {
 	}
 	e := json.NewEncoder(to)
 	e.SetEscapeHTML(false)
-	return e.Encode(map[string]interface{}(l))
+	return e.Encode(map[string]any(l))
 }

@@ -3,22 +3,50 @@ package metad
 import (
 	"bufio"
 	"encoding/json"
+	"errors"
 	"net"
 	"strings"
+	"sync"
+	"time"
 )
 
 // longestLine is how long a line may be, without its line feed.
 const longestLine = 1 << 16
 
+// acceptAgain is how long no connections are taken after the system refused one.
+const acceptAgain = time.Second
+
 // ServeQuestions answers the lines of l's connections that change nothing, as why an object is
-// kept. Every other line is answered as no request, and never sent on. It returns when l is closed.
+// kept. Every other line is answered as no request, and never sent on. It returns when l is closed,
+// and closes the connections.
 func (c *Client) ServeQuestions(l net.Listener) error {
+	var mu sync.Mutex
+	open := map[net.Conn]bool{}
+	defer func() {
+		mu.Lock()
+		defer mu.Unlock()
+		for conn := range open {
+			conn.Close()
+		}
+	}()
 	for {
 		conn, err := l.Accept()
-		if err != nil {
+		if errors.Is(err, net.ErrClosed) {
 			return err
 		}
-		go c.answer(conn)
+		if err != nil { // too many files may be open now
+			time.Sleep(acceptAgain)
+			continue
+		}
+		mu.Lock()
+		open[conn] = true
+		mu.Unlock()
+		go func() {
+			c.answer(conn)
+			mu.Lock()
+			delete(open, conn)
+			mu.Unlock()
+		}()
 	}
 }
 

@@ -73,7 +73,7 @@ type SnapshotNumber struct {
 
 // UnmarshalJSON reads a pair of snapshotter and number.
 func (s *SnapshotNumber) UnmarshalJSON(b []byte) error {
-	return json.Unmarshal(b, &[]interface{}{&s.Snapshotter, &s.Number})
+	return json.Unmarshal(b, &[]any{&s.Snapshotter, &s.Number})
 }
 
 // Fault is the number of a refusal, 0 if there is none.

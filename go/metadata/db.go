@@ -90,6 +90,8 @@ func (db *DB) open(ctx context.Context) (err error) {
 		return err
 	}
 	if db.questions, err = listen(Settings.socket(db.root)); err != nil {
+		db.Store.Close()
+		db.client.Close()
 		return err
 	}
 	go db.client.ServeQuestions(db.questions)

@@ -46,7 +46,7 @@ func init() {
 		Type:   PluginType,
 		ID:     PluginID,
 		Config: &Settings,
-		InitFn: func(ic *plugin.InitContext) (interface{}, error) {
+		InitFn: func(ic *plugin.InitContext) (any, error) {
 			ic.Meta.Exports = map[string]string{"command": fmt.Sprint(Settings.Command)}
 			return &Settings, nil
 		},

@@ -18,7 +18,7 @@ import (
 // container with these: metad has no place for them. No client sees it.
 const ownNamespace = "containerd-metad"
 
-var ownNamespaceError = fmt.Errorf("namespace %q is the store's own: %w", ownNamespace,
+var errOwnNamespace = fmt.Errorf("namespace %q is the store's own: %w", ownNamespace,
 	errdefs.ErrInvalidArgument)
 
 type namespaceStore struct {
@@ -45,7 +45,7 @@ func checkNamespace(namespace string) error {
 		return err
 	}
 	if namespace == ownNamespace {
-		return ownNamespaceError
+		return errOwnNamespace
 	}
 	return nil
 }
@@ -122,7 +122,7 @@ func (n *namespaceStore) Delete(ctx context.Context, namespace string,
 		}
 	}
 	if namespace == ownNamespace {
-		return ownNamespaceError
+		return errOwnNamespace
 	}
 	if err := n.remove(ctx, namespace); err != nil {
 		return err

@@ -49,7 +49,7 @@ type Store struct {
 	rowLocks rowLocks
 	known    knownNamespaces
 
-	callbacksL sync.Mutex
+	callbacksL sync.RWMutex
 	callbacks  []func(bool)
 }
 
@@ -126,8 +126,8 @@ func (s *Store) RegisterMutationCallback(fn func(bool)) {
 }
 
 func (s *Store) changed(removed bool) {
-	s.callbacksL.Lock()
-	defer s.callbacksL.Unlock()
+	s.callbacksL.RLock()
+	defer s.callbacksL.RUnlock()
 	for _, fn := range s.callbacks {
 		fn(removed)
 	}
@@ -139,7 +139,7 @@ func (s *Store) now() string { return s.moment().UTC().Format(timeForm) }
 func requested(ctx context.Context) (ns, lease string, err error) {
 	ns, err = namespaces.NamespaceRequired(ctx)
 	if err == nil && ns == ownNamespace {
-		err = ownNamespaceError
+		err = errOwnNamespace
 	}
 	lease, _ = leases.FromContext(ctx)
 	return ns, lease, err

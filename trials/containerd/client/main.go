@@ -38,11 +38,19 @@ func run(socket, ref, snapshotter string, n int) error {
 	}
 	defer client.Close()
 
-	events, _ := client.Subscribe(ctx)
-	seen := map[string]int{}
+	subscribed, unsubscribe := context.WithCancel(ctx)
+	defer unsubscribe()
+	events, failed := client.Subscribe(subscribed)
+	seen, counted := map[string]int{}, make(chan struct{})
 	go func() {
-		for e := range events {
-			seen[e.Topic]++
+		defer close(counted)
+		for {
+			select {
+			case e := <-events:
+				seen[e.Topic]++
+			case <-failed: // unsubscribed, or the daemon has ended
+				return
+			}
 		}
 	}()
 	step := time.Now()
@@ -141,7 +149,9 @@ func run(socket, ref, snapshotter string, n int) error {
 		return err
 	}
 	told("the pulled image deleted, collected")
-	time.Sleep(200 * time.Millisecond)
+	time.Sleep(200 * time.Millisecond) // the last events come
+	unsubscribe()
+	<-counted
 	fmt.Println("events", seen)
 	return nil
 }

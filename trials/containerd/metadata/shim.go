@@ -156,7 +156,7 @@ func labelmap(kv ...string) map[string]string {
 
 func checkNodesEqual(t interface {
 	Helper()
-	Fatalf(string, ...interface{})
+	Fatalf(string, ...any)
 }, actual, expected []gc.Node) {
 	t.Helper()
 	seen := map[gc.Node]int{}
