@@ -13,6 +13,7 @@ import (
 	"os"
 	"os/exec"
 	"strconv"
+	"strings"
 	"sync"
 	"sync/atomic"
 	"syscall"
@@ -44,7 +45,7 @@ type Client struct {
 
 // call has the replies to lines that were sent together.
 type call struct {
-	replies [][]byte
+	replies []string
 	missing int
 	done    chan struct{}
 }
@@ -140,7 +141,7 @@ func (c *Client) Trips() (trips, lines uint64) {
 
 func (c *Client) read(out *bufio.Reader) {
 	for number := uint64(1); ; number++ {
-		line, err := out.ReadBytes('\n')
+		line, err := out.ReadString('\n')
 		if err != nil {
 			break
 		}
@@ -157,11 +158,10 @@ func (c *Client) read(out *bufio.Reader) {
 }
 
 // take takes the reply to the line of this number.
-func (c *Client) take(reply []byte, number uint64) error {
+func (c *Client) take(reply string, number uint64) error {
 	if c.numbered {
-		own := strconv.AppendUint(nil, number, 10)
-		own = append(own, ' ')
-		if !bytes.HasPrefix(reply, own) {
+		own := strconv.FormatUint(number, 10) + " "
+		if !strings.HasPrefix(reply, own) {
 			return fmt.Errorf("metad sent %.30q where the reply to line %d was due", reply, number)
 		}
 		reply = reply[len(own):]
@@ -173,7 +173,7 @@ func (c *Client) take(reply []byte, number uint64) error {
 }
 
 // deliver hands a reply to the first call that misses one. It returns false if there is none.
-func (c *Client) deliver(line []byte) bool {
+func (c *Client) deliver(line string) bool {
 	c.callsL.Lock()
 	defer c.callsL.Unlock()
 	if len(c.calls) == 0 {
@@ -222,8 +222,8 @@ func (c *Client) Do(ctx context.Context, lines ...Line) ([]Reply, error) {
 		return nil, err
 	}
 	replies := make([]Reply, len(lines))
-	for i, b := range texts {
-		if err := readReply(b, &replies[i]); err != nil {
+	for i, text := range texts {
+		if err := readReply(text, &replies[i]); err != nil {
 			return nil, fmt.Errorf("reply to %v: %w", lines[i]["op"], err)
 		}
 		replies[i].line = lines[i]
@@ -241,7 +241,7 @@ func (c *Client) Call(ctx context.Context, line Line) (Reply, error) {
 }
 
 // send writes lines, and returns as many replies.
-func (c *Client) send(text []byte, lines int) ([][]byte, error) {
+func (c *Client) send(text []byte, lines int) ([]string, error) {
 	call := &call{missing: lines, done: make(chan struct{})}
 	if err := c.write(text, call); err != nil {
 		return nil, err

@@ -4,6 +4,7 @@ import (
 	"bufio"
 	"encoding/json"
 	"errors"
+	"io"
 	"net"
 	"strings"
 	"sync"
@@ -58,7 +59,7 @@ func (c *Client) answer(conn net.Conn) {
 		if len(lines.Bytes()) == 0 {
 			continue // metad doesn't answer it either
 		}
-		reply := []byte(`{"fault":5,"name":"BadLine"}` + "\n")
+		reply := `{"fault":5,"name":"BadLine"}` + "\n"
 		if isQuestion(lines.Bytes()) {
 			text := append(append([]byte{}, lines.Bytes()...), '\n')
 			replies, err := c.send(text, 1)
@@ -67,7 +68,7 @@ func (c *Client) answer(conn net.Conn) {
 			}
 			reply = replies[0]
 		}
-		if _, err := conn.Write(reply); err != nil {
+		if _, err := io.WriteString(conn, reply); err != nil {
 			return
 		}
 	}

@@ -1,7 +1,6 @@
 package metad
 
 import (
-	"bytes"
 	"encoding/json"
 	"strings"
 
@@ -59,8 +58,8 @@ func scanRow(s *scan.Scanner) (r Row) {
 }
 
 // rowsOf returns about how many rows a listing has. The shortest row has some 50 bytes.
-func rowsOf(line []byte) int {
-	rows, most := bytes.Count(line, []byte("},{"))+1, len(line)/50+1
+func rowsOf(line string) int {
+	rows, most := strings.Count(line, "},{")+1, len(line)/50+1
 	if rows > most {
 		return most
 	}
@@ -68,8 +67,8 @@ func rowsOf(line []byte) int {
 }
 
 // readReply reads a reply line. Rows and names, of which there may be many, are read here.
-func readReply(line []byte, r *Reply) error {
-	s := scan.Of(strings.TrimSuffix(string(line), "\n"))
+func readReply(line string, r *Reply) error {
+	s := scan.Of(strings.TrimSuffix(line, "\n"))
 	var found Reply
 	s.Object(func(name string) {
 		switch name {
@@ -93,7 +92,7 @@ func readReply(line []byte, r *Reply) error {
 		}
 	})
 	if !s.Done() {
-		return json.Unmarshal(line, r)
+		return json.Unmarshal([]byte(line), r)
 	}
 	*r = found
 	return nil

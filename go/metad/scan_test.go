@@ -27,7 +27,7 @@ func TestRepliesAreReadAsJSON(t *testing.T) {
 		`{"backend":{"blobs":["b"],"ingests":[1],"snapshots":[["native",2]]},"ok":true}`,
 	} {
 		var got, want Reply
-		err := readReply([]byte(line+"\n"), &got)
+		err := readReply(line+"\n", &got)
 		if wantErr := json.Unmarshal([]byte(line), &want); err != nil || wantErr != nil {
 			t.Errorf("%s: %v, %v", line, err, wantErr)
 		}
@@ -45,13 +45,13 @@ func TestBrokenRepliesAreRefused(t *testing.T) {
 	line := `{"ok":true,"rows":[{"data":"x","labels":{"a":"1"},"name":"ap\\p","number":1,` +
 		`"snapshot":["o","t"]}],"there":true}`
 	for at := 0; at < len(line); at++ {
-		if readReply([]byte(line[:at]), new(Reply)) == nil {
+		if readReply(line[:at], new(Reply)) == nil {
 			t.Errorf("%s is read", line[:at])
 		}
 		for _, b := range []string{`"`, `\`, "\n", "{", "}", ",", "0"} {
 			broken := line[:at] + b + line[at+1:]
 			var got, want Reply
-			err := readReply([]byte(broken), &got)
+			err := readReply(broken, &got)
 			wantErr := json.Unmarshal([]byte(broken), &want)
 			if (err == nil) != (wantErr == nil) || !reflect.DeepEqual(got, want) && err == nil {
 				t.Errorf("%s: %v, %+v, want %v, %+v", broken, err, got, wantErr, want)
@@ -67,7 +67,7 @@ func BenchmarkRows(b *testing.B) {
 			`\"mediaType\":\"application/vnd.docker.distribution.manifest.v2+json\",\"size\":1}",`+
 			`"labels":{"n":"%d"},"name":"image-%06d","target":"sha256:%064d"}`, i, i, i))
 	}
-	line := []byte(`{"ok":true,"rows":[` + strings.Join(rows, ",") + "]}\n")
+	line := `{"ok":true,"rows":[` + strings.Join(rows, ",") + "]}\n"
 	for i := 0; i < b.N; i++ {
 		var r Reply
 		if err := readReply(line, &r); err != nil || len(r.Rows) != 2000 {

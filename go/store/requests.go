@@ -101,38 +101,65 @@ func (k kind[T]) get(ctx context.Context, s *Store, line metad.Line) (T, error) 
 	return k.valueOf(r.Row)
 }
 
-// walk calls fn for each value of a listing that the filters match. A row whose data can't be read
-// is told and left out: the others are there all the same.
+// walk calls fn for each value of a listing that the filters match.
 func (k kind[T]) walk(ctx context.Context, s *Store, line metad.Line, fs []string,
 	fn func(T) error) error {
-	ns, _, err := requested(ctx)
+	rows, filter, err := s.listing(ctx, line, fs)
 	if err != nil {
 		return err
 	}
-	filter, err := filters.ParseAll(fs...)
-	if err != nil {
-		return err
-	}
-	line["ns"] = ns
-	return s.rows(ctx, line, func(row metad.Row) error {
-		value, err := k.valueOf(row)
-		if err != nil {
-			log.G(ctx).WithError(err).Error("a row can't be read")
-			return nil
-		}
-		if !filter.Match(k.adapt(value)) {
-			return nil
-		}
-		return fn(value)
-	})
+	return k.each(ctx, rows, filter, fn)
 }
 
 // list returns the values that walk walks.
 func (k kind[T]) list(ctx context.Context, s *Store, line metad.Line, fs []string) ([]T, error) {
+	rows, filter, err := s.listing(ctx, line, fs)
+	if err != nil {
+		return nil, err
+	}
 	var all []T
-	err := k.walk(ctx, s, line, fs, func(value T) error {
+	if len(fs) == 0 {
+		all = make([]T, 0, len(rows))
+	}
+	err = k.each(ctx, rows, filter, func(value T) error {
 		all = append(all, value)
 		return nil
 	})
 	return all, err
+}
+
+// each calls fn for each value that the filter matches. A row whose data can't be read is told and
+// left out: the others are there all the same.
+func (k kind[T]) each(ctx context.Context, rows []metad.Row, filter filters.Filter,
+	fn func(T) error) error {
+	for _, row := range rows {
+		value, err := k.valueOf(row)
+		if err != nil {
+			log.G(ctx).WithError(err).Error("a row can't be read")
+			continue
+		}
+		if !filter.Match(k.adapt(value)) {
+			continue
+		}
+		if err := fn(value); err != nil {
+			return err
+		}
+	}
+	return nil
+}
+
+// listing returns the rows of a listing in the namespace of a request, and what the filters match.
+func (s *Store) listing(ctx context.Context, line metad.Line, fs []string) ([]metad.Row,
+	filters.Filter, error) {
+	ns, _, err := requested(ctx)
+	if err != nil {
+		return nil, nil, err
+	}
+	filter, err := filters.ParseAll(fs...)
+	if err != nil {
+		return nil, nil, err
+	}
+	line["ns"] = ns
+	rows, err := s.rowsOf(ctx, line)
+	return rows, filter, err
 }

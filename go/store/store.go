@@ -226,14 +226,23 @@ func (s *Store) list(ctx context.Context, line metad.Line) ([]string, error) {
 	return r.Names, nil
 }
 
-// rows calls fn for each row of a listing, and for none if the namespace isn't there.
-func (s *Store) rows(ctx context.Context, list metad.Line, fn func(row metad.Row) error) error {
+// rowsOf returns the rows of a listing, none if the namespace isn't there.
+func (s *Store) rowsOf(ctx context.Context, list metad.Line) ([]metad.Row, error) {
 	list["answer"] = "rows"
 	r, err := s.client.Call(ctx, list)
 	if err != nil && r.Fault != metad.NotFound {
+		return nil, err
+	}
+	return r.Rows, nil
+}
+
+// rows calls fn for each row of a listing.
+func (s *Store) rows(ctx context.Context, list metad.Line, fn func(row metad.Row) error) error {
+	all, err := s.rowsOf(ctx, list)
+	if err != nil {
 		return err
 	}
-	for _, row := range r.Rows {
+	for _, row := range all {
 		if err := fn(row); err != nil {
 			return err
 		}

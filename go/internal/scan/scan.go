@@ -77,17 +77,20 @@ var escapes = [256]byte{'"': '"', '\\': '\\', '/': '/', 'b': '\b', 'f': '\f', 'n
 func (s *Scanner) unescaped(text string) string {
 	var b strings.Builder
 	b.Grow(len(text))
-	for i := 0; i < len(text); i++ {
-		next := text[i]
-		if next == '\\' {
-			i++
-			if next = escapes[text[i]]; next == 0 {
-				s.failed = true
-			}
+	for {
+		at := strings.IndexByte(text, '\\')
+		if at < 0 {
+			b.WriteString(text)
+			return b.String()
 		}
-		b.WriteByte(next)
+		b.WriteString(text[:at])
+		meant := escapes[text[at+1]]
+		if meant == 0 {
+			s.failed = true
+		}
+		b.WriteByte(meant)
+		text = text[at+2:]
 	}
-	return b.String()
 }
 
 // Number reads a whole number.
