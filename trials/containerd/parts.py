@@ -13,7 +13,7 @@ from daemons import CONTENT, Checks, Daemon, Registry
 HERE = os.path.dirname(os.path.abspath(__file__))
 TOP = os.path.dirname(os.path.dirname(HERE))
 DEBIAN = '/usr/share/gocode'
-PACKAGES = ['metad/internal/scan', 'metad/metad', 'metad/store', 'metad/metadata',
+PACKAGES = ['metad/internal/knows', 'metad/internal/scan', 'metad/metad', 'metad/store', 'metad/metadata',
         'metad/cmd/metad-why']
 
 

@@ -6,7 +6,7 @@ import subprocess
 from fronts import TOP, Told
 
 GO = os.path.join(TOP, "go")
-FOLDERS = ["./cmd/metad-serve", "./internal/serve"]
+FOLDERS = ["./cmd/metad-serve", "./internal/knows", "./internal/serve"]
 wants = Told.wants
 
 
