@@ -12,11 +12,14 @@ from __future__ import annotations
 import os
 from typing import Dict, List, Optional, Set, Tuple
 
-from checksums import TOP, crate_sum, sum_of
+from checksums import TOP, crate_sum, proofs_of, read, rust_tokens, sum_of
+from places import Function, around, own_name
 
 HERE = os.path.dirname(os.path.realpath(__file__))
 # texts of a crate by their files
 Texts = Dict[str, str]
+# functions, each with its file
+Places = Set[Tuple[str, Function]]
 
 
 class Body:
@@ -44,10 +47,26 @@ class Body:
         texts.update(changed)
         return None
 
+    def places(self) -> Optional[Places]:
+        """The functions in which its texts stand, or None if one stands in none that it names."""
+        names = {own_name(it) for it in self.functions}
+        found: Places = set()
+        for path, old, _ in self.changes:
+            functions = around(f"crates/{self.crate}/{path}", old)
+            if not names & {it.name for it in functions}:
+                return None
+            found |= {(path, it) for it in functions}
+        return found
+
     def sum(self) -> str:
         """The checksum of all that its verdict rests on."""
+        places = self.places()
+        parts = [crate_sum(self.crate, places is None), *sorted(self.functions), ""]
+        for path, function in sorted(places or set()):
+            text = read(f"crates/{self.crate}/{path}")[function.begin:function.end + 1]
+            parts += [path, " ".join(rust_tokens(text)), *proofs_of(self.crate, function.name)]
         changes = ["\n".join(part.strip() for part in change) for change in self.changes]
-        return sum_of([crate_sum(self.crate), *sorted(self.functions), "", *changes])
+        return sum_of([*parts, "", *changes])
 
 
 def bodies_of(crate: str, file: str) -> List[Body]:
@@ -99,26 +118,55 @@ class Check:
     def __init__(self) -> None:
         self.bodies: List[Body] = []
         self.texts: Texts = {}
+        self.functions: Set[str] = set()
+        self.places: Optional[Places] = set()
+
+    def has_place(self, body: Body, places: Optional[Places]) -> bool:
+        """Whether the check would tell of each of its functions by which body it is refused."""
+        if not self.bodies:
+            return True
+        if self.places is None or places is None:
+            return False
+        return not (self.functions & body.functions or self.places & places)
+
+    def take(self, body: Body, places: Optional[Places]) -> Optional[str]:
+        """Adds a body, or returns why it can't."""
+        why = body.put_into(self.texts)
+        if not why:
+            self.bodies.append(body)
+            self.functions |= body.functions
+            self.places = None if self.places is None or places is None else self.places | places
+        return why
 
 
-def in_checks(bodies: List[Body], most: Optional[int] = None) -> Tuple[List[Check], List[str]]:
-    """The bodies in as few checks as they come, of at most so many; and why some have no place."""
-    checks: List[Check] = []
-    failures = []
+def next_check(
+    bodies: List[Body], most: Optional[int] = None
+) -> Tuple[Check, List[Body], List[str]]:
+    """A check of as many of these bodies as have a place in it, of at most so many; the others; and
+    why some have a place in none."""
+    check, rest, failures = Check(), [], []
     for body in bodies:
-        why = None if body.functions else "it names no function that is refused"
-        for check in [*checks, Check()]:
-            is_free = not any(body.functions & it.functions for it in check.bodies)
-            if why or not is_free or len(check.bodies) == most:
-                continue
-            reason = body.put_into(check.texts)
-            if not reason:
-                check.bodies.append(body)
-                if len(check.bodies) == 1:
-                    checks.append(check)
-                break
-            if not check.bodies:
-                why = reason
-        if why:
-            failures.append(f"{body.name}: {why}")
+        places = body.places()
+        if not body.functions:
+            failures.append(f"{body.name}: it names no function that is refused")
+        elif len(check.bodies) == most or not check.has_place(body, places):
+            rest.append(body)
+        else:
+            why = check.take(body, places)
+            if why and check.bodies:
+                rest.append(body)
+            elif why:
+                failures.append(f"{body.name}: {why}")
+    return check, rest, failures
+
+
+def in_checks(bodies: List[Body]) -> Tuple[List[Check], List[str]]:
+    """The bodies in as few checks as they come, and why some have no place."""
+    checks: List[Check] = []
+    failures: List[str] = []
+    while bodies:
+        check, bodies, why = next_check(bodies)
+        failures += why
+        if check.bodies:
+            checks.append(check)
     return checks, failures

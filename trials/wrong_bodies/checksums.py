@@ -1,9 +1,10 @@
 """What a verdict on a wrong body rests on, as a checksum that comments and layout don't change.
 
-A verdict rests on the crate's own sources, specs and proofs; on the contracts and definitions of
-all crates below it, which are their specs, the signatures and clauses of their public functions,
-and their public types; on the kit; and on the body. What a function of a crate below does inside
-its body, and how it is proved, isn't part of it.
+A verdict rests on the functions that the body changes, and on their proofs; on all else of the
+crate but the bodies of its other functions and their proofs, since a function knows of another its
+contract alone; on the contracts and definitions of all crates below, which are their specs, the
+signatures and clauses of their public functions, and their public types; on the kit; and on the
+body. If a body changes more than the functions that it names, its verdict rests on the whole crate.
 """
 from __future__ import annotations
 
@@ -23,6 +24,8 @@ RUST = re.compile(
 ANTT = re.compile(r"--[^\n]*|(?P<token>\"(?:\\.|[^\"\\])*\"|[(){}\[\],]|[^\s(){}\[\],\"]+)")
 CLOSERS = {"(": ")", "[": "]", "{": "}"}
 CLAUSES = ("ensures", "requires")
+# files of proofs/ that prove one function, in a folder of its name
+OF_ONE = ("Answers.antt", "Invariants.antt", "Proof.antt")
 ITEMS = ("struct", "enum", "union", "type", "trait", "impl", "const", "static", "mod", "use")
 LETTERS = 16
 
@@ -238,6 +241,40 @@ def own_sum(crate: str) -> str:
     return sum_of([f"{path}\n{tokens_of(path)}" for path in files])
 
 
+def frame(tokens: List[str]) -> List[str]:
+    """The tokens of a source but those between the braces of functions. A constant function's stay,
+    since types may be made by it."""
+    kept: List[str] = []
+    at = 0
+    while at < len(tokens):
+        words, end = [tokens[at]], at + 1
+        if tokens[at] == "fn" and re.fullmatch(r"\w+", tokens[at + 1]):
+            words, end = signature(tokens, at)
+            is_constant = "const" in tokens[max(0, at - 2):at]
+            words = tokens[at:end] if is_constant else words + ["{", "}"]
+        kept += words
+        at = end
+    return kept
+
+
+@functools.lru_cache(maxsize=None)
+def frame_sum(crate: str) -> str:
+    """Of a crate but the bodies and the proofs of its functions."""
+    found = []
+    for path in files_of(crate, ("src", "specs", "proofs")):
+        if path.endswith(".rt"):
+            found.append(f"{path}\n{' '.join(frame(rust_tokens(read(path))))}")
+        elif os.path.basename(path) not in OF_ONE:
+            found.append(f"{path}\n{tokens_of(path)}")
+    return sum_of(found)
+
+
+def proofs_of(crate: str, name: str) -> List[str]:
+    """What proves the functions of a name."""
+    files = [it for it in files_of(crate, ("proofs",)) if os.path.basename(it) in OF_ONE]
+    return [f"{it}\n{tokens_of(it)}" for it in files if name in it.split("/")[3:-1]]
+
+
 @functools.lru_cache(maxsize=None)
 def contracts_sum(crate: str) -> str:
     """Of all that crates above can see of a crate."""
@@ -255,8 +292,10 @@ def kit() -> str:
 
 
 @functools.lru_cache(maxsize=None)
-def crate_sum(crate: str) -> str:
-    """Of all that a verdict on a body of this crate rests on, but the body."""
+def crate_sum(crate: str, is_whole: bool) -> str:
+    """Of all that a verdict on a body of this crate rests on, but the body; if it isn't the whole
+    crate, also but the functions that the body changes."""
+    own = own_sum(crate) if is_whole else frame_sum(crate)
     seen = [f"{it} {contracts_sum(it)}" for it in below(crate)]
     others = sorted(it for it in listed()[crate] if it not in listed())
-    return sum_of([kit(), own_sum(crate), *seen, *others])
+    return sum_of([kit(), own, *seen, *others])

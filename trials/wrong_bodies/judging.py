@@ -1,24 +1,27 @@
-"""Judges wrong bodies by checks of a copy of their crate, over the work that its checks have kept.
+"""Judges wrong bodies by checks of a copy of their crate.
 
 Each function that a body names has to be refused by a goal of its own, and no other function may
-be: a function that only calls a refused one isn't.
+be: a function that only calls a refused one isn't. So the crate has to be proved without the
+bodies. By hand, checks begin with the work that the clone's checks have kept. In the gate there is
+none, but the libraries that rt ci has built.
 """
 from __future__ import annotations
 
+import importlib
 import os
 import re
 import shutil
 import signal
 import subprocess
+import sys
 import tempfile
 import time
-from typing import Dict, Iterator, List, NamedTuple, Optional, Set, Tuple
+from typing import Any, Dict, List, NamedTuple, Optional, Set, Tuple
 
 from bodies import Body, Check, Texts, in_checks
 from checksums import TOP, below
-from verdicts import Crate, Verdict
 
-JOBS = os.environ.get("RT_JOBS", "2")
+JOBS = os.environ.get("RT_JOBS") or "2"
 # a prover that holds more than this is ended, in bytes
 MOST_MEMORY = 6 << 30
 # of how many goals of a function a verdict tells
@@ -37,7 +40,8 @@ class Said(NamedTuple):
 class Workspace:
     """A copy of the crates' sources, in which one crate at a time is checked."""
 
-    def __init__(self) -> None:
+    def __init__(self, is_gate: bool) -> None:
+        self.is_gate = is_gate
         self.folder = tempfile.mkdtemp(prefix="wrong-bodies-")
         for name in ("crates.txt", "HANDLES"):
             shutil.copy(f"{TOP}/{name}", self.folder)
@@ -63,7 +67,18 @@ class Workspace:
             if not os.path.isdir(f"{self.folder}/crates/{name}/out/rlib"):
                 # a check makes a library anew and changes no file of it
                 self.copy(f"crates/{name}/out/rlib", "-al")
+                if self.is_gate and all(map(is_built_later, [name, *below(name)])):
+                    self.note_library(name)
         self.copy(f"crates/{crate}/out/incremental")
+
+    def note_library(self, crate: str) -> None:
+        """Writes the note by which rt knows that a crate's library is of its sources. rt ci leaves
+        it out, since its libraries fit one another alone; here all are of one run. Without it rt
+        proves each crate below anew."""
+        path = f"{self.folder}/crates/{crate}/out/rlib/stamp"
+        if not os.path.exists(path):
+            with open(path, "w", encoding="utf-8") as file:
+                file.write(crate_of_kit(self.folder, crate).stamp())
 
     def drop_work(self, crate: str) -> None:
         shutil.rmtree(f"{self.folder}/crates/{crate}/out/incremental", ignore_errors=True)
@@ -87,8 +102,39 @@ class Workspace:
             why = f"the check judged nothing: {errors[:600]}"
         return Said({} if why else refusals(crate, said), why, has_time, said)
 
+    def unproved(self, crate: str, end: float) -> Optional[str]:
+        """Why the crate isn't proved as it is, if it isn't. In the gate rt ci has just proved it."""
+        if self.is_gate or crate_of_kit(TOP, crate).is_built():
+            return None
+        said = self.check(crate, {}, set(), end)
+        is_proved = not said.refused and re.search(r"^logic=proved", said.text, re.M)
+        return None if is_proved else said.why or f"not proved: {' '.join(said.refused)}"
+
     def remove(self) -> None:
         shutil.rmtree(self.folder, ignore_errors=True)
+
+
+def is_built_later(crate: str) -> bool:
+    """Whether the clone has a library of the crate, or a program, that was built after all its
+    sources changed. rt builds only what is proved."""
+    folder = f"{TOP}/crates/{crate}"
+    made = [f"{folder}/out/rlib/{crate}.rlib", f"{folder}/out/{crate}"]
+    sources = [
+        f"{found}/{name}"
+        for part in ("src", "specs", "proofs")
+        for found, folders, names in os.walk(f"{folder}/{part}")
+        for name in [*folders, *names, ""]
+    ]
+    changed = max(os.stat(it).st_ctime_ns for it in sources)
+    return any(os.path.exists(it) and changed < os.stat(it).st_mtime_ns for it in made)
+
+
+def crate_of_kit(top: str, crate: str) -> Any:
+    """A crate of a folder of crates, as the kit's own modules know it."""
+    kit = os.path.dirname(os.path.realpath(shutil.which("rt") or ""))
+    if kit not in sys.path:
+        sys.path.append(kit)
+    return importlib.import_module("rtlib").Crate(f"{top}/crates/{crate}", top, {})
 
 
 # ---- a check
@@ -222,8 +268,8 @@ def verdict_text(body: Body, refused: Dict[str, List[str]]) -> str:
 
 def judge(work: Workspace, crate: str, check: Check, end: float, is_named: bool) -> Outcome:
     """Judges the bodies of a check, by all functions of the crate, or by those that are named and
-    what these call. Where together they are too much, or one can't be judged, each half is judged
-    by itself, so that the one is named."""
+    what these call. Where together they are too much, or one can't be judged, or a function is
+    refused that none names, each half is judged by itself, so that the one is named."""
     bodies = check.bodies
     named: Set[str] = set().union(*(it.functions for it in bodies))
     said = work.check(crate, check.texts, named if is_named else set(), end)
@@ -232,7 +278,8 @@ def judge(work: Workspace, crate: str, check: Check, end: float, is_named: bool)
         return Outcome({}, [], False)
     line = None if said.why else unread(said.text, check.texts)
     why = said.why or (f"rt ci can't read what it changes: {line[:300]}" if line else None)
-    if why and len(bodies) > 1:
+    strange = sorted(set(said.refused) - named)
+    if (why or strange) and len(bodies) > 1:
         texts: Dict[str, str] = {}
         failures: List[Failure] = []
         middle = len(bodies) // 2
@@ -246,82 +293,11 @@ def judge(work: Workspace, crate: str, check: Check, end: float, is_named: bool)
         return Outcome(texts, failures, True)
     if why:
         return Outcome({}, [Failure(names, f"NOT JUDGED: {why}")], True)
-    strange = sorted(set(said.refused) - named)
-    failures = [Failure(names, f"{it} is refused, and none of these names it") for it in strange]
+    failures = [Failure(names, f"{it} is refused, and it doesn't name it") for it in strange]
     texts = {}
     for body in bodies:
-        missing = sorted(body.functions - set(said.refused))
-        failures += [Failure([body.name], f"NOT REFUSED: {it}") for it in missing]
+        missing = sorted(it for it in body.functions if not said.refused.get(it))
+        failures += [Failure([body.name], f"NOT REFUSED by a goal: {it}") for it in missing]
         if not missing and not strange:
             texts[body.name] = verdict_text(body, said.refused)
     return Outcome(texts, failures, True)
-
-
-class Job(NamedTuple):
-    """A check of a crate that is to be made."""
-
-    crate: Crate
-    check: Check
-
-
-def jobs_of(crates: List[Crate], is_stale: bool) -> Iterator[Job]:
-    """The checks of all bodies, or of those without a verdict, crate by crate."""
-    for crate in crates:
-        bodies = crate.without() if is_stale else crate.bodies
-        for check in in_checks(bodies)[0]:
-            yield Job(crate, check)
-
-
-def oldest_jobs(crates: List[Crate], number: int, most: int) -> List[Job]:
-    """The checks of all bodies, of at most so many each, those with the oldest verdicts first. Of
-    equally old ones those that rt ci doesn't try, and then another crate at each landing."""
-    jobs = []
-    for at, crate in enumerate(crates):
-        turn = (at - number) % len(crates)
-        bodies = sorted(crate.bodies, key=lambda it, of=crate: (of.age(it), it.is_in_gate))
-        for check in in_checks(bodies, most)[0]:
-            first = check.bodies[0]
-            jobs.append((crate.age(first), first.is_in_gate, turn, len(jobs), Job(crate, check)))
-    return [it[-1] for it in sorted(jobs, key=lambda it: it[:-1])]
-
-
-def run_jobs(jobs: List[Job], number: int, end: float, is_kept: bool, is_gate: bool) -> List[str]:
-    """Makes the checks in turn, prints the verdicts, and puts them into the files if they are to be
-    kept. Returns the names of the crates in which something is wrong. In the gate these are only
-    those where a body that was refused before isn't now; and only the named functions are checked,
-    and what these call, since there the whole crate would be checked from nothing."""
-    failed: List[str] = []
-    work, last = Workspace(), None
-    try:
-        for crate, check in jobs:
-            if time.time() > end:
-                break
-            if last != crate.name:
-                if last:
-                    work.drop_work(last)
-                work.take_work(crate.name)
-                last = crate.name
-            began = time.time()
-            found = judge(work, crate.name, check, end, is_gate)
-            failures = 0
-            for bodies, text in found.failures:
-                is_first = is_gate and not all(map(crate.ever_had, bodies))
-                failures += not is_first
-                how = "first verdict" if is_first else "FAILED"
-                print(f"{crate.name}: {how}: {text}: {' '.join(bodies)}")
-            for name, text in found.texts.items():
-                new = Verdict(name, crate.sums[name], number, None, text)
-                old = crate.verdicts.get(name)
-                if old and old.sum == new.sum and old.differs(new):
-                    failures += 1
-                    print(f"{crate.name}: FAILED: {name}: the file says: {old.text}; now: {text}")
-                print(f"verdict {crate.name} {new.line()}")
-                if is_kept:
-                    crate.take(new)
-            failed += [crate.name] if failures and crate.name not in failed else []
-            told = f"{len(found.texts)} of {len(check.bodies)} bodies have a verdict"
-            ended = "" if found.has_time else ", ended by the clock"
-            print(f"{crate.name}: {told} after {time.time() - began:.0f} s{ended}", flush=True)
-    finally:
-        work.remove()
-    return failed

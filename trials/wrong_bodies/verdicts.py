@@ -112,9 +112,9 @@ class Crate:
         """The bodies without a verdict on today's text."""
         return [it for it in self.bodies if not self.has_verdict(it)]
 
-    def age(self, body: Body) -> int:
-        """When the body was judged last, on today's text; -1 where it wasn't."""
-        return self.verdicts[body.name].judged if self.has_verdict(body) else -1
+    def last(self, body: Body) -> int:
+        """When the body was judged last, on whatever text; -1 where it never was."""
+        return self.verdicts[body.name].judged if self.ever_had(body.name) else -1
 
     def take(self, new: Verdict) -> None:
         self.verdicts[new.name] = new
