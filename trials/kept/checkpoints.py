@@ -52,6 +52,8 @@ def alternate(folder):
         wants("a run behind a checkpoint", done.status == 0 and done.told.count(TAKEN) == 1, done)
         wants("it answers as the model does", done.out == store.answers_of(lines), number)
         names.append(counting(folder))
+        told = b"/%s: %s" % (names[-1].encode(), TAKEN)
+        wants("the file that counts is told", told in done.told, done.told)
         found = check(folder)
         wants("the journal is sound", found.status == 0, found)
         kept, status = script_of(folder)
