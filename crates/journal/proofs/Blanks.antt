@@ -3,7 +3,7 @@ use Rattle.std.proofs.Common.{◌≡◌, ◌∙◌, ap, sym, refl, ℕ, zero, su
 use Rattle.std.proofs.lemmas.Bool.{cases_lt, cases_Bool, false≢true}
 use Rattle.std.proofs.lemmas.List.{length-replicate, drop_more, drop_all, get_or_past}
 use Rattle.sqlite_disk.specs.Disk.{Holds, Torn, Mixed}
-use Rattle.journal.specs.Head.{marks_of, selector_of, believed, head_byte, is_blank, is_blank_from, IsHead}
+use Rattle.journal.specs.Head.{marks_of, selector_of, believed, head_byte, is_head_byte, is_blank, is_blank_from, IsHead}
 use Rattle.journal.proofs.Pairs.{zero_is, pairs_none, zeros_at}
 use Rattle.journal.specs.Selector.{selector_bytes, IsUnused}
 use Rattle.journal.proofs.Selectors.{unselected, short_unused}
@@ -11,19 +11,19 @@ use Rattle.journal.proofs.Most.{both_are}
 
 -- each byte is 0 or that of a new head
 blank_at : (at : ℕ) (file : List ℕ) (i : ℕ) → is_blank_from at file ≡ true
-    → ((get_or file i 0 == 0) || (get_or file i 0 == head_byte (at + i))) ≡ true
+    → ((get_or file i 0 == 0) || is_head_byte (at + i) (get_or file i 0)) ≡ true
 blank_at at [] i is =
-    ap (λ (b : ℕ). (b == 0) || (b == head_byte (at + i))) (get_or_past [] i 0 (omega arith))
+    ap (λ (b : ℕ). (b == 0) || is_head_byte (at + i) b) (get_or_past [] i 0 (omega arith))
 blank_at at (byte ∷ file) zero is =
     let here : at + 0 ≡ at = omega arith in
-    ap (λ (n : ℕ). (byte == 0) || (byte == head_byte n)) here
+    ap (λ (n : ℕ). (byte == 0) || is_head_byte n byte) here
     ∙ (both_are _ (is_blank_from (suc at) file) is).0
 blank_at at (byte ∷ file) (suc i) is =
     let next : at + suc i ≡ suc at + i = omega arith in
-    ap (λ (n : ℕ). (get_or file i 0 == 0) || (get_or file i 0 == head_byte n)) next
+    ap (λ (n : ℕ). (get_or file i 0 == 0) || is_head_byte n (get_or file i 0)) next
     ∙ blank_at (suc at) file i (both_are _ (is_blank_from (suc at) file) is).1
 
-is_zero : (byte : ℕ) → ((byte == 0) || (byte == 0)) ≡ true → byte ≡ 0
+is_zero : (byte : ℕ) → ((byte == 0) || ((byte == 0) || false)) ≡ true → byte ≡ 0
 is_zero byte is = elim (cases_Bool (byte == 0)) [
   | inl same ↦ zero_is byte same
   | inr other ↦ absurd (false≢true (rw other at is))
@@ -65,7 +65,7 @@ zeros_blank : (at : ℕ) (file : List ℕ) → ((i : ℕ) → get_or file i 0 �
     → is_blank_from at file ≡ true
 zeros_blank at [] all = refl
 zeros_blank at (byte ∷ file) all =
-    ap (λ (b : ℕ). ((b == 0) || (b == head_byte at)) && is_blank_from (suc at) file) (all 0)
+    ap (λ (b : ℕ). ((b == 0) || is_head_byte at b) && is_blank_from (suc at) file) (all 0)
     ∙ zeros_blank (suc at) file (λ i. all (suc i))
 
 from_0 : (i : ℕ) → i ≡ 0 + i
@@ -134,7 +134,7 @@ module _ (file c head : List ℕ) (size : ℕ) (blank : is_blank file ≡ true)
 -- ---- reading one byte after the other
 
 pub blank_more : (file : List ℕ) (at : ℕ) → at < length file
-    → ((slice_index file at == 0) || (slice_index file at == head_byte at)) ≡ true
+    → ((slice_index file at == 0) || is_head_byte at (slice_index file at)) ≡ true
     → is_blank_from at (drop at file) ≡ is_blank_from (at + 1) (drop (at + 1) file)
 blank_more file at less is =
     let next : suc at ≡ at + 1 = omega arith in
@@ -143,7 +143,7 @@ blank_more file at less is =
     ∙ ap (λ (n : ℕ). is_blank_from n (drop (at + 1) file)) next
 
 pub blank_no_more : (file : List ℕ) (at : ℕ) → at < length file
-    → ((slice_index file at == 0) || (slice_index file at == head_byte at)) ≡ false
+    → ((slice_index file at == 0) || is_head_byte at (slice_index file at)) ≡ false
     → is_blank_from at (drop at file) ≡ false
 blank_no_more file at less is =
     ap (is_blank_from at) (drop_more file at 0 less)

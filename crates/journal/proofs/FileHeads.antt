@@ -5,7 +5,7 @@ use Rattle.std.proofs.lemmas.Bool.{cases_lt}
 use Rattle.std.proofs.lemmas.List.{length-take, length-take-le, take_all, drop_all, drop-drop}
 use Rattle.sqlite_disk.specs.Disk.{Torn, Mixed}
 use Rattle.journal.specs.Crashes.{Mixes, written}
-use Rattle.journal.specs.Head.{marks_of, selector_of, is_other, pairs, believed, IsHead, IsHeaded}
+use Rattle.journal.specs.Head.{is_first_line, marks_of, selector_of, is_other, pairs, believed, IsHead, IsHeaded}
 use Rattle.journal.proofs.Fronts.{take_front, slice_front, torn_front, slice_within, written_front, written_behind, written_within}
 use Rattle.journal.proofs.Writing.{put_mixed}
 
@@ -22,7 +22,7 @@ pub head_same : (a b : List ℕ) (size more steps : ℕ) → take 4096 a ≡ tak
 head_same a b size more steps same le head =
     let marks = sym (same_marks a b same) in
     record {
-      line = sym (take_front a b 17 4096 (omega arith) same) ∙ head.line;
+      line = ap is_first_line (sym (take_front a b 17 4096 (omega arith) same)) ∙ head.line;
       marks = ap (list_any is_other) marks ∙ head.marks;
       count = ap pairs marks ∙ head.count;
       later = ap (drop (2 * steps)) marks ∙ head.later;

@@ -8,7 +8,7 @@ use Rattle.std.proofs.Math.Seq.{take-add}
 use Rattle.sqlite_disk.specs.Disk.{Holds, Torn}
 use Rattle.journal.specs.Crashes.{written}
 use Rattle.journal.proofs.TextLines.{or_false}
-use Rattle.journal.specs.Head.{marks_of, is_other, is_pair, pairs, believed, IsHeaded}
+use Rattle.journal.specs.Head.{is_first_line, marks_of, is_other, is_pair, pairs, believed, IsHeaded}
 use Rattle.journal.proofs.Fronts.{written_front, written_behind, written_within, written_after}
 use Rattle.journal.proofs.Pairs.{pairs_zeros, pairs_put, pairs_stop}
 use Rattle.journal.proofs.FileHeads.{believed_is, torn_behind}
@@ -86,8 +86,8 @@ module _ (file : List ℕ) (k : ℕ) (head : IsHeaded file k) (less : k < 2037) 
       → 4096 + 1048576 * (k + 1) ≤ length file → is_pair a b ≡ true
       → is_other a ≡ false → is_other b ≡ false → IsHeaded new (k + 1)
   is_marked new is size long pair one other = record {
-    line = ap (take 17) is
-        ∙ written_front 17 (17 + 2 * k) (a ∷ b ∷ []) file (omega arith) inside
+    line = ap is_first_line (ap (take 17) is
+        ∙ written_front 17 (17 + 2 * k) (a ∷ b ∷ []) file (omega arith) inside)
         ∙ head.line;
     marks = ap (list_any is_other) (ap marks_of is ∙ new_marks) ∙ no_other one other;
     count = ap (λ (t : List ℕ). pairs (marks_of t)) is ∙ one_more pair;

@@ -1,6 +1,8 @@
+mod Behind
 mod Blanking
 mod Blanks
 mod Blocks
+mod Bonding
 mod Chain
 mod Changed
 mod Clear
@@ -10,6 +12,7 @@ mod Feeds
 mod FileHeads
 mod Files
 mod FirstGroup
+mod Formats
 mod Fronts
 pub mod Groups
 pub mod Growing
@@ -21,7 +24,10 @@ mod MixedBytes
 mod Most
 mod NewHeads
 pub mod Noise
+mod NotePuts
+mod NoteTexts
 mod Openings
+mod Over
 mod Pairs
 mod Parts
 mod Pushing
@@ -38,6 +44,7 @@ pub mod TextLines
 mod Texts
 mod ThreeBytes
 mod Told
+mod Witnesses
 mod Writing
 mod Zeroing
 mod Zeros

@@ -4,7 +4,7 @@ use Rattle.std.specs.List.{list_any}
 use Rattle.std.specs.Prelude.{IfOk}
 use Rattle.std.proofs.lemmas.List.{length-replicate, replicate-append-replicate, drop-drop, take_at, drop_at, take_all}
 use Rattle.sqlite_disk.specs.Disk.{Holds}
-use Rattle.journal.specs.Head.{first_line, marks_of, selector_of, is_other, pairs, IsHead, IsHeaded}
+use Rattle.journal.specs.Head.{first_line, is_first_line, marks_of, selector_of, is_other, pairs, IsHead, IsHeaded}
 use Rattle.journal.proofs.Pairs.{pairs_zeros, no_others}
 use Rattle.journal.specs.Selector.{selector_bytes}
 use Rattle.journal.proofs.FileHeads.{head_same}
@@ -56,7 +56,7 @@ module _ (head : List ℕ) (n : ℕ) (is : head ≡ first_line ++ (replicate n 0
 
   pub new_head_is : (size steps : ℕ) → steps ≡ 0 → 4096 ≤ size → IsHead head size steps
   new_head_is size steps none le = record {
-    line = ap (take 17) head_is ∙ take_at first_line (zeros ++ last) 17 refl;
+    line = ap is_first_line (ap (take 17) head_is ∙ take_at first_line (zeros ++ last) 17 refl);
     marks = ap (list_any is_other) marks_are ∙ no_others (n - 4);
     count = ap pairs marks_are ∙ pairs_zeros (n - 4) ∙ sym none;
     later =

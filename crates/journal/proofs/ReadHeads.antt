@@ -1,11 +1,11 @@
 -- How a head is read.
-use Rattle.std.proofs.Common.{◌≡◌, ◌∙◌, ap, sym, ℕ, ◌+◌, ◌-◌, ◌*◌, ◌<◌, ◌≤◌, min, List, [], ◌∷◌, length, take, drop, replicate, slice_index, get_or, Bool, true, false, inl, inr, bytes_eq, Option, Some, subst, Result, Ok, Err, arith, length-drop, get_or-take, get_or-drop}
+use Rattle.std.proofs.Common.{◌≡◌, ◌∙◌, ap, sym, refl, ℕ, ◌+◌, ◌-◌, ◌*◌, ◌<◌, ◌≤◌, min, List, [], ◌∷◌, length, take, drop, replicate, slice_index, get_or, Bool, true, false, inl, inr, bytes_eq, Option, Some, subst, Result, Ok, Err, arith, length-drop, get_or-take, get_or-drop}
 use Rattle.std.specs.List.{list_any}
 use Rattle.std.specs.Prelude.{IfOk, IfSome, IsErrAnd}
 use Rattle.std.proofs.lemmas.Bool.{cases_Bool, cases_lt, true≢false}
 use Rattle.std.proofs.lemmas.List.{length-take, length-take-le, take-take, drop_more, take_all}
 use Rattle.std.proofs.lemmas.Slice.Eq.{bytes_eq-Decides}
-use Rattle.journal.specs.Head.{first_line, marks_of, selector_of, is_other, is_there, pairs, IsHead, IsHeaded}
+use Rattle.journal.specs.Head.{first_line, old_line, is_first_line, marks_of, selector_of, is_other, is_there, pairs, IsHead, IsHeaded}
 use Rattle.journal.proofs.Fronts.{take_front}
 use Rattle.journal.proofs.Pairs.{none_there, all_zeros}
 use Rattle.journal.proofs.FileHeads.{head_same}
@@ -28,17 +28,26 @@ long_enough head is =
     let here = length-drop 4095 head in
     omega (arith, size, some, here)
 
-pub no_first_line : (head : List ℕ) → length head < 17
-    → bytes_eq (take 17 head) first_line ≡ false
-no_first_line head short = elim (cases_Bool (bytes_eq (take 17 head) first_line)) [
+no_line : (head line : List ℕ) → length line ≡ 17 → length head < 17
+    → bytes_eq (take 17 head) line ≡ false
+no_line head line long short = elim (cases_Bool (bytes_eq (take 17 head) line)) [
   | inl same ↦ absurd (omega (
     arith,
     short,
-    ap length ((bytes_eq-Decides (take 17 head) first_line).0 same),
+    long,
+    ap length ((bytes_eq-Decides (take 17 head) line).0 same),
     length-take 17 head,
   ))
   | inr other ↦ other
 ]
+
+pub no_first_line : (head : List ℕ) → length head < 17
+    → bytes_eq (take 17 head) first_line ≡ false
+no_first_line head short = no_line head first_line refl short
+
+pub no_old_line : (head : List ℕ) → length head < 17
+    → bytes_eq (take 17 head) old_line ≡ false
+no_old_line head short = no_line head old_line refl short
 
 -- the first bytes of a file
 pub front_of : (file block : List ℕ) (size count : ℕ) → size ≡ length file → count ≡ min size 4096
@@ -50,9 +59,9 @@ front_of file block size count is less are =
     ] in
     ap (take 4096) are ∙ rest
 
-pub is_first : (head : List ℕ) (found : Bool) → found ≡ bytes_eq (take 17 head) first_line
-    → found ≡ true → take 17 head ≡ first_line
-is_first head found is same = (bytes_eq-Decides (take 17 head) first_line).0 (sym is ∙ same)
+pub is_first : (head : List ℕ) (found : Bool) → found ≡ is_first_line (take 17 head)
+    → found ≡ true → is_first_line (take 17 head) ≡ true
+is_first head found is same = sym is ∙ same
 
 -- a byte behind the pairs that count
 pub no_byte : (head : List ℕ) (size steps k : ℕ) (has : Bool) → k ≡ pairs (marks_of head)
@@ -98,7 +107,7 @@ gap_to head is =
 -- what was read of a head
 pub record WasRead (head : List ℕ) (k : ℕ) : Type 0 where
   pub long : length head ≡ 4096
-  pub line : take 17 head ≡ first_line
+  pub line : is_first_line (take 17 head) ≡ true
   pub marks : list_any is_other (marks_of head) ≡ false
   pub selector : list_any is_other (selector_of head) ≡ false
   pub count : k ≡ pairs (marks_of head)
@@ -134,17 +143,18 @@ module _ (file block : List ℕ) (size count : ℕ) (is : size ≡ length file)
   file_headed steps head =
       head_same block file size (length file) steps same_front (omega (arith, is)) head
 
-  pub file_damaged : (take 17 block ≡ first_line) × ((steps : ℕ) → IsHead block size steps → ⊥)
-      → (take 17 file ≡ first_line) × ((steps : ℕ) → IsHeaded file steps → ⊥)
+  pub file_damaged : (is_first_line (take 17 block) ≡ true)
+      × ((steps : ℕ) → IsHead block size steps → ⊥)
+      → (is_first_line (take 17 file) ≡ true) × ((steps : ℕ) → IsHeaded file steps → ⊥)
   file_damaged told = (
-    same_line ∙ told.0,
+    ap is_first_line same_line ∙ told.0,
     λ steps head. told.1 steps
         (head_same file block (length file) size steps (sym same_front) (omega (arith, is)) head),
   )
 
-  pub file_other : bytes_eq (take 17 block) first_line ≡ false
-      → bytes_eq (take 17 file) first_line ≡ false
-  file_other other = ap (λ (t : List ℕ). bytes_eq t first_line) same_line ∙ other
+  pub file_other : is_first_line (take 17 block) ≡ false
+      → is_first_line (take 17 file) ≡ false
+  file_other other = ap is_first_line same_line ∙ other
 
 pub all_of : (file block : List ℕ) (size : ℕ) → size ≡ length file → block ≡ take size file
     → block ≡ file

@@ -1,5 +1,5 @@
 -- On sums and places: digits, none of them a line feed or a zero.
-use Rattle.std.proofs.Common.{◌≡◌, ◌∙◌, ap, sym, refl, ℕ, zero, suc, ◌*◌, ◌/◌, ◌%◌, ◌^◌, ◌<◌, List, [], ◌∷◌, ◌++◌, length, take, drop, slice_index, false, arith, length-append}
+use Rattle.std.proofs.Common.{◌≡◌, ◌∙◌, ap, sym, refl, ℕ, zero, suc, ◌*◌, ◌/◌, ◌%◌, ◌^◌, ◌<◌, List, [], ◌∷◌, ◌++◌, length, take, drop, slice_index, false, Ok, arith, length-append}
 use Rattle.std.proofs.lemmas.List.{take_at, drop_at}
 use Rattle.std.proofs.lemmas.List.Folds.{list_any-append}
 use Rattle.std.proofs.lemmas.Nat.{from_be_bytes-to_be_bytes_8}
@@ -7,8 +7,8 @@ use Rattle.std.specs.Int.{to_be_bytes, from_be_bytes, bytes_high_first, byte_at,
 use Rattle.std.specs.List.{AllByRecursion}
 use Rattle.sha2.specs.Sha256.{sha256, digest_bytes}
 use Rattle.sha2.proofs.Facts256.{length-sha256}
-use Rattle.hex.specs.Hex.{IsBytes, encode_with, encode_lower, decode_of, lower_digits}
-use Rattle.hex.proofs.HexLemmas.{length-encode_with, decode_of-encode_lower, decode_of-same}
+use Rattle.hex.specs.Hex.{IsBytes, encode_with, encode_lower, decode_of, decode_sized, lower_digits}
+use Rattle.hex.proofs.HexLemmas.{length-encode_with, decode_of-encode_lower, decode_of-same, decode_sized-encode_lower}
 use Rattle.journal.specs.Text.{is_line_feed, is_zero, is_torn, sum_of, place_text, commit_of}
 use Rattle.journal.proofs.TextLines.{HasNoFeed, none_of_both}
 
@@ -151,6 +151,20 @@ length-place_text place =
     let digits = length-encode_with lower_digits (to_be_bytes w64 place) in
     let eight : length (to_be_bytes w64 place) ≡ 8 = length-high_first 8 place in
     omega (arith, digits, eight)
+
+-- the digits of a place are read as its bytes
+pub place_decodes : (digits : List ℕ) (place : ℕ) → 32 ∷ digits ≡ place_text place
+    → decode_sized digits 8 ≡ Ok (to_be_bytes w64 place)
+unfolding place_text
+place_decodes digits place is =
+    ap (λ (t : List ℕ). decode_sized (drop 1 t) 8) is
+    ∙ decode_sized-encode_lower (to_be_bytes w64 place) 8 (length-high_first 8 place)
+    (each_byte (to_be_bytes w64 place) (place_are_bytes place))
+
+-- a blank, and its digits
+pub place_blank : (place : ℕ) → 32 ∷ drop 1 (place_text place) ≡ place_text place
+unfolding place_text
+place_blank place = refl
 
 -- two places with one text are one
 pub one_place : (a b : ℕ) → a < 2 ^ 64 → b < 2 ^ 64 → place_text a ≡ place_text b → a ≡ b

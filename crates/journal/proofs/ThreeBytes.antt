@@ -4,7 +4,7 @@ use Rattle.std.specs.List.{list_any}
 use Rattle.std.proofs.lemmas.List.{length-take-le, drop-drop, drop_at, take_at}
 use Rattle.std.proofs.Math.Seq.{take-add}
 use Rattle.journal.specs.Crashes.{written}
-use Rattle.journal.specs.Head.{marks_of, selector_of, is_other, pairs, believed, IsHeaded}
+use Rattle.journal.specs.Head.{is_first_line, marks_of, selector_of, is_other, pairs, believed, IsHeaded}
 use Rattle.journal.specs.Selector.{tail_of}
 use Rattle.journal.proofs.Fronts.{take_front, slice_front, written_front, written_after}
 
@@ -39,7 +39,7 @@ module _ (file new bytes : List ℕ) (long : 4094 ≤ length file) (three : leng
   pub same_head : (steps : ℕ) → length new ≡ length file → list_any is_other bytes ≡ false
       → IsHeaded file steps → IsHeaded new steps
   same_head steps size none head = record {
-    line = take_front new file 17 4091 (omega arith) front ∙ head.line;
+    line = ap is_first_line (take_front new file 17 4091 (omega arith) front) ∙ head.line;
     marks = ap (list_any is_other) same_marks ∙ head.marks;
     count = ap pairs same_marks ∙ head.count;
     later = ap (drop (2 * steps)) same_marks ∙ head.later;

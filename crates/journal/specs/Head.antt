@@ -1,12 +1,28 @@
 -- The head of a journal's file, and how much behind it is believed.
-use Rattle.std.specs.Prelude.{◌≡◌, ◌≤◌, ◌+◌, ◌-◌, ◌*◌, ℕ, suc, ◌==◌, ◌||◌, ◌&&◌, not, List, [], ◌∷◌, length, take, drop, replicate, slice_index, Bool, true, false, if◌then◌else◌}
+use Rattle.std.specs.Prelude.{◌≡◌, ◌≤◌, ◌+◌, ◌-◌, ◌*◌, ℕ, suc, ◌==◌, ◌||◌, ◌&&◌, not, List, [], ◌∷◌, length, take, drop, replicate, slice_index, Bool, true, false, bytes_eq, if◌then◌else◌}
 use Rattle.std.specs.List.{list_any}
 
--- "#metad journal 1", and a line feed
-abbrev pub first_line : List ℕ
-first_line =
+-- "#metad journal ", a digit, and a line feed
+abbrev pub line_of : ℕ → List ℕ
+line_of digit =
     35 ∷ 109 ∷ 101 ∷ 116 ∷ 97 ∷ 100 ∷ 32
-    ∷ 106 ∷ 111 ∷ 117 ∷ 114 ∷ 110 ∷ 97 ∷ 108 ∷ 32 ∷ 49 ∷ 10 ∷ []
+    ∷ 106 ∷ 111 ∷ 117 ∷ 114 ∷ 110 ∷ 97 ∷ 108 ∷ 32 ∷ digit ∷ 10 ∷ []
+
+-- the first line of a file of format 1, whose text begins behind its head
+abbrev pub old_line : List ℕ
+old_line = line_of 49
+
+-- the first line of a file of format 2, in which a page of notes stands before the text
+abbrev pub first_line : List ℕ
+first_line = line_of 50
+
+-- a line by which a journal begins
+abbrev pub is_first_line : List ℕ → Bool
+is_first_line line = bytes_eq line first_line || bytes_eq line old_line
+
+-- a file has a page of notes
+abbrev pub has_page : List ℕ → Bool
+has_page file = bytes_eq (take 17 file) first_line
 
 -- the marks: 2,037 pairs of '+' or 0, behind the first line
 abbrev pub marks_of : List ℕ → List ℕ
@@ -45,7 +61,7 @@ Texts outcomes text = (file : List ℕ) × outcomes file × (text ≡ believed f
 -- The head, of 4,096 bytes, of a file of this size. It has this number of pairs of marks, and zeros
 -- behind these; a selector, a zero and a line feed. What is believed stands in the file.
 pub record IsHead (head : List ℕ) (size steps : ℕ) : Type 0 where
-  pub line : take 17 head ≡ first_line
+  pub line : is_first_line (take 17 head) ≡ true
   pub marks : list_any is_other (marks_of head) ≡ false
   pub count : pairs (marks_of head) ≡ steps
   pub later : drop (2 * steps) (marks_of head) ≡ replicate (4074 - 2 * steps) 0
@@ -62,11 +78,15 @@ IsHeaded file steps = IsHead file (length file) steps
 abbrev pub head_byte : ℕ → ℕ
 head_byte at = if at == 4095 then 10 else slice_index first_line at
 
--- each byte of a file, from this place on, is that of a new head or 0
+-- a byte of a new head, or the digit of format 1
+abbrev pub is_head_byte : ℕ → ℕ → Bool
+is_head_byte at byte = (byte == head_byte at) || ((at == 15) && (byte == 49))
+
+-- each byte of a file, from this place on, is that of a new head, of either format, or 0
 abbrev pub is_blank_from : ℕ → List ℕ → Bool
 is_blank_from at [] = true
 is_blank_from at (byte ∷ bytes) =
-    ((byte == 0) || (byte == head_byte at)) && is_blank_from (suc at) bytes
+    ((byte == 0) || is_head_byte at byte) && is_blank_from (suc at) bytes
 
 -- no head was ever whole in this file, and no byte stands behind it
 abbrev pub is_blank : List ℕ → Bool

@@ -1,7 +1,9 @@
+pub mod Bonds
 pub mod Crashes
 pub mod Groups
 pub mod Growth
 pub mod Head
+pub mod Notes
 pub mod Laws
 pub mod Reading
 pub mod Reads

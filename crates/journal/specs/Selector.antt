@@ -52,6 +52,12 @@ pub record SelectorLeft (is_standby : Bool) (old left : List ℕ) : Type 0 where
   pub selector : (was : Bool) → HasSelector was old
       → HasSelector was left ⊎ HasSelector is_standby left
 
+-- what is left where the digit of format 2 is put: the text, the head and the selector as they were
+pub record FormatLeft (old left : List ℕ) : Type 0 where
+  pub text : believed left ≡ believed old
+  pub head : (steps : ℕ) → IsHeaded old steps → IsHeaded left steps
+  pub selector : (was : Bool) → HasSelector was old → HasSelector was left
+
 -- the same text, and the same file counts
 pub record SameSelector (old new : List ℕ) : Type 0 where
   pub text : believed new ≡ believed old

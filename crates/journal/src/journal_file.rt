@@ -3,6 +3,7 @@
 
 mod blanking;
 mod file;
+mod format;
 mod growing;
 mod head;
 mod opening;
@@ -12,7 +13,9 @@ mod steps;
 
 pub use blanking::blank;
 pub use file::JournalFile;
-pub use head::{HEAD, STEP, is_blank, read_head};
+pub use format::{put_format, reads_page};
+pub(crate) use head::make_zeros;
+pub use head::{HEAD, STEP, has_page, is_blank, read_head};
 pub use opening::has_head;
-pub use selecting::{select, selected};
+pub use selecting::{select, selected, selects};
 pub use selector::{Active, Selector, Standby};

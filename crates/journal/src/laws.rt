@@ -1,6 +1,7 @@
 //! What holds of the text of journals.
 ghost use Rattle.journal.specs.Laws.{WhatIsWrittenIsRead, ATornGroupIsNotThere, NothingIsSkipped, AZeroIsTold, AChangeIsTold, NoiseIsTold, TheLastSumTellsAll};
 ghost use Rattle.journal.specs.Growth.{ZerosChangeNothing};
+ghost use Rattle.journal.specs.Bonds.{WhatACrashLeavesFits, AWitnessLeavesThemOne, ACardLeavesThemOne, LostNotesLeaveThemOne, AChoiceTurnsThem, WhatIsWitnessedIsFound};
 
 /// A journal is read as it was written. If a crash lost bytes of the last group, the journal is
 /// read without that group; if the group is whole, it is read too. Neither is found as damage.
@@ -31,4 +32,20 @@ pub fn the_last_sum_tells_all()
 /// If a file is made larger by zeros, the same is found in it, be it sound or damaged.
 pub fn zeros_change_nothing()
     ensures found { ZerosChangeNothing }
+{}
+
+/// Two files of a store fit, whatever a crash left of the notes in their pages, at each step of a
+/// run and of a checkpoint.
+pub fn files_of_a_store_fit()
+    ensures fits { WhatACrashLeavesFits }
+    ensures witness { AWitnessLeavesThemOne }
+    ensures card { ACardLeavesThemOne }
+    ensures lost { LostNotesLeaveThemOne }
+    ensures turns { AChoiceTurnsThem }
+{}
+
+/// A witness is found in each file to which groups were added since it was put: so no start refuses
+/// a file for it that no disk damaged.
+pub fn a_witness_is_found()
+    ensures found { WhatIsWitnessedIsFound }
 {}

@@ -2,6 +2,8 @@
 //! the sum of all that stands before its end. The module `journal_file` is its file over a disk.
 #![tactic(auto)]
 
+mod anew;
+mod bond;
 mod error;
 mod journal;
 mod journal_file;
@@ -9,20 +11,28 @@ pub mod laws;
 mod line_head;
 mod lines;
 mod log;
+mod notes;
+mod page;
+mod paged;
 mod reader;
 mod reading;
 mod recovery;
 mod rereading;
 mod sum;
 
+pub use anew::{NotBlank, make_anew, make_page};
+pub use bond::{Bond, bond_of};
 pub use error::JournalError;
 pub use journal::Journal;
 pub use journal_file::{
-    Active, HEAD, JournalFile, STEP, Selector, Standby, blank, has_head, is_blank, read_head,
-    select, selected,
+    Active, HEAD, JournalFile, STEP, Selector, Standby, blank, has_head, has_page, is_blank,
+    put_format, read_head, reads_page, select, selected, selects,
 };
 pub use lines::{cut_line, is_commit};
 pub use log::Log;
+pub use notes::{CARD, NOTE, Note, WITNESS, first_sum, identity_of, note_bytes, read_note};
+pub use page::{Notes, PAGE, finds, put_note, read_page};
+pub use paged::Paged;
 pub use reader::{Reader, Sound};
 pub use reading::{Extent, check, has_group};
 pub use recovery::recover;

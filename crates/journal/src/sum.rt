@@ -75,3 +75,14 @@ pub fn place_of(place: usize) -> [u8; 16]
     let place = place as u64;
     digits_of_place(&place.to_be_bytes())
 }
+
+/// The SHA-256 of a text and of a number behind it, as 64 digits.
+pub fn sum_of_place(before: &[u8], place: usize) -> [u8; 64]
+    ensures { result ≡ sum_of (before.now ++ place_text place) }
+{
+    let digits = place_of(place);
+    let mut hasher = hasher_of(before);
+    add_to(&mut hasher, b" ");
+    add_to(&mut hasher, &digits);
+    take_sum(&mut hasher)
+}

@@ -36,7 +36,7 @@ pub struct JournalFile<D: Disk + Drop, C: Selector> {
 impl<D: Disk + Drop, C: Selector> JournalFile<D, C> {
     ghost use Rattle.std.specs.Prelude.{◌≡◌, ◌⊎◌, List, ℕ, IsTrue, OnOk, IsErrOf, take, bytes_eq, true, false};
     ghost use Rattle.journal.specs.Crashes.{Only};
-    ghost use Rattle.journal.specs.Head.{first_line, believed, is_blank, Texts, IsHeaded};
+    ghost use Rattle.journal.specs.Head.{is_first_line, believed, is_blank, Texts, IsHeaded};
     ghost use Rattle.journal.specs.Selector.{other_counts, AllSelect, SameSelector};
 
     /// The file of a disk. It has to be opened.
@@ -74,10 +74,10 @@ impl<D: Disk + Drop, C: Selector> JournalFile<D, C> {
         ensures unknown { IsErrOf result JournalError.UnknownFormat
             → IsTrue (D.Disk.is_clean self.new.disk)
             → (is_blank (D.Disk.seen self.old.disk) ≡ false)
-            × (bytes_eq (take 17 (D.Disk.seen self.old.disk)) first_line ≡ false) }
+            × (is_first_line (take 17 (D.Disk.seen self.old.disk)) ≡ false) }
         ensures damaged { IsErrOf result JournalError.Damaged
             → IsTrue (D.Disk.is_clean self.new.disk)
-            → (take 17 (D.Disk.seen self.old.disk) ≡ first_line)
+            → (is_first_line (take 17 (D.Disk.seen self.old.disk)) ≡ true)
             × ((steps : ℕ) → IsHeaded (D.Disk.seen self.old.disk) steps → ⊥) }
         ensures crash { IsTrue (D.Disk.is_clean self.new.disk)
             → (c : List ℕ) → D.Disk.may_leave self.new.disk c

@@ -1,7 +1,7 @@
 //! The head of a journal's file.
 ghost use Rattle.std.specs.Prelude.{◌≡◌, ◌==◌, ◌||◌, ◌<◌, ◌≤◌, ◌+◌, ◌*◌, ◌++◌, ◌∷◌, [], ℕ, List, length, take, drop, replicate, slice_index, bytes_eq, IfOk, IfErr, IfSome, IfNone, IsErrOf, true, false};
 ghost use Rattle.std.specs.List.{list_any};
-ghost use Rattle.journal.specs.Head.{first_line, marks_of, selector_of, is_other, is_there, is_pair, pairs, head_byte, is_blank, IsHead};
+ghost use Rattle.journal.specs.Head.{first_line, old_line, is_first_line, has_page, marks_of, selector_of, is_other, is_there, is_pair, pairs, head_byte, is_head_byte, is_blank, IsHead};
 ghost use Rattle.journal.specs.Selector.{selector_bytes};
 
 use crate::JournalError;
@@ -19,16 +19,39 @@ pub const STEP: usize = 1_048_576;
 /// A file has as many steps at most: its head has room for no more pairs of marks.
 pub const STEPS: usize = 2_037;
 
-const FIRST_LINE: &[u8; 17] = b"#metad journal 1\n";
+// The first line of a new head, of format 2.
+const FIRST_LINE: &[u8; 17] = b"#metad journal 2\n";
 
-// Whether the first line is that of a journal.
-fn has_first_line(head: &[u8]) -> bool
-    ensures { result ≡ bytes_eq (take 17 head.now) first_line }
+// The first line of a head of format 1.
+const OLD_LINE: &[u8; 17] = b"#metad journal 1\n";
+
+/// Whether the first line is that of a file with a page of notes.
+pub fn has_page(head: &[u8]) -> bool
+    ensures { result ≡ has_page head.now }
 {
     if head.len() < 17 {
         return false;
     }
     &head[..17] == FIRST_LINE.as_slice()
+}
+
+// Whether the first line is that of a file of format 1.
+fn has_old_line(head: &[u8]) -> bool
+    ensures { result ≡ bytes_eq (take 17 head.now) old_line }
+{
+    if head.len() < 17 {
+        return false;
+    }
+    &head[..17] == OLD_LINE.as_slice()
+}
+
+// Whether the first line is that of a journal.
+fn has_first_line(head: &[u8]) -> bool
+    ensures { result ≡ is_first_line (take 17 head.now) }
+{
+    let is_new = has_page(head);
+    let is_old = has_old_line(head);
+    is_new | is_old
 }
 
 // Whether a byte is neither a mark nor 0.
@@ -105,9 +128,10 @@ pub fn read_head(head: &[u8], size: usize) -> Result<Option<usize>, JournalError
     ensures some { IfOk result (λ found. IfSome found (λ steps. IsHead head.now size steps)) }
     ensures bound { IfOk result (λ found. IfSome found (λ steps. steps ≤ 2037)) }
     ensures none { IfOk result
-        (λ found. IfNone found (bytes_eq (take 17 head.now) first_line ≡ false)) }
+        (λ found. IfNone found (is_first_line (take 17 head.now) ≡ false)) }
     ensures damaged { IsErrOf result JournalError.Damaged
-        → (take 17 head.now ≡ first_line) × ((steps : ℕ) → IsHead head.now size steps → ⊥) }
+        → (is_first_line (take 17 head.now) ≡ true)
+        × ((steps : ℕ) → IsHead head.now size steps → ⊥) }
     ensures failed { IfErr result (λ error. error ≡ JournalError.Damaged) }
 {
     if !has_first_line(head) {
@@ -152,13 +176,23 @@ fn head_byte(at: usize) -> u8
     }
 }
 
-// Whether a byte of a file is that of a new head or 0.
-fn is_blank_byte(at: usize, byte: u8) -> bool
-    ensures { result ≡ ((byte == 0) || (byte == head_byte at)) }
+// Whether a byte is that of a new head, of either format.
+fn is_head_byte(at: usize, byte: u8) -> bool
+    ensures { result ≡ is_head_byte at byte }
 {
     let wanted = head_byte(at);
-    let is_zero = byte == 0;
     let is_wanted = byte == wanted;
+    let is_place = at == 15;
+    let is_digit = byte == b'1';
+    is_wanted | (is_place & is_digit)
+}
+
+// Whether a byte of a file is that of a new head or 0.
+fn is_blank_byte(at: usize, byte: u8) -> bool
+    ensures { result ≡ ((byte == 0) || is_head_byte at byte) }
+{
+    let is_zero = byte == 0;
+    let is_wanted = is_head_byte(at, byte);
     is_zero | is_wanted
 }
 

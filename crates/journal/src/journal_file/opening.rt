@@ -1,7 +1,7 @@
 //! Finds the head of a file, or makes it.
 ghost use Rattle.std.specs.Prelude.{◌≡◌, ◌⊎◌, ◌≤◌, ℕ, List, length, take, bytes_eq, true, false, IsTrue, IfOk, IfSome, IfNone, OnOk, IsErrOf};
 ghost use Rattle.journal.specs.Crashes.{Only};
-ghost use Rattle.journal.specs.Head.{first_line, is_blank, IsHeaded};
+ghost use Rattle.journal.specs.Head.{is_first_line, is_blank, IsHeaded};
 ghost use Rattle.journal.specs.Selector.{SameSelector, IsUnused};
 
 use crate::JournalError;
@@ -46,9 +46,9 @@ fn find_head<D: Disk>(disk: &mut D, block: &mut Vec<u8>) -> Result<Option<usize>
         × (length block.new.items ≡ length (D.seen disk.old)))) }
     ensures unknown { IsErrOf result JournalError.UnknownFormat → IsTrue (D.is_clean disk.new)
         → (is_blank (D.seen disk.old) ≡ false)
-        × (bytes_eq (take 17 (D.seen disk.old)) first_line ≡ false) }
+        × (is_first_line (take 17 (D.seen disk.old)) ≡ false) }
     ensures damaged { IsErrOf result JournalError.Damaged → IsTrue (D.is_clean disk.new)
-        → (take 17 (D.seen disk.old) ≡ first_line)
+        → (is_first_line (take 17 (D.seen disk.old)) ≡ true)
         × ((steps : ℕ) → IsHeaded (D.seen disk.old) steps → ⊥) }
     ensures clean { IsTrue (D.is_clean disk.new) → IsTrue (D.is_clean disk.old) }
     ensures seen { D.seen disk.new ≡ D.seen disk.old }
@@ -79,9 +79,9 @@ pub fn has_head<D: Disk>(alloc: Global, disk: &mut D) -> Result<bool, JournalErr
         → is_blank (D.seen disk.old) ≡ true) }
     ensures unknown { IsErrOf result JournalError.UnknownFormat → IsTrue (D.is_clean disk.new)
         → (is_blank (D.seen disk.old) ≡ false)
-        × (bytes_eq (take 17 (D.seen disk.old)) first_line ≡ false) }
+        × (is_first_line (take 17 (D.seen disk.old)) ≡ false) }
     ensures damaged { IsErrOf result JournalError.Damaged → IsTrue (D.is_clean disk.new)
-        → (take 17 (D.seen disk.old) ≡ first_line)
+        → (is_first_line (take 17 (D.seen disk.old)) ≡ true)
         × ((steps : ℕ) → IsHeaded (D.seen disk.old) steps → ⊥) }
     ensures clean { IsTrue (D.is_clean disk.new) → IsTrue (D.is_clean disk.old) }
     ensures seen { D.seen disk.new ≡ D.seen disk.old }
@@ -176,9 +176,9 @@ pub fn open_disk<D: Disk>(alloc: Global, disk: &mut D) -> Result<usize, JournalE
         → (D.seen disk.new ≡ D.seen disk.old) ⊎ (is_blank (D.seen disk.old) ≡ true) }
     ensures unknown { IsErrOf result JournalError.UnknownFormat → IsTrue (D.is_clean disk.new)
         → (is_blank (D.seen disk.old) ≡ false)
-        × (bytes_eq (take 17 (D.seen disk.old)) first_line ≡ false) }
+        × (is_first_line (take 17 (D.seen disk.old)) ≡ false) }
     ensures damaged { IsErrOf result JournalError.Damaged → IsTrue (D.is_clean disk.new)
-        → (take 17 (D.seen disk.old) ≡ first_line)
+        → (is_first_line (take 17 (D.seen disk.old)) ≡ true)
         × ((steps : ℕ) → IsHeaded (D.seen disk.old) steps → ⊥) }
     ensures clean { IsTrue (D.is_clean disk.new) → IsTrue (D.is_clean disk.old) }
 {

@@ -2,7 +2,7 @@
 ghost use Rattle.std.specs.Prelude.{◌≡◌, ◌⊎◌, ◌≤◌, ◌==◌, ℕ, List, length, take, slice_index, bytes_eq, IsTrue, IfOk, IfErr, OnOk, IsErrOf, true, false};
 ghost use Rattle.sqlite_disk.specs.Disk.{Follows};
 ghost use Rattle.journal.specs.Crashes.{Only, written};
-ghost use Rattle.journal.specs.Head.{first_line, selector_of, is_blank, IsHeaded};
+ghost use Rattle.journal.specs.Head.{is_first_line, selector_of, is_blank, IsHeaded};
 ghost use Rattle.journal.specs.Selector.{tail_of, selector_bytes, other_counts, HasSelector, SelectorLeft, SameSelector};
 
 use crate::JournalError;
@@ -101,9 +101,9 @@ pub fn find<D: Disk>(alloc: Global, disk: &mut D) -> Result<Found, JournalError>
         → (D.seen disk.new ≡ D.seen disk.old) ⊎ (is_blank (D.seen disk.old) ≡ true) }
     ensures unknown { IsErrOf result JournalError.UnknownFormat → IsTrue (D.is_clean disk.new)
         → (is_blank (D.seen disk.old) ≡ false)
-        × (bytes_eq (take 17 (D.seen disk.old)) first_line ≡ false) }
+        × (is_first_line (take 17 (D.seen disk.old)) ≡ false) }
     ensures damaged { IsErrOf result JournalError.Damaged → IsTrue (D.is_clean disk.new)
-        → (take 17 (D.seen disk.old) ≡ first_line)
+        → (is_first_line (take 17 (D.seen disk.old)) ≡ true)
         × ((steps : ℕ) → IsHeaded (D.seen disk.old) steps → ⊥) }
     ensures clean { IsTrue (D.is_clean disk.new) → IsTrue (D.is_clean disk.old) }
 {
@@ -132,9 +132,9 @@ pub fn selected<D: Disk>(alloc: Global, disk: &mut D) -> Result<bool, JournalErr
         → (D.may_leave disk.old c) ⊎ SameSelector (D.seen disk.old) c }
     ensures unknown { IsErrOf result JournalError.UnknownFormat → IsTrue (D.is_clean disk.new)
         → (is_blank (D.seen disk.old) ≡ false)
-        × (bytes_eq (take 17 (D.seen disk.old)) first_line ≡ false) }
+        × (is_first_line (take 17 (D.seen disk.old)) ≡ false) }
     ensures damaged { IsErrOf result JournalError.Damaged → IsTrue (D.is_clean disk.new)
-        → (take 17 (D.seen disk.old) ≡ first_line)
+        → (is_first_line (take 17 (D.seen disk.old)) ≡ true)
         × ((steps : ℕ) → IsHeaded (D.seen disk.old) steps → ⊥) }
     ensures clean { IsTrue (D.is_clean disk.new) → IsTrue (D.is_clean disk.old) }
 {
@@ -173,4 +173,19 @@ pub fn select<D: Disk>(disk: &mut D, is_standby: bool) -> Result<(), JournalErro
     }
     put_selector(disk, is_standby)?;
     Ok(())
+}
+
+/// Whether the other file counts, by the head of the first one, where that has a head. It isn't
+/// changed.
+pub fn selects<D: Disk>(disk: &mut D) -> Result<bool, JournalError>
+    ensures other { IfOk result (λ is_standby. IsTrue (D.is_clean disk.new)
+        → is_standby ≡ other_counts (D.seen disk.old)) }
+    ensures failed { IfErr result (λ error. error ≡ JournalError.DiskFailed) }
+    ensures clean { IsTrue (D.is_clean disk.new) → IsTrue (D.is_clean disk.old) }
+    ensures seen { D.seen disk.new ≡ D.seen disk.old }
+    ensures crash { (c : List ℕ) → D.may_leave disk.new c → D.may_leave disk.old c }
+{
+    let said = read_selector(disk)?;
+    let is_standby = said.is_standby;
+    Ok(is_standby)
 }

@@ -1,6 +1,6 @@
-use Rattle.std.proofs.Common.{◌≡◌, ◌∙◌, ap, sym, refl, subst, List, ℕ, take, inl, inr}
+use Rattle.std.proofs.Common.{◌≡◌, ◌∙◌, ap, sym, refl, subst, List, ℕ, take, true, inl, inr}
 use Rattle.journal.proofs.ReadHeads.{same_error}
-use Rattle.journal.specs.Head.{first_line, is_blank, IsHeaded}
+use Rattle.journal.specs.Head.{is_first_line, is_blank, IsHeaded}
 use Rattle.journal.proofs.Selectors.{unchanged}
 use Rattle.journal.proofs.Openings.{opened_left}
 use Rattle.journal.proofs.journal_file.opening.open_disk.Goals as goal
@@ -63,7 +63,8 @@ returns-in-Some-clause-crash g c clean out left =
 -- the head that was found
 pub returns-in_err-steps-clause-damaged : goal.returns-in_err-steps-clause-damaged
 returns-in_err-steps-clause-damaged g c is clean =
-    subst (λ (t : List ℕ). (take 17 t ≡ first_line) × ((steps : ℕ) → IsHeaded t steps → ⊥))
+    subst (λ (t : List ℕ). (is_first_line (take 17 t) ≡ true)
+    × ((steps : ℕ) → IsHeaded t steps → ⊥))
     c.sync.ensures.seen (c.in_err-steps.ensures.damaged
     (same_error _ _ _ _ refl c.from_residual-in_err-steps.ensures.1 is) clean)
 

@@ -1,0 +1,5 @@
+use Rattle.journal.proofs.Witnesses.{witness_found}
+use Rattle.journal.proofs.laws.a_witness_is_found.Goals as goal
+
+pub returns : goal.returns
+returns c = record { found = witness_found }
