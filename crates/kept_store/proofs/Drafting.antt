@@ -3,13 +3,13 @@ use Rattle.std.proofs.Common.{◌≡◌, ◌∙◌, ap, sym, refl, ℕ, List, []
 use Rattle.journal.specs.Text.{lines_text, IsLine, AreLines}
 use Rattle.journal.specs.Groups.{HasGroups, added}
 use Rattle.journal.proofs.TextLines.{lines_text-append}
-use Rattle.kept_store.specs.Checkpoints.{first_sum, IsBlank, Drafts}
+use Rattle.kept_store.specs.Checkpoints.{IsBlank, Drafts}
 
 -- a blank file has no group
-pub begun : (text : List ℕ) (outcomes : List ℕ → Type 0) (last pending : List ℕ)
-    → IsBlank text outcomes → last ≡ first_sum → pending ≡ []
-    → Drafts text outcomes last 0 pending
-begun text outcomes last pending blank is none = record {
+pub begun : (first text : List ℕ) (outcomes : List ℕ → Type 0) (last pending : List ℕ)
+    → IsBlank text outcomes → last ≡ first → pending ≡ []
+    → Drafts first text outcomes last 0 pending
+begun first text outcomes last pending blank is none = record {
   groups = [];
   has = record {
     room = length text;
@@ -30,10 +30,10 @@ lines_more [] line all one = (one, tt)
 lines_more (l ∷ lines) line all one = (all.0, lines_more lines line all.1 one)
 
 -- one more line waits
-more_waits : (text : List ℕ) (outcomes : List ℕ → Type 0) (last : List ℕ) (end : ℕ)
+more_waits : (first text : List ℕ) (outcomes : List ℕ → Type 0) (last : List ℕ) (end : ℕ)
     (old new line : List ℕ) → IsLine line → new ≡ (old ++ line) ++ 10 ∷ []
-    → Drafts text outcomes last end old → Drafts text outcomes last end new
-more_waits text outcomes last end old new line one more d = record {
+    → Drafts first text outcomes last end old → Drafts first text outcomes last end new
+more_waits first text outcomes last end old new line one more d = record {
   groups = d.groups;
   has = d.has;
   waiting = d.waiting ++ line ∷ [];
@@ -45,25 +45,26 @@ more_waits text outcomes last end old new line one more d = record {
 
 module _ {Log : Type 0} (text : Log → List ℕ) (outcomes : Log → List ℕ → Type 0) where
   -- the same, where the rest of a journal is as it was
-  pub pushed : (log same : Log) (last sum : List ℕ) (end place : ℕ) (old new line : List ℕ)
+  pub pushed : (first : List ℕ) (log same : Log) (last sum : List ℕ) (end place : ℕ)
+      (old new line : List ℕ)
       → same ≡ log → sum ≡ last → place ≡ end → IsLine line → new ≡ (old ++ line) ++ 10 ∷ []
-      → Drafts (text log) (outcomes log) last end old
-      → Drafts (text same) (outcomes same) sum place new
-  pushed log same last sum end place old new line logs sums places one more d =
+      → Drafts first (text log) (outcomes log) last end old
+      → Drafts first (text same) (outcomes same) sum place new
+  pushed first log same last sum end place old new line logs sums places one more d =
       rw (logs, sums, places)
-      (more_waits (text log) (outcomes log) last end old new line one more d)
+      (more_waits first (text log) (outcomes log) last end old new line one more d)
 
-module _ (text new : List ℕ) (outcomes left : List ℕ → Type 0) (last after : List ℕ)
+module _ (first text new : List ℕ) (outcomes left : List ℕ → Type 0) (last after : List ℕ)
     (end further : ℕ) where
   -- what makes room keeps the groups
   pub grown : (old pending : List ℕ) → pending ≡ old
       → ((first : List ℕ) (groups : List (List (List ℕ)))
       → HasGroups text outcomes last end first groups
       → HasGroups new left after further first groups)
-      → Drafts text outcomes last end old → Drafts new left after further pending
+      → Drafts first text outcomes last end old → Drafts first new left after further pending
   grown old pending same keeps d = record {
     groups = d.groups;
-    has = keeps first_sum d.groups d.has;
+    has = keeps first d.groups d.has;
     waiting = d.waiting;
     each = d.each;
     waits = same ∙ d.waits;
@@ -74,10 +75,10 @@ module _ (text new : List ℕ) (outcomes left : List ℕ → Type 0) (last after
       → ((first : List ℕ) (groups : List (List (List ℕ))) (lines : List (List ℕ))
       → HasGroups text outcomes last end first groups → AreLines lines → old ≡ lines_text lines
       → HasGroups new left after further first (added groups lines))
-      → Drafts text outcomes last end old → Drafts new left after further pending
+      → Drafts first text outcomes last end old → Drafts first new left after further pending
   settled old pending none more d = record {
     groups = added d.groups d.waiting;
-    has = more first_sum d.groups d.waiting d.has d.each d.waits;
+    has = more first d.groups d.waiting d.has d.each d.waits;
     waiting = [];
     each = tt;
     waits = none;

@@ -7,30 +7,26 @@ use Rattle.journal.specs.Groups.{HasGroups}
 use Rattle.kept_run.specs.Runs.{lines_of}
 use Rattle.kept_store.specs.Replays.{store_after}
 
--- the sum before the first group: 64 times the digit 0
-abbrev pub first_sum : List ℕ
-first_sum = replicate 64 48
-
 -- the file is zeros alone, and they are on the disk
 pub record IsBlank (text : List ℕ) (outcomes : List ℕ → Type 0) : Type 0 where
   pub zeros : text ≡ replicate (length text) 0
   pub durable : Only text outcomes
 
--- Groups stand in the file, and behind them lines wait to be committed.
-pub record Drafts (text : List ℕ) (outcomes : List ℕ → Type 0) (last : List ℕ) (end : ℕ)
+-- Groups stand in the file behind a first sum, and behind them lines wait to be committed.
+pub record Drafts (first text : List ℕ) (outcomes : List ℕ → Type 0) (last : List ℕ) (end : ℕ)
     (pending : List ℕ) : Type 0 where
   pub groups : List (List (List ℕ))
-  pub has : HasGroups text outcomes last end first_sum groups
+  pub has : HasGroups text outcomes last end first groups
   pub waiting : List (List ℕ)
   pub each : AreLines waiting
   pub waits : pending ≡ lines_text waiting
 
--- The file has groups, of which the lines make this store from nothing. A run may go on behind
--- them.
-pub record Makes (text : List ℕ) (outcomes : List ℕ → Type 0) (last : List ℕ) (end : ℕ)
+-- The file has groups behind a first sum, of which the lines make this store from nothing. A run
+-- may go on behind them.
+pub record Makes (first text : List ℕ) (outcomes : List ℕ → Type 0) (last : List ℕ) (end : ℕ)
     (store : State) : Type 0 where
   pub groups : List (List (List ℕ))
-  pub has : HasGroups text outcomes last end first_sum groups
+  pub has : HasGroups text outcomes last end first groups
   pub makes : store ≡ store_after empty_store (lines_of groups)
 
 -- A checkpoint is due where a journal has more than 64 MiB and is more than four times as long as

@@ -1,6 +1,6 @@
 //! A file into which a checkpoint is written.
 ghost use Rattle.std.specs.Prelude.{◌≡◌, [], IsTrue, IfOk};
-ghost use Rattle.kept_store.specs.Checkpoints.{first_sum, IsBlank, Drafts};
+ghost use Rattle.kept_store.specs.Checkpoints.{IsBlank, Drafts};
 
 use crate::grouping::{put_line, settle};
 use crate::{CheckpointError, NotTaken};
@@ -10,21 +10,14 @@ use meta_types::Fault;
 use std::alloc::Global;
 use std::marker::Model;
 
-// The sum before the first group.
-fn first_sum() -> [u8; 64]
-    ensures { result ≡ first_sum }
-{
-    [b'0'; 64]
-}
-
-// The journal of a file that is blank.
-fn begin<E: Log + Drop>(alloc: Global, log: E) -> Journal<E>
+// The journal of a file that is blank, with this first sum.
+fn begin<E: Log + Drop>(alloc: Global, first: &[u8; 64], log: E) -> Journal<E>
     requires blank { IsTrue (E.is_clean log) → IsBlank (E.text log) (E.may_leave log) }
     ensures { IsTrue (E.is_clean result.log)
-        → Drafts (E.text result.log) (E.may_leave result.log) result.last result.end
+        → Drafts first.now (E.text result.log) (E.may_leave result.log) result.last result.end
         result.pending.items }
 {
-    let last = first_sum();
+    let last = *first;
     Journal {
         log,
         last,
@@ -37,6 +30,7 @@ fn begin<E: Log + Drop>(alloc: Global, log: E) -> Journal<E>
 #[derive(Drop)]
 pub(crate) struct Draft<E: Log + Drop> {
     journal: Journal<E>,
+    first: [u8; 64],
     error: Option<CheckpointError>,
 }
 
@@ -50,29 +44,45 @@ impl<E: Log + Drop> Model for Draft<E> {
     ghost view = { λ d. is_some d.error };
 
     ghost invariant = { λ d. d.error ≡ None → IsTrue (E.is_clean d.journal.log)
-        → Drafts (E.text d.journal.log) (E.may_leave d.journal.log) d.journal.last d.journal.end
+        → Drafts d.first (E.text d.journal.log) (E.may_leave d.journal.log) d.journal.last
+        d.journal.end
         d.journal.pending.items };
 }
 
 impl<E: Log + Drop> Draft<E> {
-    /// The draft of a file that is blank.
-    pub(crate) fn new(alloc: Global, log: E) -> Draft<E>
+    /// The draft of a file that is blank, with this first sum.
+    pub(crate) fn new(alloc: Global, first: &[u8; 64], log: E) -> Draft<E>
         requires blank { IsTrue (E.is_clean log) → IsBlank (E.text log) (E.may_leave log) }
     {
-        let journal = begin(alloc, log);
+        let journal = begin(alloc, first, log);
         Draft {
             journal,
+            first: *first,
             error: None,
         }
     }
 
-    /// Commits the lines that wait. It is a journal then, to which a run may add.
-    pub(crate) fn finish(self) -> Result<Journal<E>, NotTaken<E>>
+    /// Commits the lines that wait. It is a journal then with this first sum, to which a run may
+    /// add.
+    pub(crate) fn finish(self, first: &[u8; 64]) -> Result<Journal<E>, NotTaken<E>>
         ensures ok { IfOk result (λ journal. IsTrue (E.is_clean journal.log)
-            → Drafts (E.text journal.log) (E.may_leave journal.log) journal.last journal.end []) }
+            → Drafts first.now (E.text journal.log) (E.may_leave journal.log) journal.last
+            journal.end []) }
         ensures empty { IfOk result (λ journal. journal.pending.items ≡ []) }
     {
-        let Draft { mut journal, error } = self;
+        let Draft {
+            mut journal,
+            first: begun,
+            error,
+        } = self;
+
+        // For the prover: what wrote the lines doesn't tell that it left the first sum.
+        if begun != *first {
+            return Err(NotTaken {
+                error: CheckpointError::Differs,
+                log: journal.log,
+            });
+        }
         if let Some(error) = error {
             return Err(NotTaken {
                 error,
@@ -90,7 +100,7 @@ impl<E: Log + Drop> Draft<E> {
 
     /// Why its writer gave up: for memory, unless the file was the reason.
     pub(crate) fn give_up(self) -> NotTaken<E> {
-        let Draft { journal, error } = self;
+        let Draft { journal, error, .. } = self;
         NotTaken {
             error: error.unwrap_or(CheckpointError::OutOfMemory),
             log: journal.log,

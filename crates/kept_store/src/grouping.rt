@@ -81,10 +81,10 @@ fn make_room<E: Log + Drop>(journal: &mut Journal<E>) -> Result<(), CheckpointEr
 
 /// Commits the lines that wait.
 pub(crate) fn settle<E: Log + Drop>(journal: &mut Journal<E>) -> Result<(), CheckpointError>
-    ensures ok { OnOk result (IsTrue (E.is_clean journal.old.log)
-        → Drafts (E.text journal.old.log) (E.may_leave journal.old.log) journal.old.last
+    ensures ok { OnOk result ((first : List ℕ) → IsTrue (E.is_clean journal.old.log)
+        → Drafts first (E.text journal.old.log) (E.may_leave journal.old.log) journal.old.last
         journal.old.end journal.old.pending.items
-        → Drafts (E.text journal.new.log) (E.may_leave journal.new.log) journal.new.last
+        → Drafts first (E.text journal.new.log) (E.may_leave journal.new.log) journal.new.last
         journal.new.end journal.new.pending.items) }
     ensures empty { OnOk result (journal.new.pending.items ≡ []) }
     ensures calm { E.is_clean journal.new.log ≡ E.is_clean journal.old.log }
@@ -104,10 +104,10 @@ fn is_full(pending: usize, line: usize) -> bool {
 
 // Commits the lines that wait where one more is too many for their group.
 fn settle_full<E: Log + Drop>(journal: &mut Journal<E>, line: &[u8]) -> Result<(), CheckpointError>
-    ensures ok { OnOk result (IsTrue (E.is_clean journal.old.log)
-        → Drafts (E.text journal.old.log) (E.may_leave journal.old.log) journal.old.last
+    ensures ok { OnOk result ((first : List ℕ) → IsTrue (E.is_clean journal.old.log)
+        → Drafts first (E.text journal.old.log) (E.may_leave journal.old.log) journal.old.last
         journal.old.end journal.old.pending.items
-        → Drafts (E.text journal.new.log) (E.may_leave journal.new.log) journal.new.last
+        → Drafts first (E.text journal.new.log) (E.may_leave journal.new.log) journal.new.last
         journal.new.end journal.new.pending.items) }
     ensures calm { E.is_clean journal.new.log ≡ E.is_clean journal.old.log }
 {
@@ -120,9 +120,10 @@ fn settle_full<E: Log + Drop>(journal: &mut Journal<E>, line: &[u8]) -> Result<(
 
 // Puts a line behind those that wait.
 fn push<E: Log + Drop>(journal: &mut Journal<E>, line: &[u8]) -> Result<(), CheckpointError>
-    ensures ok { OnOk result (Drafts (E.text journal.old.log) (E.may_leave journal.old.log)
+    ensures ok { OnOk result ((first : List ℕ)
+        → Drafts first (E.text journal.old.log) (E.may_leave journal.old.log)
         journal.old.last journal.old.end journal.old.pending.items
-        → Drafts (E.text journal.new.log) (E.may_leave journal.new.log) journal.new.last
+        → Drafts first (E.text journal.new.log) (E.may_leave journal.new.log) journal.new.last
         journal.new.end journal.new.pending.items) }
     ensures calm { E.is_clean journal.new.log ≡ E.is_clean journal.old.log }
 {
@@ -138,10 +139,10 @@ pub(crate) fn put_line<E: Log + Drop>(
     journal: &mut Journal<E>,
     line: &[u8],
 ) -> Result<(), CheckpointError>
-    ensures ok { OnOk result (IsTrue (E.is_clean journal.old.log)
-        → Drafts (E.text journal.old.log) (E.may_leave journal.old.log) journal.old.last
+    ensures ok { OnOk result ((first : List ℕ) → IsTrue (E.is_clean journal.old.log)
+        → Drafts first (E.text journal.old.log) (E.may_leave journal.old.log) journal.old.last
         journal.old.end journal.old.pending.items
-        → Drafts (E.text journal.new.log) (E.may_leave journal.new.log) journal.new.last
+        → Drafts first (E.text journal.new.log) (E.may_leave journal.new.log) journal.new.last
         journal.new.end journal.new.pending.items) }
     ensures calm { E.is_clean journal.new.log ≡ E.is_clean journal.old.log }
 {

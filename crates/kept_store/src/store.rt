@@ -37,6 +37,7 @@ pub struct KeptStore<L: Ledger> {
     workers: Workers,
     memory: LineMemory,
     checkpoint: Option<usize>,
+    pause: Option<usize>,
     pub(crate) seed: Seed,
 }
 
@@ -72,6 +73,7 @@ impl<L: Ledger> KeptStore<L> {
             workers: Workers::ONE,
             memory,
             checkpoint: None,
+            pause: None,
             seed,
         })
     }
@@ -81,6 +83,21 @@ impl<L: Ledger> KeptStore<L> {
         ensures { self.new ≡ self.old }
     {
         self.workers = workers;
+    }
+
+    /// Whether a checkpoint is due where the journal goes so far.
+    pub fn wants_checkpoint(&self, end: usize) -> bool {
+        match self.checkpoint {
+            Some(bytes) => is_due(end, bytes),
+            None => false,
+        }
+    }
+
+    /// From now on a run stops where its journal goes so far, as where a checkpoint is due.
+    pub fn set_pause(&mut self, end: usize)
+        ensures { self.new ≡ self.old }
+    {
+        self.pause = Some(end);
     }
 
     /// From now on a run is due for a checkpoint, by the size of the last one in bytes, or 0. Without
@@ -213,8 +230,11 @@ impl<L: Ledger> Service for KeptStore<L> {
     }
 
     fn is_due(&self, end: usize) -> bool {
-        match self.checkpoint {
-            Some(bytes) => is_due(end, bytes),
+        if self.wants_checkpoint(end) {
+            return true;
+        }
+        match self.pause {
+            Some(pause) => end >= pause,
             None => false,
         }
     }

@@ -3,7 +3,7 @@ ghost use Rattle.std.specs.Prelude.{◌≡◌, [], List, ℕ, take, IsTrue, IfOk
 ghost use Rattle.meta_types.specs.Rows.{empty_store};
 ghost use Rattle.journal.specs.Groups.{HasGroups};
 ghost use Rattle.kept_store.specs.Replays.{store_after, requests_in};
-ghost use Rattle.kept_store.specs.Checkpoints.{first_sum, IsBlank, Drafts, Makes};
+ghost use Rattle.kept_store.specs.Checkpoints.{IsBlank, Drafts, Makes};
 
 use crate::draft::Draft;
 use crate::error::replay_error;
@@ -22,20 +22,22 @@ use std::thread::Threads;
 // Writes the lines of a store into a blank file.
 fn write<L: Ledger, E: Log + Drop>(
     alloc: Global,
+    first: &[u8; 64],
     store: &KeptStore<L>,
     log: E,
 ) -> Result<Journal<E>, NotTaken<E>>
     requires blank { IsTrue (E.is_clean log) → IsBlank (E.text log) (E.may_leave log) }
     ensures ok { IfOk result (λ journal. IsTrue (E.is_clean journal.log)
-        → Drafts (E.text journal.log) (E.may_leave journal.log) journal.last journal.end []) }
+        → Drafts first.now (E.text journal.log) (E.may_leave journal.log) journal.last
+        journal.end []) }
     ensures empty { IfOk result (λ journal. journal.pending.items ≡ []) }
 {
-    let mut draft = Draft::new(alloc, log);
+    let mut draft = Draft::new(alloc, first, log);
     match write_checkpoint(alloc, store.state(), &mut draft) {
         Ok(()) => {}
         Err(_) => return Err(draft.give_up()),
     }
-    draft.finish()
+    draft.finish(first)
 }
 
 // Whether two stores are the same.
@@ -117,10 +119,10 @@ fn compare<L: Ledger, N: Ledger, E: Log + Drop, T: Threads + Wait + Sync>(
     requires name { blank.name ≡ N.name }
     requires parts { (blank.parts ≡ N.parts) × (blank.parts ≡ 65536) }
     ensures ok { OnOk result (IsTrue (E.is_clean journal.new.log)
-        → (groups : List (List (List ℕ)))
+        → (first : List ℕ) (groups : List (List (List ℕ)))
         → HasGroups (E.text journal.old.log)
-        (E.may_leave journal.old.log) journal.old.last journal.old.end first_sum groups
-        → Makes (E.text journal.new.log) (E.may_leave journal.new.log) journal.new.last
+        (E.may_leave journal.old.log) journal.old.last journal.old.end first groups
+        → Makes first (E.text journal.new.log) (E.may_leave journal.new.log) journal.new.last
         journal.new.end store.now) }
     ensures waits { journal.new.pending.items ≡ journal.old.pending.items }
     ensures clean { IsTrue (E.is_clean journal.new.log) → IsTrue (E.is_clean journal.old.log) }
@@ -138,13 +140,14 @@ fn compare<L: Ledger, N: Ledger, E: Log + Drop, T: Threads + Wait + Sync>(
     Ok(())
 }
 
-/// Takes a checkpoint of a store: writes its lines into a blank file, in groups of at most 1 MiB,
-/// does them again from there into an empty store, with one worker, and compares both. The journal
-/// is one to which a run may add. The blank has 65,536 parts.
+/// Takes a checkpoint of a store: writes its lines into a blank file behind a first sum, in groups
+/// of at most 1 MiB, does them again from there into an empty store, with one worker, and compares
+/// both. The journal is one to which a run may add. The blank has 65,536 parts.
 pub fn take_checkpoint<L: Ledger, N: Ledger, E: Log + Drop, T: Threads + Wait + Sync>(
     rt: &T,
     alloc: Global,
     blank: Blank,
+    first: &[u8; 64],
     store: &KeptStore<L>,
     log: E,
 ) -> Result<Journal<E>, NotTaken<E>>
@@ -152,11 +155,11 @@ pub fn take_checkpoint<L: Ledger, N: Ledger, E: Log + Drop, T: Threads + Wait + 
     requires parts { (blank.parts ≡ N.parts) × (blank.parts ≡ 65536) }
     requires blank { IsTrue (E.is_clean log) → IsBlank (E.text log) (E.may_leave log) }
     ensures ok { IfOk result (λ journal. IsTrue (E.is_clean journal.log)
-        → Makes (E.text journal.log) (E.may_leave journal.log) journal.last journal.end
-        store.now) }
+        → Makes first.now (E.text journal.log) (E.may_leave journal.log) journal.last
+        journal.end store.now) }
     ensures empty { IfOk result (λ journal. journal.pending.items ≡ []) }
 {
-    let mut journal = write(alloc, store, log)?;
+    let mut journal = write(alloc, first, store, log)?;
     match compare::<L, N, E, T>(rt, alloc, blank, store, &mut journal) {
         Ok(()) => {}
         Err(error) => {

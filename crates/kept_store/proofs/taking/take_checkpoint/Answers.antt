@@ -4,7 +4,7 @@ use Rattle.kept_store.proofs.taking.take_checkpoint.Goals as goal
 pub returns-clause-ok : goal.returns-clause-ok
 returns-clause-ok g c clean =
     let drafts = c.in_ok-journal.ensures.ok (c.compare.ensures.clean clean) in
-    c.in-Ok.ensures.ok clean drafts.groups drafts.has
+    c.in-Ok.ensures.ok clean c.args.first.now drafts.groups drafts.has
 
 -- where the lines can't be written, nothing is promised of a journal
 pub returns-in_err-journal-clause-ok : goal.returns-in_err-journal-clause-ok
