@@ -1,2 +1,1 @@
-mod Blanked
 mod Rooms

@@ -1,11 +1,12 @@
 //! How a service ends that can't start, or ends early.
 
 use crate::finding::find;
+use crate::heads::Unfit;
 use crate::names::Names;
 use crate::plain_file::has_bytes;
 use crate::telling::{
     fault_of, tell, tell_at, tell_damage, tell_format, tell_found, tell_head, tell_missing,
-    tell_no_store,
+    tell_no_store, tell_unfit,
 };
 use journal::{JournalError, Log};
 use kept_run::RunError;
@@ -70,9 +71,18 @@ pub fn not_read(rt: &HostRuntime, path: &str, error: JournalError) -> ExitCode {
     }
 }
 
+/// How a start ends whose files don't belong together, or whose file that counts isn't whole.
+pub fn not_fit(rt: &HostRuntime, names: Names<'_>, is_second: bool, unfit: Unfit) -> ExitCode {
+    match unfit {
+        Unfit::NoStore if is_second => tell_missing(rt, names.second),
+        Unfit::NoStore => tell_no_store(rt, names.folder),
+        unfit => tell_unfit(rt, names.of(is_second), unfit),
+    }
+}
+
 // Tells what a damaged journal holds.
-fn tell_rest<D: Log>(rt: &HostRuntime, path: &str, log: &mut D) -> ExitCode {
-    match find(rt.alloc(), log) {
+fn tell_rest<D: Log>(rt: &HostRuntime, path: &str, first: &[u8; 64], log: &mut D) -> ExitCode {
+    match find(rt.alloc(), first, log) {
         Ok(found) => {
             tell_found(rt, path, found.lines, &found.sound);
             tell_damage(rt, path, found.sound.end)
@@ -85,13 +95,14 @@ fn tell_rest<D: Log>(rt: &HostRuntime, path: &str, log: &mut D) -> ExitCode {
 pub fn not_started<D: Log>(
     rt: &HostRuntime,
     path: &str,
+    first: &[u8; 64],
     log: &mut D,
     error: StartError,
 ) -> ExitCode {
     match error {
         StartError::OutOfMemory => tell_at(rt, path, Fault::OutOfMemory),
         StartError::DiskFailed => tell_at(rt, path, Fault::ReadFailed),
-        StartError::Damaged => tell_rest(rt, path, log),
+        StartError::Damaged => tell_rest(rt, path, first, log),
         StartError::UnknownFormat => tell_format(rt, path),
         StartError::Refused => {
             let _told = eprintln!(rt; "metad: {path}: this metad refuses a line that is kept");

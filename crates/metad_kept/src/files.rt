@@ -3,7 +3,7 @@ ghost use Rattle.std.specs.Prelude.{◌≡◌};
 
 use crate::names::{Names, OwnNames};
 use crate::telling_file::TellingFile;
-use journal::{Active, Journal, JournalFile};
+use journal::{Active, Journal, JournalFile, Log, Note, Paged};
 use sqlite_disk::Disk;
 
 /// The disk of the file that doesn't count.
@@ -25,15 +25,23 @@ impl<D: Disk + Drop> Spare<D> {
     }
 }
 
+/// A file that counts.
+pub type CountingFile<D> = JournalFile<D, Active>;
+
+/// Its text, behind its page.
+pub type Text<D> = Paged<CountingFile<D>>;
+
 /// The journal of the file that counts.
-pub type Counting<D> = Journal<TellingFile<JournalFile<D, Active>>>;
+pub type Counting<D> = Journal<TellingFile<Text<D>>>;
 
 /// The journal of the file that counts, and the other file.
 #[derive(Drop)]
-pub struct Files<'a, D: Disk + Drop> {
+pub struct Files<'a, D: Disk + Drop, E: Log + Drop> {
     pub rt: &'a HostRuntime,
     pub names: Names<'a>,
-    pub journal: Counting<D>,
+    /// What is known of the file that counts: its store's identity, its generation.
+    pub card: Note,
+    pub journal: Journal<TellingFile<Paged<E>>>,
     pub spare: Spare<D>,
 }
 
@@ -42,8 +50,8 @@ pub fn telling<D: Disk + Drop>(
     rt: &HostRuntime,
     names: OwnNames,
     is_second: bool,
-    log: JournalFile<D, Active>,
-) -> TellingFile<JournalFile<D, Active>>
+    log: Text<D>,
+) -> TellingFile<Text<D>>
     ensures { result.log ≡ log }
 {
     TellingFile {

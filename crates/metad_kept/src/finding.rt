@@ -3,7 +3,7 @@
 use journal::{JournalError, Log, Reader, Sound, cut_line, is_commit, read_lines};
 use std::alloc::Global;
 
-/// The first sum of a journal without a checkpoint.
+/// The first sum of a file of format 1.
 pub const FIRST: [u8; 64] = [b'0'; 64];
 
 // How many bytes are read at a time.
@@ -52,12 +52,16 @@ fn read_block(reader: &mut Reader, block: &[u8], sound: &mut Sound) -> Result<bo
 }
 
 // How far the groups go, and whether damage follows them.
-fn find_sound<D: Log>(alloc: Global, log: &mut D) -> Result<(Sound, bool), JournalError> {
+fn find_sound<D: Log>(
+    alloc: Global,
+    first: &[u8; 64],
+    log: &mut D,
+) -> Result<(Sound, bool), JournalError> {
     let size = log.size()?;
-    let mut reader = Reader::new(alloc, &FIRST);
+    let mut reader = Reader::new(alloc, first);
     let mut sound = Sound {
         end: 0,
-        last: FIRST,
+        last: *first,
     };
     let mut block: Vec<u8> = Vec::new(alloc);
     let mut at = 0usize;
@@ -114,8 +118,12 @@ fn count_lines<D: Log>(alloc: Global, log: &mut D, end: usize) -> Result<u64, Jo
 }
 
 // What a file holds, read once.
-fn find_once<D: Log>(alloc: Global, log: &mut D) -> Result<Finding, JournalError> {
-    let (sound, is_damaged) = find_sound(alloc, log)?;
+fn find_once<D: Log>(
+    alloc: Global,
+    first: &[u8; 64],
+    log: &mut D,
+) -> Result<Finding, JournalError> {
+    let (sound, is_damaged) = find_sound(alloc, first, log)?;
     let lines = count_lines(alloc, log, sound.end)?;
     Ok(Finding {
         lines,
@@ -124,16 +132,17 @@ fn find_once<D: Log>(alloc: Global, log: &mut D) -> Result<Finding, JournalError
     })
 }
 
-/// What a file holds. It is left as it is. A program may write to it meanwhile: then parts of two
-/// moments may look damaged. So only damage that is found twice behind the same byte is damage.
-pub fn find<D: Log>(alloc: Global, log: &mut D) -> Result<Finding, JournalError> {
-    let mut found = find_once(alloc, log)?;
+/// What a file with this first sum holds. It is left as it is. A program may write to it
+/// meanwhile: then parts of two moments may look damaged. So only damage that is found twice
+/// behind the same byte is damage.
+pub fn find<D: Log>(alloc: Global, first: &[u8; 64], log: &mut D) -> Result<Finding, JournalError> {
+    let mut found = find_once(alloc, first, log)?;
     'again: for _ in 0..u64::MAX {
         if !found.is_damaged {
             break;
         }
         let end = found.sound.end;
-        found = find_once(alloc, log)?;
+        found = find_once(alloc, first, log)?;
         if found.sound.end == end {
             break;
         }

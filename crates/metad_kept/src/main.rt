@@ -4,12 +4,12 @@
 mod ending;
 mod files;
 mod finding;
+mod heads;
 mod names;
 mod plain_file;
 mod reading;
 mod renewing;
 mod running;
-mod scripting;
 mod serving;
 mod starting;
 mod telling;
@@ -31,7 +31,8 @@ use std::sync::Wait;
 use std::thread::Threads;
 
 // The words of a run.
-const SERVING: &str = "metad serve --dir DIR [--new] [--workers 1..16] [--checkpoint]";
+const SERVING: &str =
+    "metad serve --dir DIR [--new] [--workers 1..16] [--checkpoint] [--accept-loss]";
 
 // How a program ends whose words ask for nothing.
 fn usage(rt: &HostRuntime) -> ExitCode {

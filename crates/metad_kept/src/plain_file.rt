@@ -1,7 +1,7 @@
 //! A journal's file that is only read, without its lock. No clause says what such a file gives.
 ghost use Rattle.std.specs.Prelude.{◌≡◌, ◌≤◌, [], length, false, OnOk};
 
-use journal::{HEAD, JournalError, Log, STEP, is_blank, read_head};
+use journal::{HEAD, JournalError, Log, STEP, has_page, is_blank, read_head};
 use std::alloc::{AllocError, Global};
 use std::fs;
 use std::os::unix::fs::FileExt;
@@ -28,6 +28,8 @@ pub struct PlainFile {
     size: usize,
     /// Its head says that the other file counts.
     pub names_other: bool,
+    /// A page of notes stands before its text.
+    pub has_page: bool,
 }
 
 // What a head says: how many steps of its file are believed, and whether the other file counts.
@@ -35,6 +37,7 @@ pub struct PlainFile {
 struct HeadFields {
     steps: usize,
     names_other: bool,
+    has_page: bool,
 }
 
 // As many bytes, whatever they are.
@@ -108,6 +111,7 @@ fn read_fields(alloc: Global, file: &fs::File) -> Result<HeadFields, PlainError>
         Ok(steps) => Ok(HeadFields {
             steps,
             names_other: names_other(&head),
+            has_page: has_page(&head),
         }),
         Err(error) => {
             if is_blank(&head) && is_new(alloc, file)? {
@@ -138,6 +142,7 @@ impl PlainFile {
             file,
             size,
             names_other: fields.names_other,
+            has_page: fields.has_page,
         })
     }
 }

@@ -1,11 +1,15 @@
 //! Answers lines, and takes a checkpoint where one is due.
 ghost use Rattle.std.specs.Prelude.{◌≡◌, [], IfOk, IfSome};
 
-use crate::files::Files;
-use crate::renewing::{Why, next_size, renew};
-use crate::telling::{tell_checkpoint, tell_found, tell_no_checkpoint};
+use crate::files::{CountingFile, Files, Text};
+use crate::heads::Unfit;
+use crate::renewing::{Why, leave_witness, next_size, renew};
+use crate::starting::beginning::{Cause, NotStarted};
+use crate::telling::{
+    tell_checkpoint, tell_found, tell_identity, tell_no_checkpoint, tell_unwitnessed,
+};
 use crate::telling_file::TellingFile;
-use journal::{Active, JournalError, JournalFile, Sound};
+use journal::{JournalError, Log, Note, Paged, STEP, Sound};
 use kept_run::{Input, RunError, Stop};
 use kept_store::{KeptStore, StartError, run_store};
 use sqlite_disk::Disk;
@@ -16,8 +20,11 @@ use std::thread::Threads;
 
 /// What a service tells beside its replies.
 pub trait Teller {
-    /// How many lines a start found, and how far they go.
-    fn found(&mut self, path: &str, lines: u64, sound: &Sound);
+    /// How many lines a start found, how far they go, and of which store and generation they are.
+    fn found(&mut self, path: &str, lines: u64, sound: &Sound, card: Note);
+
+    /// That a file has no witness of the one that counts.
+    fn unwitnessed(&mut self, path: &str);
 
     /// That a file has a checkpoint, which goes this far; or why it has none.
     fn renewed(&mut self, path: &str, end: usize, why: Option<Why>);
@@ -30,8 +37,13 @@ pub struct Errors<'a> {
 }
 
 impl Teller for Errors<'_> {
-    fn found(&mut self, path: &str, lines: u64, sound: &Sound) {
+    fn found(&mut self, path: &str, lines: u64, sound: &Sound, card: Note) {
         tell_found(self.rt, path, lines, sound);
+        tell_identity(self.rt, path, card);
+    }
+
+    fn unwitnessed(&mut self, path: &str) {
+        tell_unwitnessed(self.rt, path);
     }
 
     fn renewed(&mut self, path: &str, end: usize, why: Option<Why>) {
@@ -51,14 +63,30 @@ pub struct Streams<R: Read + Drop, W: Write + Drop, N: Teller + Drop> {
 }
 
 /// Why a service ended early, and where.
-pub enum Failure<'a, D: Disk + Drop> {
+pub enum Failure<'a, E: Log + Drop> {
     Head(&'a str, JournalError),
     /// The second file counts, and no line stands in it.
     Empty(&'a str),
     /// A new store was wanted, and one with lines is there.
     Taken,
-    Start(&'a str, StartError, TellingFile<JournalFile<D, Active>>),
+    /// The two files don't belong together, or the one that counts isn't whole.
+    Unfit(bool, Unfit),
+    /// The file, by its first sum.
+    Start(&'a str, StartError, [u8; 64], TellingFile<Paged<E>>),
     Run(&'a str, RunError),
+}
+
+/// Why a service doesn't start.
+pub fn failure_of<'a, D: Disk + Drop>(
+    path: &'a str,
+    first: &[u8; 64],
+    not: NotStarted<TellingFile<Text<D>>>,
+) -> Failure<'a, CountingFile<D>> {
+    match not.cause {
+        Cause::Start(error) => Failure::Start(path, error, *first, not.log),
+        Cause::Empty => Failure::Empty(path),
+        Cause::Taken => Failure::Taken,
+    }
 }
 
 // Tries a checkpoint, and tells what became of it. The next one is due by its size; where there is
@@ -66,9 +94,9 @@ pub enum Failure<'a, D: Disk + Drop> {
 fn try_checkpoint<'a, L: Ledger, T: Threads + Wait + Sync, D: Disk + Drop, N: Teller>(
     threads: &T,
     store: &mut KeptStore<L>,
-    files: Files<'a, D>,
+    files: Files<'a, D, CountingFile<D>>,
     teller: &mut N,
-) -> Result<Files<'a, D>, Failure<'a, D>>
+) -> Result<Files<'a, D, CountingFile<D>>, Failure<'a, CountingFile<D>>>
     requires { files.journal.pending.items ≡ [] }
     ensures { IfOk result (λ files. files.journal.pending.items ≡ []) }
 {
@@ -84,7 +112,43 @@ fn try_checkpoint<'a, L: Ledger, T: Threads + Wait + Sync, D: Disk + Drop, N: Te
     Ok(renewed.files)
 }
 
-// Answers lines until the input ends, or a checkpoint is due; and takes that.
+// Leaves a witness in the file that doesn't count, and tells where that failed. The next one is
+// left once the journal is so much longer.
+fn leave<'a, L: Ledger, D: Disk + Drop, N: Teller>(
+    store: &mut KeptStore<L>,
+    files: Files<'a, D, CountingFile<D>>,
+    teller: &mut N,
+) -> Files<'a, D, CountingFile<D>>
+    requires { files.journal.pending.items ≡ [] }
+    ensures { result.journal.pending.items ≡ [] }
+{
+    let path = files.names.of(files.spare.is_second());
+    let (files, is_left) = leave_witness(files);
+    if !is_left {
+        teller.unwitnessed(path);
+    }
+    store.set_pause(files.journal.end.saturating_add(STEP));
+    files
+}
+
+// Takes a checkpoint where one is due, and leaves a witness.
+fn pause<'a, L: Ledger, T: Threads + Wait + Sync, D: Disk + Drop, N: Teller>(
+    threads: &T,
+    store: &mut KeptStore<L>,
+    files: Files<'a, D, CountingFile<D>>,
+    teller: &mut N,
+) -> Result<Files<'a, D, CountingFile<D>>, Failure<'a, CountingFile<D>>>
+    requires { files.journal.pending.items ≡ [] }
+    ensures { IfOk result (λ files. files.journal.pending.items ≡ []) }
+{
+    if !store.wants_checkpoint(files.journal.end) {
+        return Ok(leave(store, files, teller));
+    }
+    let files = try_checkpoint(threads, store, files, teller)?;
+    Ok(leave(store, files, teller))
+}
+
+// Answers lines until the input ends, or until a witness or a checkpoint is due, and does that.
 fn go_on<
     'a,
     L: Ledger,
@@ -96,9 +160,9 @@ fn go_on<
 >(
     threads: &T,
     store: &mut KeptStore<L>,
-    files: Files<'a, D>,
+    files: Files<'a, D, CountingFile<D>>,
     streams: &mut Streams<R, W, N>,
-) -> Result<Option<Files<'a, D>>, Failure<'a, D>>
+) -> Result<Option<Files<'a, D, CountingFile<D>>>, Failure<'a, CountingFile<D>>>
     requires { files.journal.pending.items ≡ [] }
     ensures { IfOk result (λ next. IfSome next (λ files. files.journal.pending.items ≡ [])) }
 {
@@ -112,9 +176,12 @@ fn go_on<
         input,
         &mut streams.writer,
     ) {
-        Ok(Stop::End) => Ok(None),
+        Ok(Stop::End) => {
+            let _ended = leave(store, files, &mut streams.teller);
+            Ok(None)
+        }
         Ok(Stop::Due) => {
-            let next = try_checkpoint(threads, store, files, &mut streams.teller)?;
+            let next = pause(threads, store, files, &mut streams.teller)?;
             Ok(Some(next))
         }
         Err(error) => Err(Failure::Run(path, error)),
@@ -133,9 +200,9 @@ fn answer_all<
 >(
     threads: &T,
     store: &mut KeptStore<L>,
-    files: Files<'a, D>,
+    files: Files<'a, D, CountingFile<D>>,
     streams: &mut Streams<R, W, N>,
-) -> Result<(), Failure<'a, D>>
+) -> Result<(), Failure<'a, CountingFile<D>>>
     requires { files.journal.pending.items ≡ [] }
 {
     let first = files.names.first;
@@ -150,7 +217,7 @@ fn answer_all<
 }
 
 /// Goes on with a store that was opened, until the input ends; first with a checkpoint, where one
-/// is wanted. How long the last one was isn't known.
+/// is wanted.
 pub fn run<
     'a,
     L: Ledger,
@@ -163,14 +230,16 @@ pub fn run<
     threads: &T,
     store: &mut KeptStore<L>,
     has_checkpoint: bool,
-    files: Files<'a, D>,
+    files: Files<'a, D, CountingFile<D>>,
     streams: &mut Streams<R, W, N>,
-) -> Result<(), Failure<'a, D>>
+) -> Result<(), Failure<'a, CountingFile<D>>>
     requires { files.journal.pending.items ≡ [] }
 {
-    store.set_checkpoint(0);
+    store.set_checkpoint(next_size(files.card.end));
+    let files = leave(store, files, &mut streams.teller);
     if has_checkpoint {
         let files = try_checkpoint(threads, store, files, &mut streams.teller)?;
+        let files = leave(store, files, &mut streams.teller);
         return answer_all(threads, store, files, streams);
     }
     answer_all(threads, store, files, streams)

@@ -1,16 +1,20 @@
 //! Serves a store whose journal is in one of two files.
 ghost use Rattle.std.specs.Prelude.{◌≡◌, []};
 
-use crate::ending::{not_ended, not_opened, not_read, not_started, not_there};
-use crate::files::{Files, Spare, telling};
+mod opened;
+
+use crate::ending::{not_ended, not_fit, not_opened, not_read, not_started, not_there};
+use crate::files::{CountingFile, Files, telling};
+use crate::heads::{NoHeads, open_ready};
 use crate::names::{Names, OwnNames, is_missing, make_private};
-use crate::running::{Errors, Failure, Streams, Teller, run};
-use crate::starting::beginning::{Cause, NotStarted, Wanted, begin};
+use crate::running::{Errors, Failure, Streams, Teller, failure_of, run};
+use crate::serving::opened::{Disks, disks_of};
+use crate::starting::beginning::{begin, wanted_lines};
+use crate::starting::making::make_store;
 use crate::starting::selecting::{Selection, select_file};
 use crate::telling::{tell, tell_missing, tell_no_store, tell_taken};
-use crate::telling_file::TellingFile;
 use crate::words::Serving;
-use journal::{Active, JournalError, JournalFile, Sound};
+use journal::{JournalError, Sound};
 use kept_run::Input;
 use kept_store::KeptStore;
 use meta_types::Fault;
@@ -30,15 +34,6 @@ use table_seed::Seed;
 // ran full starts again.
 const SPARE: usize = 131_072;
 
-// A file that counts, the other one, and what both are called.
-#[derive(Drop)]
-struct Disks<'a, D: Disk + Drop> {
-    rt: &'a HostRuntime,
-    names: Names<'a>,
-    disk: D,
-    spare: Spare<D>,
-}
-
 // Tells what a start found, and answers lines.
 fn answer_lines<
     'a,
@@ -53,9 +48,9 @@ fn answer_lines<
     store: &mut KeptStore<L>,
     lines: u64,
     has_checkpoint: bool,
-    files: Files<'a, D>,
+    files: Files<'a, D, CountingFile<D>>,
     streams: &mut Streams<R, W, N>,
-) -> Result<(), Failure<'a, D>>
+) -> Result<(), Failure<'a, CountingFile<D>>>
     requires { files.journal.pending.items ≡ [] }
 {
     let path = files.names.of(!files.spare.is_second());
@@ -64,34 +59,11 @@ fn answer_lines<
         end: files.journal.end,
         last,
     };
-    streams.teller.found(path, lines, &sound);
+    streams.teller.found(path, lines, &sound, files.card);
     let spare = Vec::<u8>::with_capacity(files.rt.alloc(), SPARE);
     let result = run(threads, store, has_checkpoint, files, streams);
     drop(spare);
     result
-}
-
-// Which lines a start wants to find.
-fn wanted_lines(is_new: bool, is_second: bool) -> Wanted {
-    if is_new {
-        return Wanted::NoLines;
-    }
-    if is_second {
-        return Wanted::Lines;
-    }
-    Wanted::Any
-}
-
-// Why a service doesn't start.
-fn failure_of<'a, D: Disk + Drop>(
-    path: &'a str,
-    not: NotStarted<TellingFile<JournalFile<D, Active>>>,
-) -> Failure<'a, D> {
-    match not.cause {
-        Cause::Start(error) => Failure::Start(path, error, not.log),
-        Cause::Empty => Failure::Empty(path),
-        Cause::Taken => Failure::Taken,
-    }
 }
 
 // Opens the store of the file that counts, and serves it. The blank has 65,536 parts.
@@ -109,7 +81,7 @@ fn serve_named<
     serving: Serving,
     disks: Disks<'a, D>,
     streams: &mut Streams<R, W, N>,
-) -> Result<(), Failure<'a, D>>
+) -> Result<(), Failure<'a, CountingFile<D>>>
     requires name { fresh.blank.name ≡ L.name }
     requires parts { (fresh.blank.parts ≡ L.parts) × (fresh.blank.parts ≡ 65536) }
 {
@@ -118,26 +90,31 @@ fn serve_named<
         names,
         disk,
         spare,
+        other,
     } = disks;
-    let path = names.of(!spare.is_second());
-    let mut log = JournalFile::<D, Active>::new(rt.alloc(), disk);
-    match log.open() {
-        Ok(()) => {}
-        Err(error) => return Err(Failure::Head(path, error)),
-    }
+    let is_second = !spare.is_second();
+    let path = names.of(is_second);
+    let ready = match open_ready(rt.alloc(), rt, serving.takes_less, disk, other) {
+        Ok(ready) => ready,
+        Err(NoHeads::Journal(error)) => return Err(Failure::Head(path, error)),
+        Err(NoHeads::Unfit(unfit)) => return Err(Failure::Unfit(is_second, unfit)),
+    };
+    let (card, first) = (ready.card, ready.first);
     let Ok(own) = OwnNames::new(rt, names) else {
         return Err(Failure::Head(path, JournalError::OutOfMemory));
     };
-    let file = telling(rt, own, !spare.is_second(), log);
-    let wanted = wanted_lines(serving.is_new, !spare.is_second());
+    let file = telling(rt, own, is_second, ready.text);
+    let wanted = wanted_lines(is_second);
     let workers = serving.workers;
-    let started = match begin::<L, T, _>(threads, rt.alloc(), fresh, workers, wanted, file) {
+    let alloc = rt.alloc();
+    let started = match begin::<L, T, _>(threads, alloc, fresh, workers, wanted, &first, file) {
         Ok(started) => started,
-        Err(not) => return Err(failure_of(path, not)),
+        Err(not) => return Err(failure_of(path, &first, not)),
     };
     let files = Files {
         rt,
         names,
+        card,
         journal: started.journal,
         spare,
     };
@@ -170,7 +147,7 @@ fn serve_disks<
     serving: Serving,
     disks: Disks<'a, D>,
     streams: &mut Streams<R, W, N>,
-) -> Result<(), Failure<'a, D>> {
+) -> Result<(), Failure<'a, CountingFile<D>>> {
     let fresh = Fresh {
         blank: Blank::new(65536),
         seed,
@@ -185,7 +162,8 @@ fn serve_streams<'a, T: Threads + Wait + Sync, D: Disk + Drop>(
     disks: Disks<'a, D>,
 ) -> ExitCode {
     let rt = disks.rt;
-    let folder = disks.names.folder;
+    let names = disks.names;
+    let folder = names.folder;
     let Ok(input) = Input::new(rt.alloc(), rt.reader()) else {
         return tell(rt, Fault::OutOfMemory);
     };
@@ -202,13 +180,16 @@ fn serve_streams<'a, T: Threads + Wait + Sync, D: Disk + Drop>(
         Err(Failure::Head(path, error)) => not_read(rt, path, error),
         Err(Failure::Empty(path)) => tell_missing(rt, path),
         Err(Failure::Taken) => tell_taken(rt, folder),
+        Err(Failure::Unfit(is_second, unfit)) => not_fit(rt, names, is_second, unfit),
         Err(Failure::Run(path, error)) => not_ended(rt, path, error),
-        Err(Failure::Start(path, error, mut file)) => not_started(rt, path, &mut file, error),
+        Err(Failure::Start(path, error, first, mut file)) => {
+            not_started(rt, path, &first, &mut file, error)
+        }
     }
 }
 
-// Serves the store of two files that were just opened.
-fn serve_files<T: Threads + Wait + Sync, D: Disk + Drop>(
+// Serves the store of two files that were just opened, where one of them counts.
+fn serve_selected<T: Threads + Wait + Sync, D: Disk + Drop>(
     rt: &HostRuntime,
     threads: &T,
     names: Names<'_>,
@@ -219,31 +200,33 @@ fn serve_files<T: Threads + Wait + Sync, D: Disk + Drop>(
         log: mut second,
         db: mut first,
     } = files;
-    let is_second = match select_file(rt.alloc(), serving.is_new, &mut first, &mut second) {
-        Ok(Selection::Store { is_second: true }) if serving.is_new => {
-            return tell_taken(rt, names.folder);
-        }
+    let is_second = match select_file(rt.alloc(), &mut first, &mut second) {
         Ok(Selection::Store { is_second }) => is_second,
         Ok(Selection::Missing { is_second }) => return tell_missing(rt, names.of(is_second)),
         Ok(Selection::Nothing) => return tell_no_store(rt, names.folder),
         Err(error) => return not_read(rt, names.first, error),
     };
-    let disks = if is_second {
-        Disks {
-            rt,
-            names,
-            disk: second,
-            spare: Spare::First(first),
-        }
-    } else {
-        Disks {
-            rt,
-            names,
-            disk: first,
-            spare: Spare::Second(second),
-        }
-    };
-    serve_streams(threads, serving, disks)
+    match disks_of(rt, names, is_second, first, second) {
+        Ok(disks) => serve_streams(threads, serving, disks),
+        Err(status) => status,
+    }
+}
+
+// Serves the store of two files that were just opened; first makes it, where that is wanted.
+fn serve_files<T: Threads + Wait + Sync, D: Disk + Drop>(
+    rt: &HostRuntime,
+    threads: &T,
+    names: Names<'_>,
+    serving: Serving,
+    files: sqlite_disk::Files<D>,
+) -> ExitCode {
+    if !serving.is_new {
+        return serve_selected(rt, threads, names, serving, files);
+    }
+    match make_store(rt, names, files) {
+        Ok(files) => serve_selected(rt, threads, names, serving, files),
+        Err(status) => status,
+    }
 }
 
 /// Serves the store of the two files with these names, which no other program may open until this

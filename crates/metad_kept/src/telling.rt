@@ -1,8 +1,9 @@
 //! What the program tells beside its replies.
 
 use crate::finding::Finding;
+use crate::heads::Unfit;
 use crate::renewing::Why;
-use journal::{JournalError, Sound};
+use journal::{JournalError, Note, Sound};
 use kept_store::CheckpointError;
 use meta_types::Fault;
 use std::fs;
@@ -55,6 +56,49 @@ fn digits(sum: &[u8; 64]) -> &str {
 pub fn tell_found(rt: &HostRuntime, path: &str, lines: u64, sound: &Sound) {
     let (end, last) = (sound.end, digits(&sound.last));
     let _told = eprintln!(rt; "metad: {path}: {lines} lines, {end} bytes, last sum {last}");
+}
+
+// The digits of an identity.
+fn identity_digits(identity: &[u8; 32]) -> &str {
+    from_utf8(identity.as_slice()).unwrap_or("")
+}
+
+/// Says which store a file belongs to, and which of its files it is.
+pub fn tell_identity(rt: &HostRuntime, path: &str, card: Note) {
+    let (identity, generation) = (identity_digits(&card.identity), card.generation);
+    let _told = eprintln!(rt; "metad: {path}: store {identity}, generation {generation}");
+}
+
+/// Tells that a file took no witness.
+pub fn tell_unwitnessed(rt: &HostRuntime, path: &str) {
+    let _told = eprintln!(rt;
+        "metad: {path}: it can't take a witness: a loss at the journal's end may pass unseen"
+    );
+}
+
+/// Tells that a file's head can't be read, so that its witness is missing.
+pub fn tell_unread_head(rt: &HostRuntime, path: &str) {
+    let _told = eprintln!(rt; "metad: {path}: its head can't be read, so no witness is known");
+}
+
+// Why two files aren't served.
+fn unfit_text(unfit: Unfit) -> &'static str {
+    match unfit {
+        Unfit::OtherStore => "the two files are of two stores",
+        Unfit::OtherMoment => "the two files are of two moments",
+        Unfit::Stale => "its head is stale, or the file: a later one counted already",
+        Unfit::Less => "it has less than it had: serve a backup, or with --accept-loss",
+        Unfit::Part => "it has less than its checkpoint had, so half a store: serve a backup",
+        Unfit::NoStore => "no store was made there",
+        Unfit::NoCard => "damage in its card",
+    }
+}
+
+/// Tells why a file isn't served.
+pub fn tell_unfit(rt: &HostRuntime, path: &str, unfit: Unfit) -> ExitCode {
+    let text = unfit_text(unfit);
+    let _told = eprintln!(rt; "metad: {path}: {text}");
+    ExitCode::from(3)
 }
 
 // Why there is no checkpoint.
@@ -157,6 +201,15 @@ pub fn print_found(rt: &HostRuntime, path: &str, found: &Finding) -> ExitCode {
     }
     if found.is_damaged {
         return tell_damage(rt, path, end);
+    }
+    ExitCode::SUCCESS
+}
+
+/// Prints of which store a file is, and which of its files.
+pub fn print_identity(rt: &HostRuntime, card: Note) -> ExitCode {
+    let (identity, generation) = (identity_digits(&card.identity), card.generation);
+    if println!(rt; "store {identity}, generation {generation}").is_err() {
+        return tell(rt, Fault::WriteFailed);
     }
     ExitCode::SUCCESS
 }

@@ -11,6 +11,8 @@ pub struct Serving {
     pub has_checkpoint: bool,
     /// It makes the store, where its folder has none.
     pub is_new: bool,
+    /// It serves a journal that has less than it had.
+    pub takes_less: bool,
 }
 
 /// What the words ask for, in a folder.
@@ -40,6 +42,7 @@ struct Options<'a> {
     workers: Option<Workers>,
     has_checkpoint: bool,
     is_new: bool,
+    takes_less: bool,
 }
 
 // The number of workers that a text is.
@@ -76,6 +79,10 @@ fn with_switch<'a>(options: Options<'a>, name: &str) -> Option<Options<'a>> {
             is_new: true,
             ..options
         }),
+        "--accept-loss" if !options.takes_less => Some(Options {
+            takes_less: true,
+            ..options
+        }),
         _ => None,
     }
 }
@@ -87,6 +94,7 @@ fn read_options<'a>(words: &[&'a str]) -> Option<Options<'a>> {
         workers: None,
         has_checkpoint: false,
         is_new: false,
+        takes_less: false,
     };
     let mut at = 0usize;
     'reading: for _ in 0..u64::MAX {
@@ -94,7 +102,7 @@ fn read_options<'a>(words: &[&'a str]) -> Option<Options<'a>> {
             return Some(options);
         };
         at = at.saturating_add(1);
-        if *word == "--checkpoint" || *word == "--new" {
+        if *word == "--checkpoint" || *word == "--new" || *word == "--accept-loss" {
             options = with_switch(options, word)?;
             continue;
         }
@@ -121,8 +129,9 @@ pub fn read_words<'a>(words: &[&'a str]) -> Option<Words<'a>> {
             workers: workers.unwrap_or(Workers::ONE),
             has_checkpoint: options.has_checkpoint,
             is_new: options.is_new,
+            takes_less: options.takes_less,
         }),
-        _ if options.has_checkpoint || options.is_new => return None,
+        _ if options.has_checkpoint || options.is_new || options.takes_less => return None,
         ("check", None) => Command::Check,
         ("script", None) => Command::Script,
         ("new", None) => Command::New,

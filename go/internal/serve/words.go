@@ -23,8 +23,8 @@ const spare = 32
 const usage = "usage: metad-serve [--socket PATH [--group GROUP]] [--idle SECONDS] " +
 	"[--metrics ADDRESS]\n" +
 	"                   [--moment] (--dir DIR [--workers N] [--checkpoint] [--new] " +
-	"[--clock SECONDS]\n" +
-	"                   [--program FILE] | [--numbered] -- COMMAND ..)\n"
+	"[--accept-loss]\n" +
+	"                    [--clock SECONDS] [--program FILE] | [--numbered] -- COMMAND ..)\n"
 
 const help = `
 Each connection sends lines and gets a reply to each, in its order. Without --socket systemd hands
@@ -43,6 +43,7 @@ has more.
   --workers N        so many threads mark and sweep; 1 without
   --checkpoint       the service writes one first
   --new              the service makes a new store
+  --accept-loss      the service serves the lines that are left if a disk lost some
   --clock SECONDS    as --moment, and the service refuses moments farther from its clock than that
   --program FILE     the metad that answers; without it the one on the path
   --numbered         COMMAND begins each reply with its line's number and a space
@@ -65,6 +66,7 @@ type asked struct {
 	clock                  string
 	idle                   float64
 	checkpoint, isNew      bool
+	acceptsLoss            bool
 	numbered, moment       bool
 	command                []string
 	hasCommand             bool
@@ -146,6 +148,7 @@ func read(words []string) (asked, error) {
 	flags.Float64Var(&it.idle, "idle", math.Inf(1), "")
 	flags.BoolVar(&it.checkpoint, "checkpoint", false, "")
 	flags.BoolVar(&it.isNew, "new", false, "")
+	flags.BoolVar(&it.acceptsLoss, "accept-loss", false, "")
 	flags.BoolVar(&it.numbered, "numbered", false, "")
 	flags.BoolVar(&it.moment, "moment", false, "")
 	if err := flags.Parse(words); err != nil {
@@ -173,7 +176,8 @@ func (it asked) options() (Options, error) {
 		options.Clock = time.Now
 	}
 	if it.hasCommand {
-		ofStore := it.dir+it.workers+it.program+it.clock != "" || it.checkpoint || it.isNew
+		ofStore := it.dir+it.workers+it.program+it.clock != "" || it.checkpoint || it.isNew ||
+			it.acceptsLoss
 		if ofStore || len(it.command) == 0 {
 			return options, refused("a COMMAND stands behind --, and then no word of the store")
 		}
@@ -199,6 +203,9 @@ func (it asked) options() (Options, error) {
 	}
 	if it.isNew {
 		options.Command = append(options.Command, "--new")
+	}
+	if it.acceptsLoss {
+		options.Command = append(options.Command, "--accept-loss")
 	}
 	if it.clock != "" {
 		if !knows.Word(context.Background(), options.Command[:2], "--clock") {

@@ -1,7 +1,6 @@
 //! Opens the store of the file that counts.
 ghost use Rattle.std.specs.Prelude.{◌≡◌, [], IfOk};
 
-use crate::finding::FIRST;
 use journal::{Journal, JournalError, Log, check, has_group};
 use kept_store::{KeptStore, StartError, open};
 use meta_types::Workers;
@@ -19,6 +18,14 @@ pub enum Wanted {
     Lines,
     /// None: the store is to be a new one.
     NoLines,
+}
+
+/// Which lines a start wants to find in a file that counts.
+pub fn wanted_lines(is_second: bool) -> Wanted {
+    if is_second {
+        return Wanted::Lines;
+    }
+    Wanted::Any
 }
 
 /// Why a journal gives no store.
@@ -56,38 +63,44 @@ fn cause_of(error: JournalError) -> Cause {
 }
 
 // Why a file has no line: it is damaged, or nothing was put there.
-fn without_lines<E: Log>(alloc: Global, log: &mut E) -> Cause
+fn without_lines<E: Log>(alloc: Global, first: &[u8; 64], log: &mut E) -> Cause
     ensures rests { E.rests log.old → E.rests log.new }
 {
-    match check(alloc, &FIRST, log) {
+    match check(alloc, first, log) {
         Ok(_) => Cause::Empty,
         Err(error) => cause_of(error),
     }
 }
 
-/// Looks whether a file has lines as they are wanted. It isn't changed.
-pub fn look_for_lines<E: Log>(alloc: Global, wanted: Wanted, log: &mut E) -> Result<(), Cause>
+/// Looks whether a file with this first sum has lines as they are wanted. It isn't changed.
+pub fn look_for_lines<E: Log>(
+    alloc: Global,
+    first: &[u8; 64],
+    wanted: Wanted,
+    log: &mut E,
+) -> Result<(), Cause>
     ensures rests { E.rests log.old → E.rests log.new }
 {
     if wanted == Wanted::Any {
         return Ok(());
     }
-    match has_group(alloc, &FIRST, log) {
+    match has_group(alloc, first, log) {
         Ok(has) if has && wanted == Wanted::NoLines => Err(Cause::Taken),
-        Ok(has) if !has && wanted == Wanted::Lines => Err(without_lines(alloc, log)),
+        Ok(has) if !has && wanted == Wanted::Lines => Err(without_lines(alloc, first, log)),
         Ok(_) => Ok(()),
         Err(error) => Err(cause_of(error)),
     }
 }
 
-/// Opens the store of a file. The blank has 65,536 parts. A start that finds other lines than are
-/// wanted changes nothing.
+/// Opens the store of a file with this first sum. The blank has 65,536 parts. A start that finds
+/// other lines than are wanted changes nothing.
 pub fn begin<L: Ledger, T: Threads + Wait + Sync, E: Log + Drop>(
     threads: &T,
     alloc: Global,
     fresh: Fresh,
     workers: Workers,
     wanted: Wanted,
+    first: &[u8; 64],
     log: E,
 ) -> Result<Started<L, E>, NotStarted<E>>
     requires name { fresh.blank.name ≡ L.name }
@@ -96,10 +109,10 @@ pub fn begin<L: Ledger, T: Threads + Wait + Sync, E: Log + Drop>(
     ensures { IfOk result (λ started. started.journal.pending.items ≡ []) }
 {
     let mut log = log;
-    if let Err(cause) = look_for_lines(alloc, wanted, &mut log) {
+    if let Err(cause) = look_for_lines(alloc, first, wanted, &mut log) {
         return Err(NotStarted { cause, log });
     }
-    let opened = match open::<L, E, T>(threads, alloc, fresh, &FIRST, &mut log, workers) {
+    let opened = match open::<L, E, T>(threads, alloc, fresh, first, &mut log, workers) {
         Ok(opened) => opened,
         Err(error) => {
             return Err(NotStarted {

@@ -1,6 +1,6 @@
 //! Finds which of a store's two files counts, and whether there is a store.
 
-use journal::{JournalError, has_head, selected};
+use journal::{JournalError, has_head, selects};
 use sqlite_disk::Disk;
 use std::alloc::Global;
 
@@ -15,6 +15,14 @@ fn has_bytes<D: Disk>(disk: &mut D) -> Result<bool, JournalError> {
     }
 }
 
+// Whether a file may have a head: one that can't be read is told where it is opened.
+fn may_count<D: Disk>(alloc: Global, disk: &mut D) -> bool {
+    match has_head(alloc, disk) {
+        Ok(has_head) => has_head,
+        Err(_) => true,
+    }
+}
+
 /// What two files hold.
 #[derive(Clone, Copy)]
 pub enum Selection {
@@ -26,11 +34,9 @@ pub enum Selection {
     Nothing,
 }
 
-/// Finds what two files hold. Where they hold nothing, and a store is wanted, the first one gets a
-/// head; otherwise neither is changed, but for three bytes of a head that a crash left unlike.
+/// Finds what two files hold. Neither is changed.
 pub fn select_file<D: Disk>(
     alloc: Global,
-    is_new: bool,
     first: &mut D,
     second: &mut D,
 ) -> Result<Selection, JournalError> {
@@ -39,12 +45,10 @@ pub fn select_file<D: Disk>(
         if has_second {
             return Ok(Selection::Missing { is_second: false });
         }
-        if !is_new {
-            return Ok(Selection::Nothing);
-        }
+        return Ok(Selection::Nothing);
     }
-    let is_second = selected(alloc, first)?;
-    if is_second && !has_second {
+    let is_second = selects(first)?;
+    if is_second && !(has_second && may_count(alloc, second)) {
         return Ok(Selection::Missing { is_second });
     }
     Ok(Selection::Store { is_second })

@@ -1,6 +1,5 @@
 //! The lines of a journal, as a script that `metad run` answers.
 
-use crate::finding::FIRST;
 use journal::{JournalError, Log, Reader, Sound, cut_line, is_commit, read_lines};
 use std::alloc::Global;
 use std::io::Write;
@@ -69,15 +68,17 @@ fn is_there(reader: &Reader, sound: &Sound) -> bool {
     }
 }
 
-/// Writes the lines that stand before a place, by the last sum that was found there.
+/// Writes the lines that stand before a place, by the first sum of the file and the last one that
+/// was found there.
 pub fn write_script<D: Log, W: Write>(
     alloc: Global,
+    first: &[u8; 64],
     log: &mut D,
     sound: &Sound,
     writer: &mut W,
 ) -> Result<(), ScriptError> {
     let mut block: Vec<u8> = Vec::new(alloc);
-    let mut reader = Reader::new(alloc, &FIRST);
+    let mut reader = Reader::new(alloc, first);
     let mut at = 0usize;
     'writing: for _ in 0..u64::MAX {
         if at >= sound.end {

@@ -1,4 +1,4 @@
-use Rattle.metad_kept.proofs.renewing.take_over.Given as goal
+use Rattle.metad_kept.proofs.renewing.writing.take_over.Given as goal
 
 -- the ledger of the second store is named as its blank is
 abbrev pub ghosts-take_checkpoint : goal.ghosts-take_checkpoint

@@ -1,0 +1,69 @@
+//! Puts notes into the pages of a store's two files.
+
+use crate::finding::FIRST;
+use crate::heads::looking::has_page;
+use journal::{
+    CARD, JournalError, JournalFile, Log, Note, Selector, WITNESS, first_sum, identity_of,
+    make_page, put_note,
+};
+use sqlite_disk::Disk;
+use std::alloc::Global;
+use std::io;
+use std::random::RandomSource;
+
+// A new identity.
+fn new_identity<R: RandomSource>(source: &R) -> io::Result<[u8; 32]> {
+    let mut bytes = [0u8; 16];
+    source.fill_bytes(&mut bytes)?;
+    Ok(identity_of(&bytes))
+}
+
+/// The card of a store's first file, with a new identity.
+pub fn new_card<R: RandomSource>(source: &R) -> io::Result<Note> {
+    let identity = new_identity(source)?;
+    let card = Note {
+        identity,
+        generation: 0,
+        end: 0,
+        sum: FIRST,
+    };
+    Ok(Note {
+        sum: first_sum(card),
+        ..card
+    })
+}
+
+/// Puts a witness into a file that doesn't count, and gives its disk back. A file of format 1 has no
+/// place for it.
+pub fn put_witness<D: Disk + Drop, C: Selector>(
+    alloc: Global,
+    disk: D,
+    note: Note,
+) -> (D, Result<(), JournalError>) {
+    let mut disk = disk;
+    match has_page(alloc, &mut disk) {
+        Ok((true, false)) => return (disk, Ok(())),
+        Ok(_) => {}
+        Err(error) => return (disk, Err(error)),
+    }
+    let mut log = JournalFile::<D, C>::new(alloc, disk);
+    let put = put_into(alloc, &mut log, note);
+    (log.into_disk(), put)
+}
+
+// Opens a file and puts a witness into its page.
+fn put_into<D: Disk + Drop, C: Selector>(
+    alloc: Global,
+    log: &mut JournalFile<D, C>,
+    note: Note,
+) -> Result<(), JournalError> {
+    log.open()?;
+    make_page(log)?;
+    put_note(alloc, log, WITNESS, note)
+}
+
+/// Puts the card of a new store into its first file, which was just opened and is empty.
+pub fn put_card<L: Log>(alloc: Global, log: &mut L, card: Note) -> Result<(), JournalError> {
+    make_page(log)?;
+    put_note(alloc, log, CARD, card)
+}
