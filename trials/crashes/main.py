@@ -12,8 +12,8 @@ sys.path.insert(0, os.path.join(TOP, "trials", "kept"))
 
 from images import Disk, WAYS, calls_of, files_of, write_files  # noqa: E402 (the path above)
 from stores import (  # noqa: E402
-    HEAD, JOURNAL, NO_MEMORY, WHEN, Client, Model, Told, any_line, journal_of, line_of,
-    long_line, probes, serve,
+    JOURNAL, NO_MEMORY, TEXT, WHEN, Client, Model, Told, any_line, journal_of, line_of, long_line,
+    probes, serve,
 )
 
 wants = Told.wants
@@ -134,8 +134,8 @@ QUESTIONS = probes() + [
 
 
 def first_was_cut(folder):
-    """Whether the first start was cut before the file had its head, so that no line was in it."""
-    return not os.path.exists(os.path.join(folder, JOURNAL)) or not any(journal_of(folder)[HEAD:])
+    """Whether the first start was cut before the file had a line."""
+    return not os.path.exists(os.path.join(folder, JOURNAL)) or not any(journal_of(folder)[TEXT:])
 
 
 def judge(folder, work, least, *more):

@@ -5,7 +5,7 @@ import tempfile
 from concurrent.futures import ThreadPoolExecutor
 
 from stores import (
-    HEAD, JOURNAL, NO_MEMORY, SHIM, WHEN, Client, Model, Told, any_line, is_logged, journal_of,
+    JOURNAL, NO_MEMORY, SHIM, TEXT, WHEN, Client, Model, Told, any_line, is_logged, journal_of,
     line_of, lines_told, probes, script_of, serve,
 )
 
@@ -83,7 +83,7 @@ def recover(folder, seed):
     found = None
     for at in range(1, 40):
         done = serve(folder, env=mixing(at, seed + at))
-        if done.status == 3 and not any(journal_of(folder)[HEAD:]):
+        if done.status == 3 and not any(journal_of(folder)[TEXT:]):
             # the first start was cut in the file's head, and no line was in it (docs/SERVICE.md)
             os.remove(os.path.join(folder, JOURNAL))
             continue

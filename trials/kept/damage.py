@@ -6,7 +6,7 @@ import tempfile
 from concurrent.futures import ThreadPoolExecutor
 
 from stores import (
-    HEAD, JOURNAL, Told, check, journal_of, line_of, lines_told, script_of, serve,
+    HEAD, JOURNAL, NOTE, TEXT, Told, check, journal_of, line_of, lines_told, script_of, serve,
 )
 
 wants = Told.wants
@@ -40,13 +40,15 @@ class Worn:
         self.write(at, byte)
         done = check(self.folder)
         if byte == 0 and at >= last:
-            wants("a byte that is lost in the last group", done.status == 0
+            wants("a byte that is lost in the last group", done.status == 3
+                  and b"less than it had" in done.told
                   and lines_told(done.out) == count - len(GROUPS[-1]), at, done)
         elif byte == 0 and FIRST_LINE <= at < HEAD - 1:
             wants("a mark that is lost has another beside it", done.status == 0
                   and lines_told(done.out) == count, at, done)
         else:
             wants("a changed byte is told", done.status == 3 and b"damage" in done.told
+                  or HEAD <= at < HEAD + NOTE and done.status == 3
                   or at < FIRST_LINE and b"first line" in done.told
                   or at == FORMAT and b"newer metad" in done.told, at, byte, done)
         if at % 9 == 0 and done.status == 3:
@@ -102,7 +104,7 @@ def noise():
             path, whole = os.path.join(folder, JOURNAL), journal_of(folder)
             end = whole.rindex(b"\n") + 1
             for page in (b"\xff" * PAGE, bytes(chance.randrange(256) for _ in range(PAGE))):
-                for at in (*range(HEAD, end + PAGE, 5000), end - 100, end, len(whole) - PAGE):
+                for at in (*range(TEXT, end + PAGE, 5000), end - 100, end, len(whole) - PAGE):
                     text = whole[:at] + page + whole[at + PAGE :]
                     with open(path, "wb") as file:
                         file.write(text)
@@ -124,7 +126,8 @@ def all_parts():
         text = journal_of(folder)
         end = text.rindex(b"\n") + 1
         last = text.index(GROUPS[-1][0])
-        places = [*range(FIRST_LINE + MARKS), HEAD - 1, *range(HEAD, end)]
+        places = [*range(FIRST_LINE + MARKS), HEAD - 1]
+        places += [*range(HEAD, HEAD + NOTE), *range(TEXT, end)]
         count = sum(map(len, GROUPS))
         sound_part(folder, text.index(GROUPS[1][0]) + 5)
         with ThreadPoolExecutor(os.cpu_count()) as pool:

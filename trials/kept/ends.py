@@ -10,8 +10,8 @@ import tempfile
 import time
 
 from stores import (
-    DONE, HEAD, JOURNAL, KEPT, SECOND, TOP, WHEN, Client, Model, Told, check, journal_of, line_of,
-    counting, lines_told, logged, probes, run, script_of, serve,
+    DONE, HEAD, JOURNAL, KEPT, SECOND, TEXT, TOP, WHEN, Client, Model, Told, check, counting,
+    journal_of, line_of, lines_told, logged, probes, run, script_of, serve,
 )
 
 wants = Told.wants
@@ -80,7 +80,7 @@ def formats(folder):
     """A file of another format is refused and left alone, as is one whose head is damaged."""
     path = os.path.join(folder, JOURNAL)
     for text in (
-        b"#metad journal 2\n" + bytes(8192), b"#metad journal 10" + bytes(8192),
+        b"#metad journal 3\n" + bytes(8192), b"#metad journal 10" + bytes(8192),
         b"#metad journal x\n" + bytes(8192), b"a page\n" * 2000, b"x", b"\0" * 5000 + b"x",
     ):
         with open(path, "wb") as file:
@@ -180,9 +180,9 @@ def parts_of_a_store(folder):
             os.remove(path)
         else:
             if text == "zeros":
-                text = whole[:HEAD] + bytes(len(whole) - HEAD)
+                text = whole[:TEXT] + bytes(len(whole) - TEXT)
             if text == "page of zeros":
-                text = whole[:HEAD] + bytes(HEAD) + whole[2 * HEAD :]
+                text = whole[:TEXT] + bytes(HEAD) + whole[TEXT + HEAD :]
             with open(path, "wb") as file:
                 file.write(text)
         before = files_of(own)
@@ -349,12 +349,12 @@ def is_change(reply):
 def unlogged(folder):
     """Listings, refusals and dry runs leave the journal's bytes as they were."""
     serve(folder, line_of(op="ns.add", ns="temp"))
-    before = journal_of(folder)[HEAD:].rstrip(b"\0")
+    before = journal_of(folder)[TEXT:].rstrip(b"\0")
     lines = [line_of(op="ns.list"), line_of(op="ns.add", ns="temp"), b"none\n"]
     lines += [line_of(op="gc.plan", at=WHEN)] * 1000
     done = serve(folder, b"".join(lines))
     wants("a thousand plans", done.status == 0 and done.out.count(b"\n") == 1003, done.told)
-    wants("they aren't logged", journal_of(folder)[HEAD:].rstrip(b"\0") == before)
+    wants("they aren't logged", journal_of(folder)[TEXT:].rstrip(b"\0") == before)
 
 
 def little_memory(folder):

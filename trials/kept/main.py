@@ -8,12 +8,13 @@ import crashes
 import damage
 import disk
 import ends
+import heads
 import kills
 import memory
 from stores import Told
 
-PARTS = {"ends": ends, "damage": damage, "crashes": crashes, "kills": kills, "disk": disk,
-         "memory": memory, "checkpoints": checkpoints}
+PARTS = {"ends": ends, "heads": heads, "damage": damage, "crashes": crashes, "kills": kills,
+         "disk": disk, "memory": memory, "checkpoints": checkpoints}
 
 
 def main():

@@ -16,7 +16,9 @@ SHIM = os.environ.get("MIXING", "")
 REFUSE = os.environ.get("REFUSING", "")
 JOURNAL = "metad.journal"
 SECOND = "metad.journal-wal"  # the other file of a store
-HEAD = 4096  # where the first line stands in a file
+HEAD = 4096  # the length of a head, and of the page behind it
+TEXT = 2 * HEAD  # where the first line stands in a file
+NOTE = 197  # the length of a note in a page
 SELECTOR = 4091  # where the first file's head says in three bytes which one counts
 NAMESPACES = ("x", "y")
 WHEN = "2030-01-01T00:00:00Z"
@@ -49,13 +51,14 @@ def run(words, script=b"", **more):
 
 
 def new_where_none_is(folder):
-    """`--new` for a folder that has no store: no head is whole in its first file."""
+    """`--new` for a folder that has no store: no head is whole in its first file, or no card."""
     try:
         with open(os.path.join(folder, JOURNAL), "rb") as file:
-            head = file.read(HEAD)
+            head, card = file.read(HEAD), file.read(NOTE)
     except OSError:
-        head = b""
-    return [] if len(head) == HEAD and head.endswith(b"\n") else ["--new"]
+        head = card = b""
+    has_card = head.startswith(b"#metad journal 1") or len(card) == NOTE and 0 not in card
+    return [] if len(head) == HEAD and head.endswith(b"\n") and has_card else ["--new"]
 
 
 def serve(folder, script=b"", *words, **more):
