@@ -5,7 +5,7 @@ use Rattle.std.proofs.lemmas.List.{take-append-drop, take_all, drop-append-le, d
 use Rattle.journal.specs.Crashes.{Only, Mixes, PutCrash, written}
 use Rattle.journal.specs.Growth.{Longer, Behind}
 use Rattle.journal.specs.Notes.{Reads}
-use Rattle.journal.specs.declared.notes.Note.{Note}
+use Rattle.journal.specs.declared.page.note.Note.{Note}
 use Rattle.journal.proofs.Fronts.{slice_within, written_behind}
 
 -- ---- files that a crash may leave

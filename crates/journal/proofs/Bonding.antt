@@ -7,10 +7,10 @@ use Rattle.journal.specs.Text.{is_torn}
 use Rattle.journal.specs.Crashes.{Holes}
 use Rattle.journal.specs.Notes.{note_text, IsNote, StandsAt, Reads, NoteLeft}
 use Rattle.journal.specs.Bonds.{is_strange, is_later, is_far, is_told, has_strange, has_later, bond_of, IsUpTo, IsNext, AreOne}
-use Rattle.journal.specs.declared.notes.Note.{Note}
+use Rattle.journal.specs.declared.page.note.Note.{Note}
 use Rattle.journal.specs.declared.page.Notes.{Notes}
-use Rattle.journal.specs.declared.bond.Bond.{Bond}
-use Rattle.journal.specs.declared.bond.Bond.TheVariants.{Fits, OtherStore, OtherMoment, Stale}
+use Rattle.journal.specs.declared.page.bond.Bond.{Bond}
+use Rattle.journal.specs.declared.page.bond.Bond.TheVariants.{Fits, OtherStore, OtherMoment, Stale}
 use Rattle.journal.proofs.Fronts.{take_front}
 use Rattle.journal.proofs.Groups.{same_bytes}
 use Rattle.journal.proofs.NoteTexts.{length-note_text, note_is_marked, identity_read, generation_read}

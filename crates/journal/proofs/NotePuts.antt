@@ -5,7 +5,7 @@ use Rattle.std.proofs.lemmas.List.{length-take-le, length-replicate, drop-replic
 use Rattle.journal.specs.Text.{is_torn}
 use Rattle.journal.specs.Crashes.{Only, Holes, Mixes, PutCrash, written}
 use Rattle.journal.specs.Notes.{note_text, IsNote, StandsAt, NoteLeft}
-use Rattle.journal.specs.declared.notes.Note.{Note}
+use Rattle.journal.specs.declared.page.note.Note.{Note}
 use Rattle.journal.proofs.Fronts.{written_after}
 use Rattle.journal.proofs.Over.{before, behind, size, there, again}
 use Rattle.journal.proofs.Groups.{over_zeros}

@@ -4,7 +4,7 @@ use Rattle.std.proofs.lemmas.List.{take_at, drop_at, take_all, length-take, drop
 use Rattle.std.proofs.lemmas.List.Folds.{list_any-append}
 use Rattle.journal.specs.Text.{is_zero, is_torn, sum_of, place_text}
 use Rattle.journal.specs.Notes.{note_body, note_text, IsNote}
-use Rattle.journal.specs.declared.notes.Note.{Note}
+use Rattle.journal.specs.declared.page.note.Note.{Note}
 use Rattle.journal.proofs.Fronts.{slice_within}
 use Rattle.journal.proofs.TextLines.{or_false}
 use Rattle.journal.proofs.Sums.{length-sum_of, length-place_text, place_blank, place_is_marked, sum_is_marked}

@@ -5,7 +5,7 @@ use Rattle.std.proofs.lemmas.Bool.{cases_Bool}
 use Rattle.std.proofs.lemmas.List.{append-nil, take_at, drop_at}
 use Rattle.journal.specs.Text.{lines_text, commit_of, commit_line, group_sum, group_text, sum_after, journal_text, journal_end, place_text}
 use Rattle.journal.specs.Notes.{ends_by, is_found}
-use Rattle.journal.specs.declared.notes.Note.{Note}
+use Rattle.journal.specs.declared.page.note.Note.{Note}
 use Rattle.journal.proofs.Groups.{same_bytes}
 use Rattle.journal.proofs.Pushing.{sum_after-push, journal_text-push}
 use Rattle.journal.proofs.Sums.{length-sum_of, length-commit}

@@ -6,10 +6,10 @@ use Rattle.std.specs.Option.{option_map_or}
 use Rattle.journal.specs.Text.{sum_after, journal_text, journal_end}
 use Rattle.journal.specs.Crashes.{Holes}
 use Rattle.journal.specs.Notes.{is_found, IsNote, StandsAt, Reads, NoteLeft}
-use Rattle.journal.specs.declared.notes.Note.{Note}
+use Rattle.journal.specs.declared.page.note.Note.{Note}
 use Rattle.journal.specs.declared.page.Notes.{Notes}
-use Rattle.journal.specs.declared.bond.Bond.{Bond}
-use Rattle.journal.specs.declared.bond.Bond.TheVariants.{Fits, OtherStore, OtherMoment, Stale}
+use Rattle.journal.specs.declared.page.bond.Bond.{Bond}
+use Rattle.journal.specs.declared.page.bond.Bond.TheVariants.{Fits, OtherStore, OtherMoment, Stale}
 
 -- a note of another store
 abbrev pub is_strange : List ℕ → Note → Bool

@@ -2,7 +2,7 @@
 -- of the file itself, and the witness of the file that counts.
 use Rattle.std.specs.Prelude.{◌≡◌, ◌⊎◌, ℕ, ◌+◌, ◌-◌, ◌^◌, ◌<◌, ◌≤◌, ◌==◌, ◌&&◌, nat_le, List, [], ◌∷◌, ◌++◌, length, take, drop, Bool, true, false, if◌then◌else◌, bytes_eq, Option, Some, None}
 use Rattle.journal.specs.Text.{is_torn, sum_of, place_text}
-use Rattle.journal.specs.declared.notes.Note.{Note}
+use Rattle.journal.specs.declared.page.note.Note.{Note}
 
 -- a store's identity, a file's generation in it, where groups end there, and their last sum
 abbrev pub note_body : Note → List ℕ

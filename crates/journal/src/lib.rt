@@ -2,8 +2,6 @@
 //! the sum of all that stands before its end. The module `journal_file` is its file over a disk.
 #![tactic(auto)]
 
-mod anew;
-mod bond;
 mod error;
 mod journal;
 mod journal_file;
@@ -11,17 +9,13 @@ pub mod laws;
 mod line_head;
 mod lines;
 mod log;
-mod notes;
 mod page;
-mod paged;
 mod reader;
 mod reading;
 mod recovery;
 mod rereading;
 mod sum;
 
-pub use anew::{NotBlank, make_anew, make_page};
-pub use bond::{Bond, bond_of};
 pub use error::JournalError;
 pub use journal::Journal;
 pub use journal_file::{
@@ -30,9 +24,10 @@ pub use journal_file::{
 };
 pub use lines::{cut_line, is_commit};
 pub use log::Log;
-pub use notes::{CARD, NOTE, Note, WITNESS, first_sum, identity_of, note_bytes, read_note};
-pub use page::{Notes, PAGE, finds, put_note, read_page};
-pub use paged::Paged;
+pub use page::{
+    Bond, CARD, NOTE, NotBlank, Note, Notes, PAGE, Paged, WITNESS, bond_of, finds, first_sum,
+    identity_of, make_anew, make_page, note_bytes, put_note, read_note, read_page,
+};
 pub use reader::{Reader, Sound};
 pub use reading::{Extent, check, has_group};
 pub use recovery::recover;

@@ -3,9 +3,18 @@ ghost use Rattle.std.specs.Prelude.{◌≡◌, ◌≤◌, ◌+◌, ◌∷◌, Li
 ghost use Rattle.journal.specs.Crashes.{Only, written};
 ghost use Rattle.journal.specs.Notes.{note_text, is_found, IsNote, Reads, NoteLeft};
 
+mod anew;
+mod bond;
+mod note;
+mod paged;
+
 use crate::journal_file::make_zeros;
-use crate::notes::{CARD, NOTE, Note, WITNESS, is_whole, note_bytes, read_note};
+use crate::page::note::is_whole;
 use crate::{JournalError, Log};
+pub use anew::{NotBlank, make_anew, make_page};
+pub use bond::{Bond, bond_of};
+pub use note::{CARD, NOTE, Note, WITNESS, first_sum, identity_of, note_bytes, read_note};
+pub use paged::Paged;
 use std::alloc::{AllocError, Global};
 
 /// The length of a page in bytes.

@@ -1,6 +1,6 @@
 use Rattle.std.proofs.Common.{◌∙◌, sym}
 use Rattle.journal.proofs.NotePuts.{blank_behind}
-use Rattle.journal.proofs.anew.blank_page.Goals as goal
+use Rattle.journal.proofs.page.anew.blank_page.Goals as goal
 
 pub returns-clause-ok : goal.returns-clause-ok
 returns-clause-ok g c clean =

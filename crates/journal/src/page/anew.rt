@@ -3,9 +3,9 @@ ghost use Rattle.std.specs.Prelude.{◌≡◌, ◌≤◌, drop, length, replicat
 ghost use Rattle.journal.specs.Crashes.{Only};
 ghost use Rattle.journal.specs.Growth.{Behind};
 
-use crate::notes::{Note, WITNESS};
+use crate::page::note::{Note, WITNESS};
+use crate::page::paged::Paged;
 use crate::page::{PAGE, put_note};
-use crate::paged::Paged;
 use crate::{JournalError, Log, blank};
 use std::alloc::Global;
 

@@ -1,5 +1,5 @@
 use Rattle.journal.proofs.Behind.{behind_rests}
-use Rattle.journal.proofs.paged.PagedLog.read.Goals as goal
+use Rattle.journal.proofs.page.paged.PagedLog.read.Goals as goal
 
 pub returns-in_err-read-clause-rests : goal.returns-in_err-read-clause-rests
 returns-in_err-read-clause-rests g c only =

@@ -2,7 +2,7 @@ use Rattle.std.proofs.Common.{◌∙◌, ap, Some}
 use Rattle.std.proofs.lemmas.Nat.{from_be_bytes-to_be_bytes_8}
 use Rattle.std.specs.Int.{from_be_bytes, w64}
 use Rattle.journal.proofs.Sums.{place_decodes}
-use Rattle.journal.proofs.notes.number_in.Goals as goal
+use Rattle.journal.proofs.page.note.number_in.Goals as goal
 
 pub returns-in-Ok : goal.returns-in-Ok
 returns-in-Ok c place fits is =

@@ -3,7 +3,7 @@ use Rattle.std.proofs.lemmas.Bool.{false≢true}
 use Rattle.journal.specs.Text.{is_torn}
 use Rattle.journal.specs.Notes.{note_text}
 use Rattle.journal.proofs.NoteTexts.{long_enough, note_is_marked, is_note}
-use Rattle.journal.proofs.notes.read_note.Goals as goal
+use Rattle.journal.proofs.page.note.read_note.Goals as goal
 
 pub returns-then-bytes-lt-NOTE : goal.returns-then-bytes-lt-NOTE
 returns-then-bytes-lt-NOTE c note is stands =

@@ -2,8 +2,8 @@
 ghost use Rattle.std.specs.Prelude.{◌≡◌, ◌+◌, ◌==◌, ◌||◌, ◌&&◌, not, nat_lt, bytes_eq};
 ghost use Rattle.journal.specs.Bonds.{is_strange, is_later, is_far, is_told, has_strange, has_later, bond_of};
 
-use crate::notes::Note;
 use crate::page::Notes;
+use crate::page::note::Note;
 
 /// What two files say of each other.
 #[derive(Clone, Copy, PartialEq, Eq, Drop)]

@@ -1,7 +1,7 @@
 use Rattle.std.proofs.Common.{refl}
 use Rattle.std.specs.Prelude.{IsTrue}
 use Rattle.journal.proofs.Behind.{behind_only}
-use Rattle.journal.proofs.anew.make_anew.Goals as goal
+use Rattle.journal.proofs.page.anew.make_anew.Goals as goal
 
 pub returns : goal.returns
 returns g c = record {

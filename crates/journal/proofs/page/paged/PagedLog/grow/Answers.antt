@@ -1,7 +1,7 @@
 use Rattle.std.proofs.Common.{◌∙◌, sym}
 use Rattle.std.proofs.lemmas.List.{append-nil}
 use Rattle.journal.proofs.Behind.{whole_only, longer_behind}
-use Rattle.journal.proofs.paged.PagedLog.grow.Goals as goal
+use Rattle.journal.proofs.page.paged.PagedLog.grow.Goals as goal
 
 pub returns-in-Err-clause-crash : goal.returns-in-Err-clause-crash
 returns-in-Err-clause-crash g c clean only out left =
