@@ -2,11 +2,11 @@
 use Rattle.std.proofs.Common.{◌≡◌, ◌⊎◌, ◌∙◌, ap, sym, refl, subst, ℕ, ◌≤◌, ◌==◌, List, [], ◌∷◌, ◌++◌, length, take, drop, slice_index, Bool, true, false, inl, inr, arith, length-drop}
 use Rattle.std.proofs.lemmas.Bool.{cases_lt, eqb-true}
 use Rattle.std.proofs.lemmas.List.{length-take-le}
-use Rattle.sqlite_disk.specs.Disk.{Mixed, Follows}
-use Rattle.journal.specs.Crashes.{Only, Mixes, written}
-use Rattle.journal.specs.Head.{selector_of, IsHeaded}
-use Rattle.journal.specs.Selector.{tail_of, tail_counts, is_most, selector_byte, selector_bytes, other_counts, HasSelector, SelectorLeft, SameSelector}
-use Rattle.journal.proofs.Selectors.{has_end, end_long}
+use Rattle.sqlite_disk.specs.Disk.{Mixed}
+use Rattle.journal.specs.Crashes.{Mixes, written}
+use Rattle.journal.specs.Head.{selector_of}
+use Rattle.journal.specs.Selector.{tail_of, tail_counts, is_most, selector_byte, selector_bytes, HasSelector, SelectorLeft}
+use Rattle.journal.proofs.Selectors.{end_long}
 use Rattle.journal.proofs.FileHeads.{short_believed}
 use Rattle.journal.proofs.MixedBytes.{says, none_other, mixed_says, mixed_none}
 use Rattle.journal.proofs.ThreeBytes.{same_text, selector_put, same_head, tail_put, tail_parts}
@@ -133,49 +133,3 @@ module _ (w end : Bool) (old read new : List ℕ) (same : read ≡ old)
         head;
     selector = λ was has. inr selected_now;
   }
-
--- ---- a mix that is put again
-
-module _ (w : Bool) (steps : ℕ) (old mid : List ℕ) (mids : List ℕ → Type 0)
-    (same : SameSelector old mid) (head : IsHeaded mid steps) (read : w ≡ other_counts mid)
-    (only : Only mid mids) where
-  has : HasSelector w mid
-  has = record { feed = has_end mid steps head; selector = sym read }
-
-  pub mended_left : (new : List ℕ → Type 0) → Follows (SelectorLeft w) mids new → (c : List ℕ)
-      → new c → SameSelector old c
-  mended_left new follows c may =
-      let from = follows c may in
-      let left : SelectorLeft w mid c =
-      subst (λ (t : List ℕ). SelectorLeft w t c) (only from.0 from.1) from.2 in
-      let now : other_counts c ≡ w = elim (left.selector w has) [
-        | inl it ↦ it.selector
-        | inr it ↦ it.selector
-      ] in record {
-        text = left.text ∙ same.text;
-        selector = now ∙ read ∙ same.selector;
-      }
-
-  pub mended_has : (new : List ℕ) → (4096 ≤ length mid → new ≡ written 4091 (selector_bytes w) mid)
-      → HasSelector w new
-  mended_has new put =
-      let feed = has_end mid steps head in
-      put_has w mid new feed (put (end_long mid feed))
-
-  pub mended_whole : (new : List ℕ)
-      → (4096 ≤ length mid → new ≡ written 4091 (selector_bytes w) mid)
-      → selector_of new ≡ selector_bytes w
-  mended_whole new put =
-      let long = end_long mid (has_end mid steps head) in
-      selector_put mid new (selector_bytes w) (omega (arith, long)) refl (put long)
-
-  pub mended_head : (new : List ℕ) → (4096 ≤ length mid → new ≡ written 4091 (selector_bytes w) mid)
-      → (4096 ≤ length mid → length new ≡ length mid) → IsHeaded new steps
-  mended_head new put size =
-      let long = end_long mid (has_end mid steps head) in
-      same_head mid new (selector_bytes w) (omega (arith, long)) refl (put long) steps (size long)
-      (none_other w) head
-
-  -- all three bytes were found alike
-  pub whole_has : HasSelector w mid
-  whole_has = has

@@ -28,14 +28,6 @@ end_long file feed = elim (cases_lt (length file) 4096) [
   | inr long ↦ long
 ]
 
--- the bytes that were read
-pub selector_read : (file tail : List ℕ) (is_standby : Bool) → tail ≡ tail_of file
-    → bytes_eq (take 3 tail) (selector_bytes is_standby)
-    ≡ bytes_eq (selector_of file) (selector_bytes is_standby)
-selector_read file tail is_standby is =
-    ap (λ (t : List ℕ). bytes_eq t (selector_bytes is_standby))
-    (ap (take 3) is ∙ take-take 3 5 (drop 4091 file) (omega arith))
-
 -- ---- files that have no selector
 
 pub unselected : (file : List ℕ) → slice_index file 4091 ≡ 0 → slice_index file 4092 ≡ 0

@@ -17,5 +17,5 @@ pub use format::{put_format, reads_page};
 pub(crate) use head::make_zeros;
 pub use head::{HEAD, STEP, has_page, is_blank, read_head};
 pub use opening::has_head;
-pub use selecting::{select, selected, selects};
+pub use selecting::{select, selects};
 pub use selector::{Active, Selector, Standby};

@@ -20,7 +20,7 @@ pub use error::JournalError;
 pub use journal::Journal;
 pub use journal_file::{
     Active, HEAD, JournalFile, STEP, Selector, Standby, blank, has_head, has_page, is_blank,
-    put_format, read_head, reads_page, select, selected, selects,
+    put_format, read_head, reads_page, select, selects,
 };
 pub use lines::{cut_line, is_commit};
 pub use log::Log;

@@ -1,5 +1,5 @@
 //! Puts into a head which of two files counts, and reads it.
-ghost use Rattle.std.specs.Prelude.{◌≡◌, ◌⊎◌, ◌≤◌, ◌==◌, ℕ, List, length, take, slice_index, bytes_eq, IsTrue, IfOk, IfErr, OnOk, IsErrOf, true, false};
+ghost use Rattle.std.specs.Prelude.{◌≡◌, ◌⊎◌, ◌≤◌, ◌==◌, ℕ, List, length, take, slice_index, IsTrue, IfOk, IfErr, OnOk, IsErrOf, true, false};
 ghost use Rattle.sqlite_disk.specs.Disk.{Follows};
 ghost use Rattle.journal.specs.Crashes.{Only, written};
 ghost use Rattle.journal.specs.Head.{is_first_line, selector_of, is_blank, IsHeaded};
@@ -35,9 +35,6 @@ fn read_tail<D: Disk>(disk: &mut D) -> Result<[u8; 5], JournalError>
 fn read_selector<D: Disk>(disk: &mut D) -> Result<Said, JournalError>
     ensures other { IfOk result
         (λ said. IsTrue (D.is_clean disk.new) → said.is_standby ≡ other_counts (D.seen disk.old)) }
-    ensures whole { IfOk result (λ said. IsTrue (D.is_clean disk.new)
-        → said.is_whole
-        ≡ bytes_eq (selector_of (D.seen disk.old)) (selector_bytes said.is_standby)) }
     ensures ended { IfOk result (λ said. IsTrue (D.is_clean disk.new)
         → said.is_ended ≡ (slice_index (tail_of (D.seen disk.old)) 4 == 10)) }
     ensures failed { IfErr result (λ error. error ≡ JournalError.DiskFailed) }
@@ -77,8 +74,6 @@ fn put_selector<D: Disk>(disk: &mut D, is_standby: bool) -> Result<(), JournalEr
 pub struct Found {
     pub steps: usize,
     pub is_standby: bool,
-    /// All three bytes say so.
-    pub is_whole: bool,
 }
 
 /// Reads the head of a file. A file that never had a whole head gets one; any other isn't changed.
@@ -89,9 +84,6 @@ pub fn find<D: Disk>(alloc: Global, disk: &mut D) -> Result<Found, JournalError>
     ensures bound { IfOk result (λ found. found.steps ≤ 2037) }
     ensures other { IfOk result (λ found. IsTrue (D.is_clean disk.new)
         → found.is_standby ≡ other_counts (D.seen disk.new)) }
-    ensures whole { IfOk result (λ found. IsTrue (D.is_clean disk.new)
-        → found.is_whole
-        ≡ bytes_eq (selector_of (D.seen disk.new)) (selector_bytes found.is_standby)) }
     ensures same { IsTrue (D.is_clean disk.new)
         → SameSelector (D.seen disk.old) (D.seen disk.new) }
     ensures durable { OnOk result (Only (D.seen disk.new) (D.may_leave disk.new)) }
@@ -112,43 +104,7 @@ pub fn find<D: Disk>(alloc: Global, disk: &mut D) -> Result<Found, JournalError>
     Ok(Found {
         steps,
         is_standby: said.is_standby,
-        is_whole: said.is_whole,
     })
-}
-
-/// Whether the other file counts, by the head of the first one. A file that never had a whole head
-/// gets one. Where a crash left the three bytes unlike, they are put again, as most of them say.
-pub fn selected<D: Disk>(alloc: Global, disk: &mut D) -> Result<bool, JournalError>
-    ensures selector { IfOk result (λ is_standby. IsTrue (D.is_clean disk.new)
-        → HasSelector is_standby (D.seen disk.new)) }
-    ensures whole { IfOk result (λ is_standby. IsTrue (D.is_clean disk.new)
-        → selector_of (D.seen disk.new) ≡ selector_bytes is_standby) }
-    ensures headed { OnOk result (IsTrue (D.is_clean disk.new)
-        → (steps : ℕ) × IsHeaded (D.seen disk.new) steps) }
-    ensures same { IsTrue (D.is_clean disk.new)
-        → SameSelector (D.seen disk.old) (D.seen disk.new) }
-    ensures durable { OnOk result (Only (D.seen disk.new) (D.may_leave disk.new)) }
-    ensures crash { IsTrue (D.is_clean disk.new) → (c : List ℕ) → D.may_leave disk.new c
-        → (D.may_leave disk.old c) ⊎ SameSelector (D.seen disk.old) c }
-    ensures unknown { IsErrOf result JournalError.UnknownFormat → IsTrue (D.is_clean disk.new)
-        → (is_blank (D.seen disk.old) ≡ false)
-        × (is_first_line (take 17 (D.seen disk.old)) ≡ false) }
-    ensures damaged { IsErrOf result JournalError.Damaged → IsTrue (D.is_clean disk.new)
-        → (is_first_line (take 17 (D.seen disk.old)) ≡ true)
-        × ((steps : ℕ) → IsHeaded (D.seen disk.old) steps → ⊥) }
-    ensures clean { IsTrue (D.is_clean disk.new) → IsTrue (D.is_clean disk.old) }
-{
-    if !disk.may_be_used() {
-        return Err(JournalError::DiskFailed);
-    }
-    let found = find(alloc, disk)?;
-    let is_standby = found.is_standby;
-    let is_whole = found.is_whole;
-    if is_whole {
-        return Ok(is_standby);
-    }
-    put_selector(disk, found.is_standby)?;
-    Ok(is_standby)
 }
 
 /// Puts into the head of the first file which one counts. A file without the end of a head isn't

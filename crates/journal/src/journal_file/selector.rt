@@ -1,5 +1,5 @@
 //! Which of two files counts, and the bytes that say so.
-ghost use Rattle.std.specs.Prelude.{◌≡◌, ◌==◌, ◌&&◌, Bool, true, false, take, slice_index, bytes_eq};
+ghost use Rattle.std.specs.Prelude.{◌≡◌, ◌==◌, ◌&&◌, Bool, true, false, slice_index};
 ghost use Rattle.journal.specs.Selector.{selector_bytes, is_most, tail_counts};
 
 /// Which of two files counts, as the first one's head says.
@@ -31,8 +31,6 @@ impl Selector for Standby {
 #[derive(Clone, Copy)]
 pub struct Said {
     pub is_standby: bool,
-    /// All three bytes say so.
-    pub is_whole: bool,
     /// The head's last byte is there.
     pub is_ended: bool,
 }
@@ -60,27 +58,15 @@ fn is_most(one: u8, two: u8, three: u8) -> bool
     second & third
 }
 
-// Whether three bytes are those of a selector.
-fn is_whole(selector: &[u8], is_standby: bool) -> bool
-    ensures { result ≡ bytes_eq selector.now (selector_bytes is_standby) }
-{
-    let wanted = selector_bytes(is_standby);
-    selector == wanted.as_slice()
-}
-
 /// What the last five bytes of a head say.
 pub fn judge(tail: &[u8; 5]) -> Said
     ensures other { result.is_standby ≡ tail_counts tail.now }
-    ensures whole { result.is_whole
-        ≡ bytes_eq (take 3 tail.now) (selector_bytes result.is_standby) }
     ensures ended { result.is_ended ≡ (slice_index tail.now 4 == 10) }
 {
     let is_ended = tail[4] == b'\n';
     let is_standby = is_ended & is_most(tail[0], tail[1], tail[2]);
-    let is_whole = is_whole(&tail[..3], is_standby);
     Said {
         is_standby,
-        is_whole,
         is_ended,
     }
 }

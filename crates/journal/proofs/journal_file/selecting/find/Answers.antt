@@ -1,7 +1,7 @@
-use Rattle.std.proofs.Common.{◌∙◌, ap, sym, refl, subst, List, ℕ, inl, inr, bytes_eq}
+use Rattle.std.proofs.Common.{◌∙◌, ap, sym, refl, subst, List, ℕ, inl, inr}
 use Rattle.journal.proofs.ReadHeads.{same_error}
-use Rattle.journal.specs.Head.{selector_of, IsHeaded}
-use Rattle.journal.specs.Selector.{selector_bytes, other_counts}
+use Rattle.journal.specs.Head.{IsHeaded}
+use Rattle.journal.specs.Selector.{other_counts}
 use Rattle.journal.proofs.Selectors.{still_same}
 use Rattle.journal.proofs.journal_file.selecting.find.Goals as goal
 
@@ -42,12 +42,6 @@ returns-clause-headed g c clean =
 pub returns-clause-other : goal.returns-clause-other
 returns-clause-other g c clean =
     c.in_ok-said.ensures.other clean ∙ ap other_counts (sym c.read_selector.ensures.seen)
-
-pub returns-clause-whole : goal.returns-clause-whole
-returns-clause-whole g c clean =
-    c.in_ok-said.ensures.whole clean
-    ∙ ap (λ (t : List ℕ). bytes_eq (selector_of t) (selector_bytes c.in_ok-said.said.is_standby))
-    (sym c.read_selector.ensures.seen)
 
 pub returns-clause-same : goal.returns-clause-same
 returns-clause-same g c clean =
