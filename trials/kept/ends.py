@@ -333,8 +333,8 @@ def examples(folder):
         wanted = Model().takes(kept).answers(more)
         wants("its store", (done.status, done.out) == (0, b"".join(wanted)), name)
         wants("its lines are told", lines_told(done.told) == len(kept), name, done.told)
-        # the whole file as a script: a commit line is no request, and neither are zeros
-        lines = journal_of(own).split(b"\n")
+        # the file's text as a script: a commit line is no request, and neither are zeros
+        lines = journal_of(own)[TEXT:].split(b"\n")
         store, done = Model(), 0
         for line in lines:
             done += is_change(store.answer(line + b"\n"))
