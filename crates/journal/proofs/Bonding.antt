@@ -69,6 +69,7 @@ kept_witness old left note same stands =
     ap (take 197) (sym (drop-drop 315 197 old) ∙ ap (drop 315) (sym same)
     ∙ drop-drop 315 197 left) ∙ stands
 
+-- whatever a crash left of a witness that was put, the two files are of one store still
 pub witness_leaves : (identity : List ℕ) (generation : ℕ) (counting other left : List ℕ)
     (put : Note) → IsNote put → IsUpTo identity generation put
     → AreOne identity generation counting other
@@ -96,6 +97,7 @@ witness_leaves identity generation counting other left put is up one = (
   },
 )
 
+-- whatever a crash left of the next file's card, the two files are of one store still
 pub card_leaves : (identity : List ℕ) (generation : ℕ) (counting other left : List ℕ)
     (put : Note) → IsNote put → IsNext identity generation put
     → AreOne identity generation counting other → NoteLeft 0 put other left
@@ -138,6 +140,7 @@ still_stands at old left note is holes stands =
           ∙ torn))
     ]
 
+-- two files are of one store still if notes of the other one are lost
 pub lost_leaves : (identity : List ℕ) (generation : ℕ) (counting other left : List ℕ)
     → AreOne identity generation counting other → Holes other left
     → AreOne identity generation counting left
@@ -152,6 +155,7 @@ lost_leaves identity generation counting other left one holes = record {
 
 -- ---- the other file counts
 
+-- once the other file counts, which has the next card, the two files are of one store still
 pub choice_turns : (identity : List ℕ) (generation : ℕ) (counting other : List ℕ) (card : Note)
     → IsNote card → card.identity ≡ identity → card.generation ≡ generation + 1
     → StandsAt 0 other card → AreOne identity generation counting other
@@ -200,6 +204,7 @@ told_none : (at : ℕ) (page : List ℕ) (test : Note → Bool) (found : Option 
 told_none at page test None reads each = refl
 told_none at page test (Some note) reads each = each note reads.0 reads.1
 
+-- whatever notes are read from two files of one store after a crash, the files fit
 pub crash_fits : (identity : List ℕ) (generation : ℕ) (counting other : List ℕ) (card : Note)
     (own : Option Note) (notes : Notes)
     → AreOne identity generation counting other → IsNote card

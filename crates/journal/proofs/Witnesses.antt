@@ -118,6 +118,7 @@ at_end note text till le by =
       | inr some ↦ rw (some, within) by
     ]
 
+-- what a note witnesses is found in each file to which groups were added since
 pub witness_found : (first rest : List ℕ) (groups more : List (List (List ℕ))) (note : Note)
     → note.end ≡ journal_end first groups → note.sum ≡ sum_after first groups
     → is_found note (journal_text first (groups ++ more) ++ rest)
