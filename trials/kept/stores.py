@@ -51,14 +51,18 @@ def run(words, script=b"", **more):
 
 
 def new_where_none_is(folder):
-    """`--new` for a folder that has no store: no head is whole in its first file, or no card."""
+    """`--new` for a folder that has no store: no head is whole in its first file; or that counts,
+    and has no card."""
     try:
         with open(os.path.join(folder, JOURNAL), "rb") as file:
             head, card = file.read(HEAD), file.read(NOTE)
     except OSError:
         head = card = b""
+    if len(head) < HEAD or not head.endswith(b"\n"):
+        return ["--new"]
+    second_counts = head[SELECTOR : SELECTOR + 3].count(b"+") > 1
     has_card = head.startswith(b"#metad journal 1") or len(card) == NOTE and 0 not in card
-    return [] if len(head) == HEAD and head.endswith(b"\n") and has_card else ["--new"]
+    return [] if second_counts or has_card else ["--new"]
 
 
 def serve(folder, script=b"", *words, **more):
