@@ -1,5 +1,5 @@
 -- What stands behind a page.
-use Rattle.std.proofs.Common.{◌≡◌, ◌⊎◌, ◌∙◌, ap, sym, refl, subst, ℕ, ◌+◌, ◌-◌, ◌≤◌, List, ◌++◌, length, take, drop, replicate, min, inl, inr, Option, Some, None, arith, length-drop}
+use Rattle.std.proofs.Common.{◌≡◌, ◌⊎◌, ◌∙◌, ap, sym, refl, subst, ℕ, ◌+◌, ◌≤◌, List, ◌++◌, length, take, drop, replicate, min, inl, inr, Option, Some, None, arith, length-drop}
 use Rattle.std.proofs.lemmas.Bool.{cases_lt}
 use Rattle.std.proofs.lemmas.List.{take-append-drop, take_all, drop-append-le, drop-drop}
 use Rattle.journal.specs.Crashes.{Only, Mixes, PutCrash, written}

@@ -3,7 +3,7 @@ use Rattle.std.proofs.Common.{◌≡◌, ◌∙◌, ap, sym, refl, ℕ, zero, su
 use Rattle.std.proofs.lemmas.Bool.{cases_lt, cases_Bool, false≢true}
 use Rattle.std.proofs.lemmas.List.{length-replicate, drop_more, drop_all, get_or_past}
 use Rattle.sqlite_disk.specs.Disk.{Holds, Torn, Mixed}
-use Rattle.journal.specs.Head.{marks_of, selector_of, believed, head_byte, is_head_byte, is_blank, is_blank_from, IsHead}
+use Rattle.journal.specs.Head.{marks_of, selector_of, believed, is_head_byte, is_blank, is_blank_from, IsHead}
 use Rattle.journal.proofs.Pairs.{zero_is, pairs_none, zeros_at}
 use Rattle.journal.specs.Selector.{selector_bytes, IsUnused}
 use Rattle.journal.proofs.Selectors.{unselected, short_unused}

@@ -1,16 +1,15 @@
 -- Two files of a store, whatever a crash left of their pages.
-use Rattle.std.proofs.Common.{◌≡◌, ◌⊎◌, ◌∙◌, ap, sym, refl, subst, ℕ, zero, suc, ◌+◌, ◌<◌, ◌≤◌, ◌==◌, List, [], ◌∷◌, ◌++◌, length, take, drop, Bool, true, false, not, ◌&&◌, ◌||◌, nat_lt, if◌then◌else◌, inl, inr, bytes_eq, Option, Some, None, arith}
+use Rattle.std.proofs.Common.{◌≡◌, ◌∙◌, ap, sym, refl, subst, ℕ, zero, suc, ◌+◌, ◌≤◌, List, [], ◌∷◌, take, drop, Bool, false, not, inl, inr, bytes_eq, Option, Some, None, arith}
 use Rattle.std.proofs.lemmas.Bool.Decides.{nat_tests}
-use Rattle.std.proofs.lemmas.Bool.{cases_Bool, false≢true}
-use Rattle.std.proofs.lemmas.List.{take-take, take_all, drop-drop}
+use Rattle.std.proofs.lemmas.Bool.{false≢true}
+use Rattle.std.proofs.lemmas.List.{take_all, drop-drop}
 use Rattle.journal.specs.Text.{is_torn}
 use Rattle.journal.specs.Crashes.{Holes}
 use Rattle.journal.specs.Notes.{note_text, IsNote, StandsAt, Reads, NoteLeft}
-use Rattle.journal.specs.Bonds.{is_strange, is_later, is_far, is_told, has_strange, has_later, bond_of, IsUpTo, IsNext, AreOne}
+use Rattle.journal.specs.Bonds.{is_strange, is_later, is_far, is_told, bond_of, IsUpTo, IsNext, AreOne}
 use Rattle.journal.specs.declared.page.note.Note.{Note}
 use Rattle.journal.specs.declared.page.Notes.{Notes}
-use Rattle.journal.specs.declared.page.bond.Bond.{Bond}
-use Rattle.journal.specs.declared.page.bond.Bond.TheVariants.{Fits, OtherStore, OtherMoment, Stale}
+use Rattle.journal.specs.declared.page.bond.Bond.TheVariants.{Fits}
 use Rattle.journal.proofs.Fronts.{take_front}
 use Rattle.journal.proofs.Groups.{same_bytes}
 use Rattle.journal.proofs.NoteTexts.{length-note_text, note_is_marked, identity_read, generation_read}

@@ -6,7 +6,7 @@ use Rattle.std.proofs.lemmas.List.Folds.{list_any-append}
 use Rattle.std.proofs.lemmas.Slice.Eq.{bytes_eq-Decides}
 use Rattle.std.specs.List.{AllByRecursion}
 use Rattle.journal.specs.Text.{is_line_feed, is_zero, is_torn, is_commit, lines_text, group_sum, group_text, group_lines, group_end, commit_line, lines_from, journal_text, journal_end, AreLines, AreGroups}
-use Rattle.journal.specs.Reading.{whole_lines, last_piece, stands, is_overlong, Found, with_group, found_in, found_from, parsed, found}
+use Rattle.journal.specs.Reading.{whole_lines, last_piece, stands, is_overlong, Found, with_group, found_in, found_from, found}
 use Rattle.journal.specs.Laws.{Collision}
 use Rattle.journal.proofs.TextLines.{HasNoFeed, or_false, parts, none_of_both, each_whole, lines_text-append, whole_lines-lines, last_piece-lines, whole_lines-line, last_piece-line, whole_lines-none, last_piece-none}
 use Rattle.journal.proofs.Sums.{length-commit, commit_is_marked, commit_has_none, same_place, same_sum}

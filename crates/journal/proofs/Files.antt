@@ -2,7 +2,7 @@
 use Rattle.std.proofs.Common.{◌≡◌, ◌∙◌, ap, sym, subst, ℕ, ◌+◌, ◌≤◌, List, ◌++◌, take, drop, length, true, arith}
 use Rattle.std.proofs.lemmas.List.{take-append-drop, drop-drop, take_all}
 use Rattle.std.proofs.Math.Seq.{take-add}
-use Rattle.journal.specs.Reading.{Found, found}
+use Rattle.journal.specs.Reading.{found}
 use Rattle.journal.specs.Reads.{HasRead}
 use Rattle.journal.specs.declared.reader.Reader.{Reader}
 

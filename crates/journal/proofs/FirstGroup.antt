@@ -1,5 +1,5 @@
 -- Whether a reader has met a group.
-use Rattle.std.proofs.Common.{◌≡◌, ◌∙◌, ap, sym, refl, ℕ, ◌+◌, ◌<◌, List, [], ◌∷◌, ◌++◌, take, drop, length, Bool, true, false, arith, length-append}
+use Rattle.std.proofs.Common.{◌≡◌, ◌∙◌, ap, sym, refl, ℕ, ◌<◌, List, [], ◌∷◌, ◌++◌, take, drop, length, Bool, true, false, arith, length-append}
 use Rattle.std.proofs.lemmas.List.{take-append-drop}
 use Rattle.sha2.specs.declared.Sha256.{Sha256}
 use Rattle.journal.specs.Text.{lines_text, group_lines, group_sum, group_end, group_text, lines_from, journal_end}
@@ -9,7 +9,6 @@ use Rattle.journal.specs.declared.reader.Reader.{Reader}
 use Rattle.journal.proofs.TextLines.{lines_text-append}
 use Rattle.journal.proofs.Told.{length-group}
 use Rattle.journal.proofs.ReadOn.{over_groups, going_groups}
-use Rattle.journal.proofs.Files.{all_of}
 
 -- the first of two parts
 front_none : {X : Type 0} (a b : List X) → a ++ b ≡ [] → a ≡ []

@@ -1,13 +1,13 @@
 -- The digit of format 2 in a first line.
-use Rattle.std.proofs.Common.{◌≡◌, ◌⊎◌, ◌∙◌, ap, sym, refl, subst, ℕ, ◌+◌, ◌*◌, ◌<◌, ◌≤◌, List, [], ◌∷◌, ◌++◌, length, take, drop, Bool, true, false, ◌||◌, inl, inr, bytes_eq, arith, length-drop}
+use Rattle.std.proofs.Common.{◌≡◌, ◌⊎◌, ◌∙◌, ap, sym, refl, ℕ, ◌*◌, ◌≤◌, List, [], ◌∷◌, ◌++◌, length, take, drop, true, inl, inr, bytes_eq, arith}
 use Rattle.std.specs.List.{list_any}
-use Rattle.std.proofs.lemmas.Bool.{cases_Bool, cases_lt, false≢true}
+use Rattle.std.proofs.lemmas.Bool.{cases_Bool, cases_lt}
 use Rattle.std.proofs.lemmas.List.{take-append-drop}
 use Rattle.std.proofs.lemmas.Slice.Eq.{bytes_eq-Decides}
 use Rattle.sqlite_disk.specs.Disk.{Mixed}
 use Rattle.journal.specs.Crashes.{Mixes, written}
-use Rattle.journal.specs.Head.{line_of, old_line, first_line, is_first_line, marks_of, selector_of, is_other, pairs, believed, IsHeaded}
-use Rattle.journal.specs.Selector.{tail_of, HasSelector, FormatLeft}
+use Rattle.journal.specs.Head.{line_of, old_line, first_line, is_first_line, marks_of, is_other, pairs, believed, IsHeaded}
+use Rattle.journal.specs.Selector.{tail_of, FormatLeft}
 use Rattle.journal.proofs.FileHeads.{short_believed}
 use Rattle.journal.proofs.Fronts.{written_after}
 use Rattle.journal.proofs.Over.{size}

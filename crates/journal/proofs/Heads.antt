@@ -1,6 +1,6 @@
 -- The head of a line tells what the line is.
-use Rattle.std.proofs.Common.{◌≡◌, ◌∙◌, ap, sym, refl, ℕ, zero, suc, ◌==◌, ◌-◌, ◌<◌, ◌≤◌, List, [], ◌∷◌, ◌++◌, length, take, drop, Bool, true, false, ◌&&◌, not, inl, inr, bytes_eq, arith}
-use Rattle.std.proofs.lemmas.List.{drop-take, append-nil, length-take-le, take_all}
+use Rattle.std.proofs.Common.{◌≡◌, ◌∙◌, ap, refl, ℕ, zero, suc, ◌==◌, ◌-◌, ◌<◌, List, [], ◌∷◌, ◌++◌, length, take, drop, Bool, ◌&&◌, not, bytes_eq, arith}
+use Rattle.std.proofs.lemmas.List.{drop-take}
 use Rattle.journal.specs.Text.{is_zero, is_commit, sum_of, commit_of, place_text}
 use Rattle.journal.specs.Reading.{stands, is_overlong}
 use Rattle.journal.proofs.Sums.{length-commit, length-place_text}

@@ -1,8 +1,8 @@
 -- Each line feed that a reader meets, by what its tests say.
-use Rattle.std.proofs.Common.{◌≡◌, ◌∙◌, ap, sym, refl, ℕ, ◌+◌, List, [], ◌∷◌, ◌++◌, drop, Bool, true, false, ◌&&◌, not, bytes_eq}
+use Rattle.std.proofs.Common.{◌≡◌, ◌∙◌, ap, sym, ℕ, ◌+◌, List, [], ◌∷◌, ◌++◌, drop, Bool, true, false, ◌&&◌, not, bytes_eq}
 use Rattle.sha2.specs.Hashers.{Holds256}
 use Rattle.sha2.specs.declared.Sha256.{Sha256}
-use Rattle.journal.specs.Text.{is_torn, is_commit, sum_of, commit_of, place_text}
+use Rattle.journal.specs.Text.{is_commit, sum_of, commit_of, place_text}
 use Rattle.journal.specs.Reading.{is_overlong, found}
 use Rattle.journal.specs.Reads.{ReadSo}
 use Rattle.journal.proofs.Clear.{damage_is_found, sound_is_found}

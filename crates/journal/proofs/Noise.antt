@@ -1,9 +1,8 @@
 -- No write leaves a byte that no UTF-8 text has: what is read of it is what its lines are.
-use Rattle.std.proofs.Common.{◌≡◌, ◌⊎◌, ◌∙◌, ap, sym, refl, ℕ, zero, suc, ◌/◌, ◌%◌, List, [], ◌∷◌, ◌++◌, length, replicate, slice_index, true, false, inl, inr}
-use Rattle.std.proofs.lemmas.List.Folds.{list_any-append}
+use Rattle.std.proofs.Common.{◌≡◌, ◌⊎◌, ◌∙◌, ap, refl, ℕ, zero, suc, ◌/◌, ◌%◌, List, [], ◌∷◌, ◌++◌, length, replicate, slice_index, true, false, inl, inr}
 use Rattle.std.specs.Int.{to_be_bytes, w64}
 use Rattle.sha2.specs.Sha256.{sha256}
-use Rattle.hex.specs.Hex.{encode_with, encode_lower, lower_digits}
+use Rattle.hex.specs.Hex.{encode_with, lower_digits}
 use Rattle.journal.specs.Text.{is_noise, has_noise, is_torn, lines_text, sum_of, place_text, commit_of, commit_line, group_sum, group_lines, group_text, group_end, sum_after, lines_from, journal_text, journal_end, AreLines, AreGroups}
 use Rattle.journal.specs.Reading.{found, sound}
 use Rattle.journal.specs.Crashes.{Mixes}

@@ -1,16 +1,16 @@
 -- A note that is put, whole or not.
-use Rattle.std.proofs.Common.{◌≡◌, ◌⊎◌, ◌∙◌, ap, sym, refl, subst, ℕ, ◌+◌, ◌-◌, ◌≤◌, List, [], ◌∷◌, ◌++◌, length, take, drop, replicate, Bool, true, false, inl, inr, arith, length-append, length-drop}
+use Rattle.std.proofs.Common.{◌≡◌, ◌⊎◌, ◌∙◌, ap, sym, refl, subst, ℕ, ◌+◌, ◌-◌, ◌≤◌, List, length, take, drop, replicate, true, inl, inr, arith, length-drop}
 use Rattle.std.proofs.lemmas.Bool.{false≢true}
 use Rattle.std.proofs.lemmas.List.{length-take-le, length-replicate, drop-replicate}
 use Rattle.journal.specs.Text.{is_torn}
-use Rattle.journal.specs.Crashes.{Only, Holes, Mixes, PutCrash, written}
-use Rattle.journal.specs.Notes.{note_text, IsNote, StandsAt, NoteLeft}
+use Rattle.journal.specs.Crashes.{Only, Mixes, PutCrash, written}
+use Rattle.journal.specs.Notes.{note_text, IsNote, NoteLeft}
 use Rattle.journal.specs.declared.page.note.Note.{Note}
 use Rattle.journal.proofs.Fronts.{written_after}
 use Rattle.journal.proofs.Over.{before, behind, size, there, again}
 use Rattle.journal.proofs.Groups.{over_zeros}
 use Rattle.journal.proofs.NoteTexts.{length-note_text, note_is_marked}
-use Rattle.journal.proofs.Recovering.{mixed_zeros, holes_length, mixes_length}
+use Rattle.journal.proofs.Recovering.{mixed_zeros, holes_length}
 use Rattle.journal.proofs.Tearing.{whole_or_torn}
 
 -- ---- what is left

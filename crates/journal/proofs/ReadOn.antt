@@ -1,5 +1,5 @@
 -- A file is read on by bytes of a line, or by its line feed.
-use Rattle.std.proofs.Common.{◌≡◌, ◌∙◌, ap, sym, refl, subst, ℕ, suc, ◌+◌, ◌-◌, ◌≤◌, List, [], ◌∷◌, ◌++◌, take, drop, length, Bool, true, false, ◌||◌, ◌&&◌, not, if◌then◌else◌, inl, inr, bytes_eq, arith, append_assoc, length-append}
+use Rattle.std.proofs.Common.{◌≡◌, ◌∙◌, ap, sym, refl, subst, ℕ, ◌+◌, ◌-◌, ◌≤◌, List, [], ◌∷◌, ◌++◌, take, drop, length, Bool, true, false, ◌||◌, ◌&&◌, not, if◌then◌else◌, inl, inr, bytes_eq, arith, append_assoc, length-append}
 use Rattle.std.proofs.lemmas.Bool.{cases_Bool}
 use Rattle.std.proofs.lemmas.List.{append-nil, take_at}
 use Rattle.std.proofs.lemmas.List.Folds.{list_any-append}
@@ -7,7 +7,7 @@ use Rattle.std.proofs.lemmas.Slice.Eq.{bytes_eq-Decides}
 use Rattle.std.specs.List.{list_any}
 use Rattle.sha2.specs.Hashers.{Holds256}
 use Rattle.sha2.specs.declared.Sha256.{Sha256}
-use Rattle.journal.specs.Text.{is_zero, is_line_feed, is_torn, is_commit, has_noise, lines_text, sum_of, group_sum, group_lines, group_text, commit_of, commit_line, sum_after, journal_text, journal_end, place_text, IsLine, AreLines, AreGroups}
+use Rattle.journal.specs.Text.{is_zero, is_torn, is_commit, has_noise, lines_text, sum_of, group_sum, group_text, commit_of, commit_line, sum_after, journal_text, journal_end, place_text, IsLine, AreLines, AreGroups}
 use Rattle.journal.specs.Reading.{whole_lines, last_piece, is_overlong, is_stray, Found, found_none, with_group, with_groups, found_in, parsed}
 use Rattle.journal.specs.Reads.{held, summed, summed_of, Going, Over, ReadSo}
 use Rattle.journal.proofs.TextLines.{HasNoFeed, none_of_both, whole_lines-line, last_piece-line, whole_lines-none, last_piece-none, lines_text-append}

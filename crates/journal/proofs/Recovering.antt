@@ -1,17 +1,17 @@
 -- What a cut behind the groups leaves.
-use Rattle.std.proofs.Common.{◌≡◌, ◌⊎◌, ◌∙◌, ap, sym, refl, subst, ℕ, suc, ◌+◌, ◌-◌, ◌<◌, ◌≤◌, List, [], ◌∷◌, ◌++◌, take, drop, replicate, length, get_or, Bool, true, false, ◌||◌, inl, inr, bytes_eq, arith, append_assoc}
+use Rattle.std.proofs.Common.{◌≡◌, ◌⊎◌, ◌∙◌, ap, sym, refl, subst, ℕ, suc, ◌+◌, ◌-◌, ◌≤◌, List, [], ◌∷◌, ◌++◌, take, drop, replicate, length, Bool, true, false, ◌||◌, inl, inr, bytes_eq, arith, append_assoc}
 use Rattle.std.proofs.lemmas.Bool.{cases_Bool, false≢true}
-use Rattle.std.proofs.lemmas.List.{append-nil, append_cancel_left, take-append-drop, length-take-le, drop-drop, drop_more, length-replicate, drop-replicate, replicate-append-replicate}
+use Rattle.std.proofs.lemmas.List.{append-nil, append_cancel_left, take-append-drop, length-take-le, drop-drop, length-replicate, drop-replicate, replicate-append-replicate}
 use Rattle.std.proofs.lemmas.Slice.Eq.{bytes_eq-Decides}
 use Rattle.std.specs.List.{list_any}
 use Rattle.journal.specs.Text.{is_torn, is_commit, has_noise, lines_text, commit_line, sum_after, journal_text, journal_end, AreGroups}
 use Rattle.journal.specs.Reading.{whole_lines, last_piece, is_overlong, is_stray, Found, found_none, with_group, with_groups, found_in, found_from, parsed, found, sound}
-use Rattle.journal.specs.Crashes.{Holes, Only, Mixes, written, PutCrash}
+use Rattle.journal.specs.Crashes.{Holes, Only, Mixes, written}
 use Rattle.journal.specs.Groups.{HasGroups}
 use Rattle.journal.specs.Reads.{ZerosFrom}
 use Rattle.journal.proofs.TextLines.{HasNoFeed, AreWhole, or_false, parts, each_whole, piece_has_none, whole_lines-none, last_piece-none}
 use Rattle.journal.proofs.Clear.{clear_both, clear_parts, left_is_clear, sound_parts, found_alike}
-use Rattle.journal.proofs.Tearing.{cut_holes, both_holes, all_there, whole_or_torn, left_has_none, torn_is_not_stray, not_overlong, ends_here}
+use Rattle.journal.proofs.Tearing.{cut_holes, whole_or_torn, left_has_none, torn_is_not_stray, not_overlong, ends_here}
 use Rattle.journal.proofs.Groups.{Read, read_text, found_behind, line_is_not_stray, commit_is_not_stray, commit_is_short, line_is_short}
 
 -- ---- what is read as nothing stays so where bytes are lost

@@ -1,11 +1,11 @@
 -- The selector in a head.
-use Rattle.std.proofs.Common.{◌≡◌, ◌⊎◌, ◌∙◌, ap, sym, subst, ℕ, ◌+◌, ◌<◌, ◌≤◌, ◌==◌, List, length, take, drop, slice_index, Bool, false, ◌&&◌, inl, inr, bytes_eq, arith, length-drop, get_or-take, get_or-drop}
+use Rattle.std.proofs.Common.{◌≡◌, ◌⊎◌, ◌∙◌, ap, sym, subst, ℕ, ◌+◌, ◌<◌, ◌≤◌, ◌==◌, List, length, drop, slice_index, Bool, false, ◌&&◌, inl, inr, arith, length-drop, get_or-take, get_or-drop}
 use Rattle.std.proofs.lemmas.Bool.{cases_lt}
-use Rattle.std.proofs.lemmas.List.{length-take-le, take-take, ext_get_or, get_or_past}
+use Rattle.std.proofs.lemmas.List.{length-take-le, ext_get_or, get_or_past}
 use Rattle.sqlite_disk.specs.Disk.{Torn, Follows}
 use Rattle.journal.specs.Crashes.{Only}
-use Rattle.journal.specs.Head.{believed, selector_of, IsHeaded}
-use Rattle.journal.specs.Selector.{tail_of, tail_counts, is_most, selector_bytes, other_counts, HasSelector, AllSelect, SameSelector, IsUnused}
+use Rattle.journal.specs.Head.{believed, IsHeaded}
+use Rattle.journal.specs.Selector.{tail_of, tail_counts, is_most, other_counts, HasSelector, AllSelect, SameSelector, IsUnused}
 use Rattle.journal.proofs.FileHeads.{short_believed}
 use Rattle.journal.proofs.Most.{and_false}
 use Rattle.journal.proofs.ReadHeads.{feed_to}

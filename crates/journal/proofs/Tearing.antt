@@ -3,7 +3,6 @@ use Rattle.std.proofs.Common.{◌≡◌, ◌⊎◌, ◌∙◌, ap, sym, refl, su
 use Rattle.std.proofs.lemmas.Bool.{cases_Bool, false≢true, eqb-true, and_parts}
 use Rattle.std.proofs.lemmas.List.{append-nil}
 use Rattle.std.proofs.lemmas.List.Folds.{list_any-append}
-use Rattle.std.specs.Bool.{⊤}
 use Rattle.std.specs.List.{list_any}
 use Rattle.journal.specs.Text.{is_line_feed, is_zero, is_torn, is_commit, lines_text}
 use Rattle.journal.specs.Reading.{onto_whole, whole_lines, last_piece, stands, is_overlong, is_stray, found_none, found_in, sound}

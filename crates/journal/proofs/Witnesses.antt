@@ -1,9 +1,9 @@
 -- A witness is found again.
-use Rattle.std.proofs.Common.{◌≡◌, ◌⊎◌, ◌∙◌, ap, sym, refl, ℕ, ◌+◌, ◌-◌, ◌≤◌, ◌==◌, List, [], ◌∷◌, ◌++◌, length, take, drop, Bool, true, false, ◌&&◌, nat_le, if◌then◌else◌, inl, inr, bytes_eq, arith, append_assoc, length-append}
+use Rattle.std.proofs.Common.{◌≡◌, ◌∙◌, ap, sym, refl, ℕ, ◌-◌, ◌≤◌, ◌==◌, List, [], ◌∷◌, ◌++◌, length, take, drop, true, ◌&&◌, nat_le, if◌then◌else◌, inl, inr, bytes_eq, arith, append_assoc, length-append}
 use Rattle.std.proofs.lemmas.Bool.Decides.{nat_tests}
 use Rattle.std.proofs.lemmas.Bool.{cases_Bool}
 use Rattle.std.proofs.lemmas.List.{append-nil, take_at, drop_at}
-use Rattle.journal.specs.Text.{lines_text, commit_of, commit_line, group_sum, group_text, sum_after, journal_text, journal_end, place_text}
+use Rattle.journal.specs.Text.{lines_text, commit_line, group_sum, group_text, sum_after, journal_text, journal_end, place_text}
 use Rattle.journal.specs.Notes.{ends_by, is_found}
 use Rattle.journal.specs.declared.page.note.Note.{Note}
 use Rattle.journal.proofs.Groups.{same_bytes}

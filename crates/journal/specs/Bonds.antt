@@ -1,7 +1,7 @@
 -- When two files belong together. Of a store's two files one counts, and its generation is that of
 -- its card. A checkpoint goes into the other file under the next one. So the other file is of the
 -- generation before or of the next one, and no note is of a later file that counted.
-use Rattle.std.specs.Prelude.{◌≡◌, ◌⊎◌, ◌≤◌, ◌+◌, ◌++◌, ◌==◌, ◌&&◌, ◌||◌, not, nat_lt, ℕ, List, Bool, true, false, if◌then◌else◌, bytes_eq, Option, Some, None}
+use Rattle.std.specs.Prelude.{◌≡◌, ◌⊎◌, ◌≤◌, ◌+◌, ◌++◌, ◌==◌, ◌&&◌, ◌||◌, not, nat_lt, ℕ, List, Bool, true, false, if◌then◌else◌, bytes_eq, Option}
 use Rattle.std.specs.Option.{option_map_or}
 use Rattle.journal.specs.Text.{sum_after, journal_text, journal_end}
 use Rattle.journal.specs.Crashes.{Holes}

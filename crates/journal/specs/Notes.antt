@@ -1,6 +1,6 @@
 -- What a page of notes says. It stands before the text of a file of format 2: two notes, the card
 -- of the file itself, and the witness of the file that counts.
-use Rattle.std.specs.Prelude.{◌≡◌, ◌⊎◌, ℕ, ◌+◌, ◌-◌, ◌^◌, ◌<◌, ◌≤◌, ◌==◌, ◌&&◌, nat_le, List, [], ◌∷◌, ◌++◌, length, take, drop, Bool, true, false, if◌then◌else◌, bytes_eq, Option, Some, None}
+use Rattle.std.specs.Prelude.{◌≡◌, ◌⊎◌, ℕ, ◌+◌, ◌-◌, ◌^◌, ◌<◌, ◌==◌, ◌&&◌, nat_le, List, [], ◌∷◌, ◌++◌, length, take, drop, Bool, true, false, if◌then◌else◌, bytes_eq, Option, Some, None}
 use Rattle.journal.specs.Text.{is_torn, sum_of, place_text}
 use Rattle.journal.specs.declared.page.note.Note.{Note}
 

@@ -1,10 +1,5 @@
-use Rattle.std.proofs.Common.{◌≡◌, ◌≤◌, ◌∙◌, ap, sym, refl, subst, ℕ, ◌+◌, List, take, drop, length, true, false, arith}
-use Rattle.std.specs.Prelude.{IsTrue}
-use Rattle.journal.specs.Reading.{Found, found}
-use Rattle.journal.specs.Text.{AreGroups, journal_text, sum_after}
-use Rattle.journal.specs.Reads.{HasRead, ZerosFrom}
+use Rattle.std.proofs.Common.{◌∙◌, ap, refl, ℕ, List, take, drop, arith}
 use Rattle.journal.proofs.Errors.{same_error}
-use Rattle.journal.proofs.Files.{all_of}
 use Rattle.journal.proofs.Zeros.{zeros_more}
 use Rattle.journal.proofs.reading.check.Goals as goal
 

@@ -1,7 +1,5 @@
-use Rattle.std.proofs.Common.{◌≡◌, ◌≤◌, ◌∙◌, ap, sym, refl, subst, ℕ, ◌+◌, List, [], take, drop, length, true, false, arith}
-use Rattle.std.specs.Prelude.{IsTrue}
-use Rattle.journal.specs.Reading.{Found, found}
-use Rattle.journal.specs.Reads.{HasRead}
+use Rattle.std.proofs.Common.{◌∙◌, ap, sym, refl, ℕ, ◌+◌, List, take, arith}
+use Rattle.journal.specs.Reading.{found}
 use Rattle.journal.proofs.Errors.{same_error}
 use Rattle.journal.proofs.Files.{all_of}
 use Rattle.journal.proofs.FirstGroup.{some_in}

@@ -1,4 +1,4 @@
-use Rattle.std.proofs.Common.{◌≡◌, ◌∙◌, ap, sym, ℕ, List, take, drop}
+use Rattle.std.proofs.Common.{◌∙◌, take}
 use Rattle.journal.proofs.Errors.{same_error}
 use Rattle.journal.proofs.Files.{block_more, block_damage}
 use Rattle.journal.proofs.reading.read_block.Goals as goal

@@ -1,6 +1,6 @@
 use Rattle.std.proofs.Common.{◌≡◌, ◌∙◌, ap, sym, refl, subst, ℕ, ◌+◌, ◌-◌, ◌≤◌, List, replicate, length, Bool, arith}
 use Rattle.std.specs.Prelude.{IsTrue}
-use Rattle.journal.specs.Crashes.{Only, written}
+use Rattle.journal.specs.Crashes.{written}
 use Rattle.journal.proofs.Blanking.{Left, left_whole, left_more, written_none, written_more, written_length}
 use Rattle.journal.proofs.recovery.blank.Goals as goal
 

@@ -1,4 +1,4 @@
-use Rattle.std.proofs.Common.{◌≡◌, ◌≤◌, ◌-◌, List, ℕ, replicate, length}
+use Rattle.std.proofs.Common.{◌≡◌, ◌≤◌, ◌-◌, replicate, length}
 use Rattle.std.specs.Prelude.{IsTrue}
 use Rattle.journal.specs.Crashes.{Only, written}
 use Rattle.journal.proofs.recovery.blank.Given as goal

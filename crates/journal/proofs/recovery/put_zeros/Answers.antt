@@ -1,4 +1,4 @@
-use Rattle.std.proofs.Common.{◌≡◌, ◌∙◌, ap, sym, refl, ℕ, ◌+◌, ◌≤◌, List, replicate, length, inl, arith}
+use Rattle.std.proofs.Common.{◌≡◌, ◌∙◌, ap, refl, ℕ, List, replicate, length, inl, arith}
 use Rattle.std.proofs.lemmas.List.{length-replicate}
 use Rattle.journal.specs.Crashes.{written}
 use Rattle.journal.proofs.Blanking.{left_of}

@@ -1,4 +1,4 @@
-use Rattle.std.proofs.Common.{◌≡◌, ◌∙◌, ap, sym, subst, ℕ, ◌≤◌, List, length, Bool}
+use Rattle.std.proofs.Common.{ap, subst, ◌≤◌, length, Bool}
 use Rattle.std.specs.Prelude.{IsTrue}
 use Rattle.journal.specs.Crashes.{Only}
 use Rattle.journal.specs.Reading.{found}

@@ -1,6 +1,5 @@
-use Rattle.std.proofs.Common.{◌≡◌, ◌∙◌, ap, sym, ℕ, List, ◌++◌, take, drop}
+use Rattle.std.proofs.Common.{◌∙◌, ap, sym, ℕ, List, ◌++◌, take, drop}
 use Rattle.journal.specs.Reading.{whole_lines}
-use Rattle.journal.specs.Reads.{IsCut}
 use Rattle.journal.proofs.rereading.cut_block.Goals as goal
 
 -- the block is cut at its last line feed

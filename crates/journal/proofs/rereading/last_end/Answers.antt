@@ -1,4 +1,4 @@
-use Rattle.std.proofs.Common.{◌≡◌, inl, inr, refl, arith}
+use Rattle.std.proofs.Common.{inl, inr, refl, arith}
 use Rattle.journal.proofs.LastFeeds.{cut_at}
 use Rattle.journal.proofs.rereading.last_end.Goals as goal
 

@@ -1,4 +1,4 @@
-use Rattle.std.proofs.Common.{◌≡◌, refl, subst, ℕ, List, take, drop, arith}
+use Rattle.std.proofs.Common.{refl, subst, ℕ, List, take, drop, arith}
 use Rattle.journal.specs.Reads.{IsCut}
 use Rattle.journal.proofs.LastFeeds.{some_read, none_read}
 use Rattle.journal.proofs.rereading.read_lines.Goals as goal

@@ -1,4 +1,4 @@
-use Rattle.std.proofs.Common.{◌≡◌, subst, ℕ, List}
+use Rattle.std.proofs.Common.{subst, ℕ, List}
 use Rattle.journal.specs.Reads.{IsCut}
 use Rattle.journal.proofs.rereading.read_some.Goals as goal
 

@@ -1,6 +1,5 @@
 use Rattle.std.proofs.Common.{◌≡◌, ◌∙◌, sym, Some, arith}
 use Rattle.std.proofs.lemmas.List.{length-take-le}
-use Rattle.journal.specs.declared.page.note.Note.{Note}
 use Rattle.journal.proofs.NoteTexts.{identity_read, generation_read, end_read, sum_read}
 use Rattle.journal.proofs.page.note.parts_in.Goals as goal
 

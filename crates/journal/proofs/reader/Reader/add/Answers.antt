@@ -1,6 +1,4 @@
-use Rattle.std.proofs.Common.{◌≡◌, ◌∙◌, ap, sym, ℕ, List, ◌++◌, [], Bool, ◌||◌, if◌then◌else◌}
-use Rattle.sha2.specs.Hashers.{Holds256}
-use Rattle.journal.specs.Text.{is_commit, is_torn}
+use Rattle.std.proofs.Common.{◌∙◌, sym}
 use Rattle.journal.specs.Reads.{ReadSo}
 use Rattle.journal.proofs.Errors.{same_error}
 use Rattle.journal.proofs.ReadOn.{reads_bytes}

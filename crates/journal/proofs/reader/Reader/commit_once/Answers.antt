@@ -1,6 +1,5 @@
-use Rattle.std.proofs.Common.{◌≡◌, ◌∙◌, ap, sym, ℕ, List, ◌++◌, ◌∷◌, [], Bool, ◌&&◌, not, drop, bytes_eq, true, false}
-use Rattle.journal.specs.Text.{is_commit, place_text, commit_of}
-use Rattle.journal.specs.Reading.{is_overlong}
+use Rattle.std.proofs.Common.{◌∙◌, ap, sym, ℕ, List, bytes_eq}
+use Rattle.journal.specs.Text.{commit_of}
 use Rattle.journal.specs.Reads.{ReadSo}
 use Rattle.journal.proofs.LineFeeds.{feed_commits, damage_commits}
 use Rattle.journal.proofs.reader.Reader.commit_once.Goals as goal

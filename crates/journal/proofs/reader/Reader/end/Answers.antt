@@ -1,6 +1,4 @@
-use Rattle.std.proofs.Common.{◌≡◌, ◌∙◌, ap, sym, ℕ, List, ◌++◌, ◌∷◌, [], Bool, ◌&&◌, not, drop, bytes_eq, true, false, refl}
-use Rattle.journal.specs.Text.{is_commit, place_text, commit_of}
-use Rattle.journal.specs.Reading.{is_overlong}
+use Rattle.std.proofs.Common.{refl}
 use Rattle.journal.specs.Reads.{ReadSo}
 use Rattle.journal.proofs.LineFeeds.{damage_at_end, sound_at_end}
 use Rattle.journal.proofs.reader.Reader.end.Goals as goal

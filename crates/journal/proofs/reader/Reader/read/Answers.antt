@@ -1,5 +1,5 @@
-use Rattle.std.proofs.Common.{◌≡◌, ◌∙◌, ap, sym, ℕ, List, ◌++◌}
-use Rattle.journal.specs.Reading.{Found, found}
+use Rattle.std.proofs.Common.{◌∙◌, ap, ℕ, List, ◌++◌}
+use Rattle.journal.specs.Reading.{found}
 use Rattle.journal.proofs.Blocks.{takes_nothing, takes_line, text_at, takes_all}
 use Rattle.journal.proofs.Clear.{noise_at_end}
 use Rattle.journal.proofs.Errors.{same_error}

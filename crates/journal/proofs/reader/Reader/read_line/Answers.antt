@@ -1,5 +1,5 @@
-use Rattle.std.proofs.Common.{◌≡◌, ◌∙◌, ap, sym, ℕ, List, ◌++◌, ◌∷◌, append_assoc}
-use Rattle.journal.specs.Reading.{Found, found}
+use Rattle.std.proofs.Common.{◌∙◌, ap, sym, ℕ, List, ◌++◌, ◌∷◌, append_assoc}
+use Rattle.journal.specs.Reading.{found}
 use Rattle.journal.proofs.Clear.{noise_within}
 use Rattle.journal.proofs.Errors.{same_error}
 use Rattle.journal.proofs.reader.Reader.read_line.Goals as goal

@@ -1,5 +1,4 @@
-use Rattle.std.proofs.Common.{◌≡◌, ◌∙◌, ap, sym, ℕ, List, ◌++◌, ◌∷◌, [], Bool, ◌&&◌, not, drop, bytes_eq, true, false}
-use Rattle.journal.specs.Text.{is_commit, place_text, commit_of}
+use Rattle.std.proofs.Common.{◌∙◌, ap, sym}
 use Rattle.journal.specs.Reading.{is_overlong}
 use Rattle.journal.specs.Reads.{ReadSo}
 use Rattle.journal.proofs.LineFeeds.{feed_stops, damage_stops}

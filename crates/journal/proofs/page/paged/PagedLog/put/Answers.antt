@@ -1,7 +1,7 @@
-use Rattle.std.proofs.Common.{◌∙◌, ap, sym, take, length, arith, ◌≡◌, ◌+◌}
+use Rattle.std.proofs.Common.{◌∙◌, ap, sym, take, length, arith}
 use Rattle.std.proofs.lemmas.Bool.{false≢true}
 use Rattle.journal.proofs.Over.{size}
-use Rattle.journal.proofs.Behind.{whole_only, put_behind, crash_behind, behind_only}
+use Rattle.journal.proofs.Behind.{whole_only, put_behind, crash_behind}
 use Rattle.journal.proofs.page.paged.PagedLog.put.Goals as goal
 
 -- nothing is known of a file whose write failed
