@@ -200,7 +200,7 @@ def words():
         env = {**os.environ, "KNOWS": knows, "NOTED": noted, "STAND_IN": " ".join(STAND_IN)}
         path = os.path.join(folder, "socket")
         given = [TOOL, "--socket", path, "--dir", "a b", "--workers=3", "--checkpoint", "--new",
-                 "--program", PROGRAM, *clock]
+                 "--accept-loss", "--program", PROGRAM, *clock]
         with subprocess.Popen(given, env=env, stderr=subprocess.PIPE) as run:
             wants("it is served", b"is served" in run.stderr.readline())
             with reach(path) as client:
@@ -211,8 +211,8 @@ def words():
         with open(noted) as file:
             wants("metad is given its words", file.read().split("\n") ==
                   ["serve"] * (1 + bool(clock)) +
-                  [" ".join(["serve --dir a b --workers 3 --checkpoint --new", *(clock or
-                             [knows] * bool(knows))]), ""])
+                  [" ".join(["serve --dir a b --workers 3 --checkpoint --new --accept-loss",
+                             *(clock or [knows] * bool(knows))]), ""])
         with open(noted + ".lines") as file:
             line = file.read().split("\n")[2]
         found = re.fullmatch(r'{"op":"gc.run"(,"at":"(\d{4}-\d\d-\d\dT[0-9:]{8})\.\d+Z")?}', line)
