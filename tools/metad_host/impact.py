@@ -9,8 +9,9 @@ from .numbers import go_moment
 from .printing import Printer, and_more, first
 from .progress import Progress
 from .rows import Group
-from .store import Store, freed_without
+from .store import Store
 from .walks import Walks
+from .without import freed_without
 
 SHOWN = 20
 Without = Tuple[Group, Freed]

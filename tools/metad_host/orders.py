@@ -17,8 +17,9 @@ from .numbers import DAY, go_moment
 from .printing import Printer, Whole
 from .remarks import printable
 from .rows import Group, Key
-from .store import Store, freed_without
+from .store import Store
 from .walks import is_root
+from .without import freed_without
 
 TASKS = ("io.containerd.runtime.v2.task", "io.containerd.runtime.v1.linux")
 

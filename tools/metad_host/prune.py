@@ -13,8 +13,9 @@ from .progress import Progress
 from .remarks import printable
 from .rows import Group, Key
 from .states import FREE, HELD, ORDER, USED, State, States
-from .store import Store, freed_without
+from .store import Store
 from .walks import Walks
+from .without import freed_without
 
 SHOWN = 20
 COUNTED = (USED, HELD, FREE)

@@ -82,7 +82,11 @@ class Rows:
         self.at = ""
         try:
             for line, asked in zip(lines, said or map(json.loads, lines)):
-                self.take(line, asked)
+                if asked["op"] == "content.add" and "lease" not in asked:  # most lines of a store
+                    key = ("content", asked["ns"], asked["digest"])
+                    self.rows[key] = Row(asked.get("labels", {}))
+                else:
+                    self.take(line, asked)
             if not self.at:
                 raise ValueError
         except (ValueError, KeyError, TypeError, IndexError, AttributeError, RecursionError):
@@ -213,8 +217,10 @@ class Rows:
                         joins.join(config, target)
             joined.append((key, target))
         for key, target in joined:
-            group = Group(OPS[key[0]][0], key[1], [])
-            found.setdefault(joins.first(target), group).keys.append(key)
+            first = joins.first(target) if joins.above else target
+            if first not in found:
+                found[first] = Group(OPS[key[0]][0], key[1], [])
+            found[first].keys.append(key)
         return list(found.values())
 
     def configs(self, target: Key) -> List[Key]:

@@ -10,7 +10,7 @@ from . import asking, daemon, disk, exporting, measuring, sizes
 from .asking import Metad
 from .disk import Disk
 from .faults import BadInput, Missing
-from .freed import NOTHING, Freed, Later
+from .freed import Later
 from .lines import JSON
 from .progress import Progress
 from .remarks import printable
@@ -233,27 +233,6 @@ class Store:
 def name_order(name: str) -> Tuple[bool, bool, str]:
     """Names with a tag first, then those by digest, then identifiers: as people call an image."""
     return ("/" not in name, "@" in name, name)
-
-
-def freed_without(metad: Metad, later: Later, store: Store, groups: List[Group]) -> List[Freed]:
-    """For each group what goes beyond the collection without its rows; these are added again."""
-    plan = asking.request("gc.plan", at=store.at)
-    lines: List[bytes] = []
-    there: List[bool] = []
-    for group in groups:
-        own = [key for key in group.keys if key not in later.gone]
-        there.append(bool(own))
-        if own:
-            lines += [line for key in own for line in store.removal(key, later.gone)] + [plan]
-            lines += [line for key in own for line in store.again(key, later.gone)]
-    reports = metad.reports(lines + [plan])
-    found = []
-    for place, is_there in enumerate(there, 1):
-        store.progress.say("asking what goes without each, %d of %d" % (place, len(there)))
-        found.append(later.more(next(reports)) if is_there else NOTHING)
-    if any(later.more(next(reports))):
-        raise BadInput("the last plan isn't the first: the store didn't come back to what it was")
-    return found
 
 
 def expiry_line(image: Key, text: str) -> bytes:

@@ -14,8 +14,9 @@ from .progress import Progress
 from .remarks import printable
 from .rows import ROOT, Group, Key, remove_line
 from .sizes import Measure, known, unknown
-from .store import Store, freed_without
+from .store import Store
 from .walks import Walks
+from .without import freed_without
 
 SHOWN = 10
 FIRST_DAY = "0000-01-01T00:00:00Z"  # an ingest begun then is no root: its day is long over

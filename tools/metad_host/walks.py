@@ -4,7 +4,7 @@ A walk is at a row in full, or flat, where the row's labels aren't followed.
 """
 from __future__ import annotations
 
-from typing import Dict, Iterable, List, Optional, Sequence, Set, Tuple
+from typing import Dict, List, Optional, Sequence, Set, Tuple
 
 from .freed import awaited_by
 from .numbers import go_moment
@@ -12,6 +12,7 @@ from .rows import FLAT, ROOT, Group, Key, Rows
 from .sizes import Measure
 
 State = Tuple[Key, bool]  # a row, and whether flat
+OWNERS = ("images", "containers", "leases")  # rows that own no object
 OTHER = -1  # a root that is no group
 MANY = -2  # more than one root
 MOST_STEPS = 20000000  # of all walks from one group each
@@ -56,10 +57,11 @@ class Walks:
         self.roots = [[key for key in group.keys if is_root(rows, key, at)] for group in groups]
         self.others = [
             key
-            for key in rows.rows
-            if key[0] not in ("images", "containers", "leases") and is_root(rows, key, at)
+            for key, row in rows.rows.items()
+            if (ROOT in row.labels or key[0] == "ingests")
+            and key[0] not in OWNERS
+            and is_root(rows, key, at)
         ]
-        self.owner: Dict[State, int] = {}
 
     def next(self, state: State) -> Sequence[State]:
         """What a state leads to, found once; most rows are content that leads to nothing."""
@@ -73,50 +75,52 @@ class Walks:
 
     def alone(self) -> List[int]:
         """The bytes that each group alone keeps: no row of these is reached from another root."""
-        owner = self.owner
+        rows = self.rows.rows
+        owner: Dict[State, int] = {}
         todo: List[State] = []
         for number, keys in [(OTHER, self.others)] + list(enumerate(self.roots)):
-            self.claim([(key, False) for key in keys], number, todo)
-        while todo:
-            state = todo.pop()
-            self.claim(self.next(state), owner[state], todo)
+            held: Sequence[State] = [(key, False) for key in keys]
+            while True:
+                for state in held:
+                    before = owner.get(state)
+                    if before is None:
+                        owner[state] = number
+                    elif before == number or before == MANY:
+                        continue
+                    else:
+                        owner[state] = MANY
+                    if state[0][0] != "content" or rows[state[0]].labels:
+                        todo.append(state)
+                if not todo:
+                    break
+                state = todo.pop()
+                number = owner[state]
+                held = self.next(state)
         of_row: Dict[Key, int] = {}
         for (key, _), number in owner.items():
-            of_row[key] = number if of_row.get(key, number) == number else MANY
+            if of_row.setdefault(key, number) != number:
+                of_row[key] = MANY
         found = [0] * len(self.roots)
         for size, number in self.objects(of_row):
-            if number >= 0:
-                found[number] += size
+            found[number] += size
         return found
 
-    def claim(self, states: Iterable[State], number: int, todo: List[State]) -> None:
-        """A root reaches these states: each is that root's alone, or of many."""
-        owner = self.owner
-        for state in states:
-            before = owner.get(state)
-            if before is None:
-                owner[state] = number
-            elif before == number or before == MANY:
-                continue
-            else:
-                owner[state] = MANY
-            todo.append(state)
-
     def objects(self, of_row: Dict[Key, int]) -> List[Tuple[int, int]]:
-        """The bytes of each object with the group that alone keeps it, or another number."""
+        """The bytes of each object that one group alone keeps, with that group's number."""
         found: List[Tuple[int, int]] = []
         blobs: Dict[str, int] = {}
         for key, number in of_row.items():
             if key[0] == "content":
-                blobs[key[2]] = number if blobs.get(key[2], number) == number else MANY
-            else:
+                if blobs.setdefault(key[2], number) != number:
+                    blobs[key[2]] = MANY
+            elif number >= 0 and key[0] not in OWNERS:
                 found.append((self.size(key), number))
         for digest, rows in self.measure.sizes["awaited"].items():
             for ns, name in rows:
                 waits = of_row.get(("ingests", ns, name))
-                if waits is not None:
-                    blobs[digest] = waits if blobs.get(digest, waits) == waits else MANY
-        return found + [(self.blob(digest), number) for digest, number in blobs.items()]
+                if waits is not None and blobs.setdefault(digest, waits) != waits:
+                    blobs[digest] = MANY
+        return found + [(self.blob(it), number) for it, number in blobs.items() if number >= 0]
 
     def size(self, key: Key) -> int:
         """The bytes of a snapshot or an ingest, 0 where they aren't known."""

@@ -42,7 +42,7 @@ def run(work, metad):
 
 
 def one_run(folder, metad):
-    """Impact of 200 images, 300 containers and 200 leases starts metad once, and asks each plan of it."""
+    """Impact of 200 images, 300 containers and 200 leases starts metad once, and asks all plans of it."""
     content = {b"sha256:%064x" % place: {b"size": b"\xc8\x01"} for place in range(1000)}
     tree = {b"images": {b"i:%d" % place: {b"target": {b"digest": b"sha256:%064x" % place}} for place in range(200)},
             b"containers": {b"c-%d" % place: {b"snapshotter": b"native", b"snapshotKey": b"k-%d" % place, b"image": b"i:%d" % (place % 100)} for place in range(300)},
