@@ -109,10 +109,12 @@ def limits(folder, metad):
 
 
 def lines(folder, metad):
-    """Sizes in bytes, metrics as Prometheus reads them, and no line of a file is cut."""
+    """Sizes in bytes, metrics as Prometheus reads them, with labels that no pull changes, and no line of a file is cut."""
     raw, units = (asked(folder, metad, "prune", *more, "host.db") for more in (["--bytes"], []))
     assert "51862" in raw and "51.9 kB" in units, raw
     for line in asked(folder, metad, "metrics", "host.db").splitlines():
+        labels = dict(re.findall(r'([a-z]+)="([^"]*)"', line)) if not line.startswith("#") else {}
+        assert set(labels) <= {"kind", "namespace", "state"} and labels.get("namespace") in (None, "default", "k8s.io", "moby"), line
         assert re.fullmatch(r'# (HELP|TYPE) metad_host_[a-z_]+ .+|metad_host_[a-z_]+(\{([a-z]+="[^"\\\n]*",?)+\})? [0-9.]+', line), line
     assert max(map(len, asked(folder, metad, "why", "host.db", "native/9").splitlines())) > 100
 

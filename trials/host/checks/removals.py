@@ -81,6 +81,7 @@ def run(work, metad, count):
             still_free(asked, states)
         sums = [sums[0] + commands, sums[1] + total]
     refused(work, metad)
+    kubelet(work, metad)
     return "%d random stores: %d commands free %d bytes as plans say, in turn and by free" % ((count,) + tuple(sums))
 
 
@@ -92,6 +93,19 @@ def refused(work, metad):
     found = stores.tool("prune", "--commands", "--leases", "--json", "--metad", metad, "--at", AT, stores_of(work))
     told = json.loads(found.stdout.decode())
     assert [(order["ns"], order["names"], order["command"] is not None) for order in told["leases"]] == [("default", ["old"], True)], told["leases"]
+
+
+def kubelet(work, metad):
+    """Of an image of Kubernetes free says that kubelet removes images too; of another it doesn't."""
+    import os
+
+    import bolt_file
+    path, digest = os.path.join(work, "kubelet.db"), b"sha256:" + b"1" * 64
+    for ns, is_told in ((b"k8s.io", True), (b"default", False)):
+        rows = {b"images": {b"i:1": {b"target": {b"digest": digest}}}, b"content": {b"blob": {digest: {b"size": b"\xc8\x01"}}}}
+        bolt_file.write(path, {b"v1": {b"version": b"\x06", ns: rows}})
+        found = stores.tool("free", "1", "--metad", metad, "--at", AT, path)
+        assert found.returncode == 0 and (b"kubelet removes unused images" in found.stderr) == is_told, found
 
 
 def stores_of(work):
