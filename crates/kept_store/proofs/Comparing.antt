@@ -1,5 +1,5 @@
 -- A journal whose lines were done again makes the store.
-use Rattle.std.proofs.Common.{◌≡◌, ◌∙◌, ap, sym, ℕ, List, ◌++◌, take, length, replicate}
+use Rattle.std.proofs.Common.{◌≡◌, ◌∙◌, ap, sym, ℕ, List, take, replicate}
 use Rattle.std.proofs.lemmas.List.{take_at}
 use Rattle.meta_types.specs.Rows.{State, empty_store}
 use Rattle.journal.specs.Text.{journal_text}

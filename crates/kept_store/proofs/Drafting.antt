@@ -1,5 +1,5 @@
 -- Groups that stand in a file, and lines that wait.
-use Rattle.std.proofs.Common.{◌≡◌, ◌∙◌, ap, sym, refl, ℕ, List, [], ◌∷◌, ◌++◌, length, replicate, append_assoc}
+use Rattle.std.proofs.Common.{◌≡◌, ◌∙◌, ap, sym, refl, ℕ, List, [], ◌∷◌, ◌++◌, length, append_assoc}
 use Rattle.journal.specs.Text.{lines_text, IsLine, AreLines}
 use Rattle.journal.specs.Groups.{HasGroups, added}
 use Rattle.journal.proofs.TextLines.{lines_text-append}

@@ -2,11 +2,9 @@
 use Rattle.std.proofs.Common.{◌≡◌, ◌∙◌, ◌≤◌, ◌-◌, ap, refl, sym, ℕ, List, [], ◌∷◌, ◌++◌, take, length, ◌+◌, Bool, true, false, append_assoc, length-append, arith, Option, Some, None, inl, inr}
 use Rattle.std.proofs.lemmas.Bool.{cases_Bool}
 use Rattle.std.specs.Prelude.{not, filter}
-use Rattle.std.proofs.lemmas.List.{append-nil}
-use Rattle.std.specs.List.{AllByRecursion}
 use Rattle.std.specs.Option.{option_map_or}
 use Rattle.meta_types.specs.Rows.{State}
-use Rattle.journal.specs.Text.{is_commit, commit_line, group_sum, group_end, lines_from, journal_lines, journal_text, IsLine, AreLines, AreGroups}
+use Rattle.journal.specs.Text.{is_commit, commit_line, group_sum, group_end, lines_from, journal_lines, journal_text, AreLines, AreGroups}
 use Rattle.journal.specs.Reading.{whole_lines}
 use Rattle.journal.proofs.TextLines.{HasNoFeed, whole_lines-text, whole_lines-line, whole_lines-none}
 use Rattle.journal.proofs.Groups.{lines_are_whole}

@@ -1,7 +1,7 @@
 -- A next start finds what was answered.
-use Rattle.std.proofs.Common.{◌≡◌, ◌∙◌, ap, refl, sym, subst, ℕ, ◌+◌, List, [], ◌∷◌, ◌++◌, length, Bool, false, Option, append_assoc}
+use Rattle.std.proofs.Common.{◌≡◌, ◌∙◌, ap, refl, sym, subst, ℕ, ◌+◌, List, [], ◌∷◌, ◌++◌, length, Option, append_assoc}
 use Rattle.meta_types.specs.Rows.{State, empty_store}
-use Rattle.journal.specs.Reading.{found, Found}
+use Rattle.journal.specs.Reading.{Found}
 use Rattle.kept_run.specs.Runs.{Entry, asked, replies, accepted, Trace, lines_of, Kept, Survives, Pauses}
 use Rattle.kept_run.proofs.Taking.{asked-append, trace-append}
 use Rattle.kept_run.proofs.Reading.{Consumes-append}

@@ -1,5 +1,5 @@
 -- A line that was answered is a step.
-use Rattle.std.proofs.Common.{◌≡◌, ap, sym, refl, ℕ, ◌<◌, ◌==◌, List, [], ◌∷◌, ◌++◌, length, Bool, true, false, Option, Some, None}
+use Rattle.std.proofs.Common.{◌≡◌, sym, refl, ℕ, ◌<◌, ◌==◌, List, [], ◌∷◌, ◌++◌, length, Bool, true, false, Option, Some, None}
 use Rattle.std.proofs.lemmas.Bool.{false≢true}
 use Rattle.meta_types.specs.Rows.{State}
 use Rattle.meta_types.specs.Steps.{refused}

@@ -1,4 +1,3 @@
-use Rattle.std.proofs.Common.{◌≡◌}
 use Rattle.std.specs.Prelude.{IsTrue}
 use Rattle.kept_store.proofs.Drafting.{grown, settled}
 use Rattle.kept_store.proofs.grouping.settle.Goals as goal

@@ -1,6 +1,6 @@
-use Rattle.std.proofs.Common.{◌≡◌, ◌∙◌, ap, refl, sym, subst, ℕ, List, false}
+use Rattle.std.proofs.Common.{◌∙◌, ap, refl, sym, subst, ℕ, List}
 use Rattle.std.specs.Prelude.{Err}
-use Rattle.journal.specs.Reading.{found, Found}
+use Rattle.journal.specs.Reading.{found}
 use Rattle.journal.specs.Groups.{HasGroups}
 use Rattle.kept_store.proofs.PassedOn.{same_refusal}
 use Rattle.kept_store.proofs.opening.open.Goals as goal

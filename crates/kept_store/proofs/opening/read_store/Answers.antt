@@ -1,5 +1,5 @@
 use Rattle.std.proofs.Common.{◌∙◌, ap, ℕ, List, take, length}
-use Rattle.meta_types.specs.Rows.{State, empty_store}
+use Rattle.meta_types.specs.Rows.{State}
 use Rattle.journal.specs.Reading.{found}
 use Rattle.kept_run.specs.Runs.{lines_of}
 use Rattle.kept_store.specs.Replays.{store_after, requests_in}
