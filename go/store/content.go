@@ -2,7 +2,9 @@ package store
 
 import (
 	"context"
+	"errors"
 	"fmt"
+	"os"
 	"strconv"
 
 	"github.com/containerd/containerd/content"
@@ -21,6 +23,9 @@ type contentStore struct {
 	content.Store
 	s *Store
 }
+
+// mostTries is how often an ingest is opened that other clients end meanwhile.
+const mostTries = 5
 
 // ingestRef names an ingest's file.
 func ingestRef(number uint32) string { return strconv.FormatUint(uint64(number), 10) }
@@ -206,9 +211,21 @@ func (cs *contentStore) refuseThere(ctx context.Context, ns, lease string,
 	return fmt.Errorf("content %v: %w", dgst, errdefs.ErrAlreadyExists)
 }
 
-// begin makes the row of an ingest, whose number names the file, and then the file. A crash between
-// leaves a row without a file: a later Writer makes the file.
+// begin opens an ingest. Another client may end the ingest, and remove its file, while it is being
+// opened: then it is opened anew, a few times.
 func (cs *contentStore) begin(ctx context.Context, ns, lease string,
+	wOpts content.WriterOpts) (*writer, error) {
+	for tries := 1; ; tries++ {
+		w, err := cs.open(ctx, ns, lease, wOpts)
+		if tries == mostTries || !errors.Is(err, os.ErrNotExist) {
+			return w, err
+		}
+	}
+}
+
+// open makes the row of an ingest, whose number names the file, and then the file. A crash between
+// leaves a row without a file: a later Writer makes the file.
+func (cs *contentStore) open(ctx context.Context, ns, lease string,
 	wOpts content.WriterOpts) (*writer, error) {
 	cs.s.filesL.RLock()
 	defer cs.s.filesL.RUnlock()

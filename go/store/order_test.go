@@ -3,6 +3,7 @@ package store
 import (
 	"context"
 	"errors"
+	"fmt"
 	"os"
 	"path/filepath"
 	"strings"
@@ -36,6 +37,32 @@ func TestBlobThatIsntMadeHasNoRow(t *testing.T) {
 	w.contentRow(false, digest.FromString("text"))
 	w.files.onCommit = nil
 	w.contentRow(true, w.write("text"))
+}
+
+// An ingest that another client ends while it is opened: its file is gone.
+
+func TestIngestThatEndsWhileItIsOpenedIsOpenedAnew(t *testing.T) {
+	w := newWorld(t)
+	left := 2
+	w.files.onWriter = func() error {
+		if left == 0 {
+			return nil
+		}
+		left--
+		w.must(w.s.ContentStore().Abort(w.ctx, "r"))
+		return fmt.Errorf("failed to open data file: %w", os.ErrNotExist)
+	}
+	dgst := digest.FromString("text")
+	w.must(content.WriteBlob(w.ctx, w.s.ContentStore(), "r", strings.NewReader("text"),
+		ocispec.Descriptor{Digest: dgst, Size: 4}))
+	w.contentRow(true, dgst)
+
+	tries := 0
+	w.files.onWriter = func() error { tries++; return os.ErrNotExist }
+	_, err := w.s.ContentStore().Writer(w.ctx, content.WithRef("s"))
+	if !errors.Is(err, os.ErrNotExist) || tries != mostTries {
+		t.Fatalf("%v after %d tries", err, tries)
+	}
 }
 
 func TestStartMovesBlobWithoutRowToLost(t *testing.T) {

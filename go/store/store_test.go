@@ -235,6 +235,7 @@ type failingContent struct {
 	content.Store
 	onDelete func(digest.Digest) error
 	onCommit func() error
+	onWriter func() error
 }
 
 func (f *failingContent) Delete(ctx context.Context, dgst digest.Digest) error {
@@ -248,6 +249,11 @@ func (f *failingContent) Delete(ctx context.Context, dgst digest.Digest) error {
 
 func (f *failingContent) Writer(ctx context.Context, opts ...content.WriterOpt) (content.Writer,
 	error) {
+	if f.onWriter != nil {
+		if err := f.onWriter(); err != nil {
+			return nil, err
+		}
+	}
 	w, err := f.Store.Writer(ctx, opts...)
 	return &failingWriter{w, f}, err
 }
