@@ -2,6 +2,7 @@
 import signal
 import sys
 import time
+import traceback
 
 import checkpoints
 import crashes
@@ -27,7 +28,11 @@ def main():
         signal.signal(number, signal.SIG_DFL)
     for name in names:
         began, tried, wrong = time.monotonic(), Told.tried, Told.wrong
-        PARTS[name].all_parts()
+        try:
+            PARTS[name].all_parts()
+        except Exception:  # the other parts are tried all the same
+            Told.wants("the part %s comes to its end" % name, False)
+            traceback.print_exc(file=sys.stdout)
         told = (name, Told.tried - tried, Told.wrong - wrong, time.monotonic() - began)
         print("kept: %s: %d tried, %d wrong, %.0f s" % told, flush=True)
     return 1 if Told.wrong else 0

@@ -4,6 +4,7 @@ import json
 import os
 import subprocess
 import sys
+import time
 from collections import namedtuple
 
 TOP = os.path.dirname(os.path.dirname(os.path.dirname(os.path.abspath(__file__))))
@@ -24,7 +25,18 @@ NAMESPACES = ("x", "y")
 WHEN = "2030-01-01T00:00:00Z"
 DONE = b'{"ok":true}\n'
 NO_MEMORY = b'{"fault":7,"name":"OutOfMemory"}\n'
-WAIT = 60  # seconds after which a run that hasn't ended is wrong
+
+
+def slowness():
+    """How many times as long as on a good day the machine takes now, at least once: the loop of
+    docs/GATE.md, by the clock, since others may use the processors too."""
+    began, total = time.monotonic(), 0
+    for it in range(2_000_000):
+        total += it
+    return max(1.0, 5 * (time.monotonic() - began))
+
+
+WAIT = 60 * slowness()  # seconds after which a run that hasn't ended hangs
 
 Ended = namedtuple("Ended", "status out told")
 
