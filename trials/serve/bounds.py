@@ -10,6 +10,7 @@ from fronts import STAND_IN, TERM, Front, Told, all_of, ask, lines_of
 
 MIB = 1 << 20
 ROW = 1_049_714  # bytes of a row with 256 labels of 4,096 bytes
+DATA = 50_000  # bytes of a row with the longest data
 TURN = 8192  # bytes of lines that a client hands on in a turn
 OWED = 512  # lines that it may be owed replies to
 # ways to ask for a reply that may be long: each is handed on alone
@@ -68,6 +69,25 @@ def rows(front):
     with front.connect() as client:
         client.sendall((LONG[0] % ROW + b"\n") * 20)
         wants("who reads gets all of them", len(lines_of(client, 20)) == 20 * (ROW + 1))
+
+
+def data(front):
+    """Clients that ask for rows of ingests, whose data has a bound, and don't read."""
+    text = b'{"op":"ingest.get","ns":" reply=%d"}\n' % DATA
+    with front.connect() as other:
+        before = front.kilobytes()
+        clients = [front.connect() for _ in range(4)]
+        for client in clients:
+            client.sendall(text * 1000)
+        wants("another is served meanwhile", ask(other, b"=other") == b"=other\n")
+        time.sleep(0.5)
+        more = (front.kilobytes() - before) / 1024
+        wants("data that isn't read: 4 clients", more < 4 * 2.2 + 8, more)
+        for client in clients:
+            client.close()
+    with front.connect() as client:
+        client.sendall(text * 200)
+        wants("who reads gets all of it", len(lines_of(client, 200)) == 200 * (DATA + 1))
 
 
 def handed_on():
@@ -212,6 +232,7 @@ def run():
     """All of them."""
     with Front() as front:
         rows(front)
+        data(front)
         wants("it ends with 0", front.ends(TERM) == 0)
     for trial in (handed_on, owed, turns, stopped_service, idle):
         trial()

@@ -167,15 +167,24 @@ func (c *client) mayHandOn() bool {
 	if next.alone() {
 		return c.owed == 0
 	}
-	return c.owed == 0 || c.owed+next.lines <= owedMost &&
-		c.weight+next.weight+c.unread.size <= unreadMost
+	return c.mayBeOwed(*next)
+}
+
+// mayBeOwed tells whether the replies of a run keep the client's bounds.
+func (c *client) mayBeOwed(more run) bool {
+	return c.owed+more.lines <= owedMost && c.weight+more.weight+c.unread.size <= unreadMost
 }
 
 // handOn appends the lines of its turn to those for the service.
 func (c *client) handOn(batch []byte) ([]byte, run) {
 	turn := c.runs.pop()
 	for c.runs.len() > 0 && turn.takes(*c.runs.first()) {
-		turn.add(c.runs.pop())
+		longer := turn
+		if longer.add(*c.runs.first()); !c.mayBeOwed(longer) {
+			break
+		}
+		turn = longer
+		c.runs.pop()
 	}
 	batch = append(batch, c.text[c.from:c.from+turn.size]...)
 	if c.from += turn.size; c.from == len(c.text) {

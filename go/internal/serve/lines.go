@@ -89,7 +89,7 @@ func withLine(runs []run, size int, asked request) []run {
 // takes tells whether both are handed on together.
 func (r run) takes(more run) bool {
 	return !r.alone() && !more.alone() && r.lines+more.lines <= turnLines &&
-		r.size+more.size <= turnBytes
+		r.size+more.size <= turnBytes && r.weight+more.weight <= unreadMost
 }
 
 func (r *run) add(more run) {

@@ -90,6 +90,48 @@ func TestARunHasAsManyBytesAsATurn(t *testing.T) {
 	}
 }
 
+func TestAClientIsOwedNoMoreThanItsBounds(t *testing.T) {
+	lines := []string{`{"op":"ingest.get","ns":"a","ref":"b"}`, `{"op":"ns.add","ns":"a"}`, `x`}
+	for seed := int64(0); seed < 20; seed++ {
+		chance := rand.New(rand.NewSource(seed))
+		c := client{}
+		var handed, sent int
+		for handed == 0 || c.runs.len() > 0 {
+			var block []byte
+			for count := chance.Intn(400); count > 0; count-- {
+				block = append(append(block, lines[chance.Intn(len(lines))]...), '\n')
+				sent++
+			}
+			var runs []run
+			c.text, runs = c.cutter.cut(block, c.text, nil)
+			c.runs.push(runs...)
+			c.unread.size = int64(chance.Intn(2)) * chance.Int63n(unreadMost)
+			var turns []run
+			for c.mayHandOn() {
+				_, turn := c.handOn(nil)
+				turns = append(turns, turn)
+				if c.owed > owedMost || c.weight+c.unread.size > unreadMost {
+					t.Fatalf("seed %d: it is owed %d lines, %d bytes beside %d", seed, c.owed, c.weight,
+						c.unread.size)
+				}
+			}
+			if len(turns) == 0 && c.unread.size == 0 && c.runs.len() > 0 {
+				t.Fatalf("seed %d: nothing is handed on for a client that is owed nothing", seed)
+			}
+			for _, turn := range turns {
+				handed += turn.lines
+				c.answered(turn.lines, turn.weight)
+			}
+			if sent > 3000 {
+				break
+			}
+		}
+		if handed == 0 {
+			t.Fatalf("seed %d: nothing is handed on", seed)
+		}
+	}
+}
+
 func TestAnEndlessLineTakesLittleRoom(t *testing.T) {
 	var c cutter
 	block := bytes.Repeat([]byte("x"), 50000)
