@@ -129,8 +129,8 @@ func (cs *contentStore) Status(ctx context.Context, ref string) (content.Status,
 	return status, err
 }
 
-// Abort removes the row, and then the file. A crash between leaves a file without a row, which a
-// start moves to lost/.
+// Abort removes the row, and then the file. A crash between leaves the object in the backend, so the
+// next collection removes the file.
 func (cs *contentStore) Abort(ctx context.Context, ref string) error {
 	ns, lease, err := requested(ctx)
 	if err != nil {
