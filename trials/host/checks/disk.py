@@ -76,12 +76,21 @@ def told(root, metad):
     assert young.returncode == 1 and b"nothing in the store" in young.stderr, young
 
 
+def told_bytes(metad, *words):
+    """The bytes of each kind by metrics."""
+    samples, = [metric["samples"] for metric in asked(metad, "metrics", *words)["metrics"] if metric["name"] == "metad_host_bytes"]
+    return {sample["labels"]["kind"]: sample["value"] for sample in samples}
+
+
 def kept(root, copy, metad, disk):
     """A copy that measured keeps the disk and the bytes of writable snapshots for all words."""
     assert stores.tool("copy", "--measure", root, copy).returncode == 0
     found = asked(metad, "usage", copy)
     assert found["disk"]["nobody"] == disk["nobody"] and found["disk"]["of_rows"] > 3000, found["disk"]
     assert found["kinds"]["writable"]["bytes"] >= 3000 and found["kinds"]["writable"]["unknown"] == 2, found["kinds"]  # one of them is the devmapper's
+    writable = found["kinds"]["writable"]["bytes"]
+    assert told_bytes(metad, copy)["writable"] == told_bytes(metad, "--measure", root)["writable"] == writable, writable
+    assert "writable" not in told_bytes(metad, root), "bytes that no one measured"
     row, = [row for row in asked(metad, "impact", copy)["rows"] if row["kind"] == "container"]
     plain, = [row for row in asked(metad, "impact", root)["rows"] if row["kind"] == "container"]
     measured, = [row for row in asked(metad, "impact", "--measure", root)["rows"] if row["kind"] == "container"]
