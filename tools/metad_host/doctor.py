@@ -5,6 +5,7 @@ import argparse
 from typing import Any, Dict, Iterator, List, Set, Tuple
 
 from . import why
+from .compare import as_objects
 from .faults import Missing
 from .freed import gone_rows
 from .printing import Printer, Whole, and_more, first
@@ -42,16 +43,11 @@ def run(words: Any, progress: Progress) -> int:
         out.object(dict(
             then.head("doctor"), now=own, then=words.containerd, goes_both=len(after & before),
             **{name + "_total": len(keys) for name, keys in lists.items()},
-            **{name: objects(then, first(keys, limit)) for name, keys in lists.items()}
+            **{name: as_objects(then, first(keys, limit)) for name, keys in lists.items()}
         ))
     else:
         out.lines(page(then, own, words.containerd, len(before), len(after), lists, limit))
     return max(now.status(), then.status())
-
-
-def objects(store: Store, keys: List[Key]) -> List[Dict[str, str]]:
-    """Rows as JSON objects."""
-    return [{"type": store.type(key), "ns": key[1], "name": store.text(key)} for key in keys]
 
 
 def page(store: Store, own: str, version: str, before: int, after: int,

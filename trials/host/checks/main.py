@@ -18,6 +18,7 @@ import copies
 import daemons
 import damage
 import disk
+import doctor
 import facts
 import inputs
 import large
@@ -55,6 +56,7 @@ def main(whole, metad):
             ("objects", lambda work: objects.run(work, metad)),
             ("copies", lambda work: copies.run(work, metad)),
             ("daemons", lambda work: daemons.run(work, metad)),
+            ("doctor", lambda work: doctor.run(work, metad)),
             ("disk", lambda work: disk.run(work, metad)),
             ("questions", lambda work: questions.run(work, metad, 400 if whole else 100)),
             ("removals", lambda work: removals.run(work, metad, 200 if whole else 25)),
