@@ -76,28 +76,32 @@ class Walks:
     def alone(self) -> List[int]:
         """The bytes that each group alone keeps: no row of these is reached from another root."""
         rows = self.rows.rows
-        owner: Dict[State, int] = {}
+        full: Dict[Key, int] = {}
+        flat: Dict[Key, int] = {}
+        owners = (full, flat)  # of the rows that were reached, by whether they were reached flat
         todo: List[State] = []
         for number, keys in [(OTHER, self.others)] + list(enumerate(self.roots)):
             held: Sequence[State] = [(key, False) for key in keys]
             while True:
                 for state in held:
-                    before = owner.get(state)
+                    key, is_flat = state
+                    owner = owners[is_flat]
+                    before = owner.get(key)
                     if before is None:
-                        owner[state] = number
+                        owner[key] = number
                     elif before == number or before == MANY:
                         continue
                     else:
-                        owner[state] = MANY
-                    if state[0][0] != "content" or rows[state[0]].labels:
+                        owner[key] = MANY
+                    if key[0] != "content" or rows[key].labels:
                         todo.append(state)
                 if not todo:
                     break
                 state = todo.pop()
-                number = owner[state]
+                number = owners[state[1]][state[0]]
                 held = self.next(state)
-        of_row: Dict[Key, int] = {}
-        for (key, _), number in owner.items():
+        of_row = full
+        for key, number in flat.items():
             if of_row.setdefault(key, number) != number:
                 of_row[key] = MANY
         found = [0] * len(self.roots)
