@@ -76,9 +76,17 @@ func (db *DB) Init(ctx context.Context) error {
 	return nil
 }
 
+// open decides each refusal before it changes anything, so it has the socket first. Nobody is
+// answered there until the store is open.
 func (db *DB) open(ctx context.Context) (err error) {
+	if db.questions, err = listen(Settings.socket(db.root)); err != nil {
+		return err
+	}
 	folders := db.folders()
-	if db.client, err = Settings.start(ctx, db.root, folders); err != nil {
+	if db.client, err = Settings.start(ctx, db.root, func() (string, error) {
+		return store.Traces(ctx, folders, db.cs, db.ss)
+	}); err != nil {
+		db.questions.Close()
 		return err
 	}
 	options := append(db.options, store.WithFolders(folders))
@@ -86,11 +94,7 @@ func (db *DB) open(ctx context.Context) (err error) {
 		options = append(options, store.WithForget)
 	}
 	if db.Store, err = store.Open(ctx, db.client, db.cs, db.ss, options...); err != nil {
-		db.client.Close()
-		return err
-	}
-	if db.questions, err = listen(Settings.socket(db.root)); err != nil {
-		db.Store.Close()
+		db.questions.Close()
 		db.client.Close()
 		return err
 	}

@@ -13,7 +13,6 @@ import (
 	"github.com/containerd/containerd/plugin"
 
 	"metad/metad"
-	"metad/store"
 )
 
 // PluginType and PluginID name the settings in containerd's config.toml:
@@ -67,29 +66,34 @@ func (c Config) socket(root string) string {
 	return filepath.Join(root, "metad.sock")
 }
 
-// start starts the program over its folder. If no file says that it is of a store, it makes a store
-// first, and otherwise the store has to be there.
-func (c Config) start(ctx context.Context, root string, files store.Folders) (*metad.Client,
-	error) {
+// start starts the program over its folder. It makes a store first if there is none, but not beside
+// what another store has left: traces names something of that, if there is any. A first start that
+// was cut may have made a part of a store.
+func (c Config) start(ctx context.Context, root string,
+	traces func() (string, error)) (*metad.Client, error) {
 	if len(c.Command) == 0 {
 		return nil, errors.New(`command of [plugins."io.metad.v1.store"] names no program`)
 	}
 	folder := c.folder(root)
-	if err := os.MkdirAll(folder, 0700); err != nil {
+	stored, err := filepath.Glob(filepath.Join(folder, "metad.journal*"))
+	if err != nil {
 		return nil, err
 	}
-	path, has := files.Identity()
-	if has {
-		stored, err := filepath.Glob(filepath.Join(folder, "metad.journal*"))
-		if err != nil {
+	trace, err := traces()
+	if err != nil {
+		return nil, err
+	}
+	if trace != "" && len(stored) == 0 {
+		return nil, fmt.Errorf("%s has no store, and a store has left %s: put it back, or begin in a new root",
+			folder, trace)
+	}
+	if trace == "" {
+		if err := os.MkdirAll(folder, 0700); err != nil {
 			return nil, err
 		}
-		if len(stored) == 0 {
-			return nil, fmt.Errorf("%s has no store, and %s is of one: put it back, or begin in a new root",
-				folder, path)
+		if err := c.makeStore(ctx, folder); err != nil {
+			return nil, err
 		}
-	} else if err := c.makeStore(ctx, folder); err != nil {
-		return nil, err
 	}
 	return metad.StartService(ctx, c.Command, "--dir", folder, "--workers", strconv.Itoa(c.Workers))
 }

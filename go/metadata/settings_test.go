@@ -7,15 +7,20 @@ import (
 	"strings"
 	"testing"
 
+	"github.com/containerd/containerd/content"
+	"github.com/containerd/containerd/content/local"
+	"github.com/opencontainers/go-digest"
+
 	"metad/store"
 )
 
 // world is a root, with a program that notes its words in a file "calls", tells those of serve where
 // it is given none, and else runs a script.
 type world struct {
-	t    *testing.T
-	root string
-	c    Config
+	t     *testing.T
+	root  string
+	blobs content.Store
+	c     Config
 }
 
 func newWorld(t *testing.T, script string) *world {
@@ -26,7 +31,8 @@ func newWorld(t *testing.T, script string) *world {
 	if err := os.WriteFile(program, []byte(text), 0700); err != nil {
 		t.Fatal(err)
 	}
-	if err := os.Mkdir(filepath.Join(w.root, "content"), 0700); err != nil {
+	var err error
+	if w.blobs, err = local.NewStore(filepath.Join(w.root, "content")); err != nil {
 		t.Fatal(err)
 	}
 	w.c = Config{Command: []string{program, "serve"}, Workers: 3}
@@ -37,14 +43,20 @@ func newWorld(t *testing.T, script string) *world {
 // folder.
 func (w *world) start() ([]string, error) {
 	w.t.Helper()
-	client, err := w.c.start(context.Background(), w.root,
-		store.Folders{Content: filepath.Join(w.root, "content")})
+	client, err := w.c.start(context.Background(), w.root, func() (string, error) {
+		return store.Traces(context.Background(), w.folders(), w.blobs, nil)
+	})
 	if err == nil {
 		client.Close()
 	}
 	calls, _ := os.ReadFile(filepath.Join(w.root, "calls"))
 	text := strings.ReplaceAll(string(calls), w.c.folder(w.root), "FOLDER")
 	return strings.Split(strings.TrimSpace(text), "\n"), err
+}
+
+func (w *world) folders() store.Folders {
+	return store.Folders{Content: filepath.Join(w.root, "content"),
+		Snapshotters: map[string]string{"native": filepath.Join(w.root, "native")}}
 }
 
 func (w *world) write(elements ...string) {
@@ -118,6 +130,22 @@ func TestStoreThatIsGoneIsNotMadeAgain(t *testing.T) {
 	calls, err := w.start()
 	if err == nil || !strings.Contains(err.Error(), "has no store") || calls[0] != "" {
 		t.Fatalf("%v, calls %q, want a refusal and no call", err, calls)
+	}
+}
+
+// What a store has left may be blobs alone, or the identity in a snapshotter's folder.
+func TestNoStoreIsMadeBesideFiles(t *testing.T) {
+	blob := filepath.Join("content", "blobs", "sha256", digest.FromString("").Encoded())
+	for _, left := range []string{blob, filepath.Join("native", "metad.id")} {
+		w := newWorld(t, "exit 0")
+		w.write(left)
+		calls, err := w.start()
+		if err == nil || !strings.Contains(err.Error(), "has no store") || calls[0] != "" {
+			t.Fatalf("%s: %v, calls %q, want a refusal and no call", left, err, calls)
+		}
+		if _, err := os.Stat(filepath.Join(w.root, "metad")); err == nil {
+			t.Fatalf("%s: a refused start made the store's folder", left)
+		}
 	}
 }
 

@@ -24,42 +24,46 @@ type files struct {
 	snapshots map[string]map[string]bool // by snapshotter, the keys
 }
 
-func (f *files) isEmpty() bool {
-	empty := len(f.blobs)+len(f.ingests) == 0
-	for _, keys := range f.snapshots {
-		empty = empty && len(keys) == 0
-	}
-	return empty
-}
-
 // ingestFolder names the folder that containerd's content store makes for an ingest.
 func ingestFolder(number uint32) string { return digest.FromString(ingestRef(number)).Encoded() }
 
 // compare makes files and rows agree at a start, before any client is served. One line names all
 // objects of the backend; rows are read where files differ from it. It removes no file: one that is
 // no object's goes to lost/. It refuses files that are another store's, or newer than the store.
+// Until no refusal is left it changes nothing, but for the mark of a start.
 func (s *Store) compare(ctx context.Context) error {
-	f, err := s.findFiles(ctx)
+	f, err := findFiles(ctx, s.folders, s.files(), s.backends())
 	if err != nil {
 		return err
 	}
-	back, err := s.backend(ctx)
+	back, own, err := s.backendAndOwnership(ctx)
 	if err != nil {
 		return err
 	}
-	if err := s.identify(ctx, back, f); err != nil {
+	if err := s.checkIdentity(&own, back, f); err != nil {
 		return err
 	}
-	if err := s.checkAge(ctx, f); err != nil {
+	if err := s.checkMounted(ctx, back, f); err != nil {
+		return err
+	}
+	a, err := s.checkAge(ctx, own, back)
+	if err != nil {
+		return err
+	}
+
+	if err := s.takeFolders(ctx, own); err != nil {
+		return err
+	}
+	if err := s.takeAge(ctx, a); err != nil {
 		return err
 	}
 	if s.content != nil {
-		if err := s.content.compare(ctx, back, f); err != nil {
+		if err := s.content.compare(ctx, back, f, a.known); err != nil {
 			return err
 		}
 	}
 	for name, sn := range s.snapshotters {
-		if err := sn.compare(ctx, back.Snapshots, f.snapshots[name]); err != nil {
+		if err := sn.compare(ctx, back.Snapshots, f.snapshots[name], a.known); err != nil {
 			return err
 		}
 	}
@@ -68,11 +72,13 @@ func (s *Store) compare(ctx context.Context) error {
 	return nil
 }
 
-func (s *Store) findFiles(ctx context.Context) (*files, error) {
+// findFiles lists what the stores of files have.
+func findFiles(ctx context.Context, folders Folders, cs content.Store,
+	ss map[string]snapshots.Snapshotter) (*files, error) {
 	f := &files{blobs: map[digest.Digest]bool{}, ingests: map[string]bool{},
 		snapshots: map[string]map[string]bool{}}
-	if s.content != nil {
-		err := s.content.Store.Walk(ctx, func(info content.Info) error {
+	if cs != nil {
+		err := cs.Walk(ctx, func(info content.Info) error {
 			f.blobs[info.Digest] = true
 			return nil
 		})
@@ -80,9 +86,9 @@ func (s *Store) findFiles(ctx context.Context) (*files, error) {
 			return nil, err
 		}
 	}
-	if s.folders.Content != "" {
+	if folders.Content != "" {
 		// The content store can't tell an ingest that a crash left half made, so its folder is read.
-		ingests, err := os.ReadDir(filepath.Join(s.folders.Content, "ingest"))
+		ingests, err := os.ReadDir(filepath.Join(folders.Content, "ingest"))
 		if err != nil && !errors.Is(err, os.ErrNotExist) {
 			return nil, err
 		}
@@ -90,10 +96,10 @@ func (s *Store) findFiles(ctx context.Context) (*files, error) {
 			f.ingests[folder.Name()] = true
 		}
 	}
-	for name, sn := range s.snapshotters {
+	for name, sn := range ss {
 		keys := map[string]bool{}
 		f.snapshots[name] = keys
-		err := sn.Snapshotter.Walk(ctx, func(_ context.Context, info snapshots.Info) error {
+		err := sn.Walk(ctx, func(_ context.Context, info snapshots.Info) error {
 			keys[info.Name] = true
 			return nil
 		})
@@ -104,10 +110,38 @@ func (s *Store) findFiles(ctx context.Context) (*files, error) {
 	return f, nil
 }
 
-// compare moves blobs and ingests that are no object's to lost/, and gives an object its blob back
-// if that is in lost/. Content without its blob is told and stays: its labels hold other rows, and
-// a client may write the blob again.
-func (cs *contentStore) compare(ctx context.Context, back metad.Objects, f *files) error {
+// checkMounted refuses a snapshotter whose folder nobody knows if it has no snapshot, and the store
+// has committed ones of it: the identity in its folder can't be compared.
+func (s *Store) checkMounted(ctx context.Context, back metad.Objects, f *files) error {
+	has := map[string]bool{}
+	for _, of := range back.Snapshots {
+		has[of.Snapshotter] = true
+	}
+	for name, sn := range s.snapshotters {
+		if !has[name] || len(f.snapshots[name]) > 0 || s.folders.Snapshotters[name] != "" {
+			continue
+		}
+		rows, err := sn.allRows(ctx)
+		if err != nil {
+			return err
+		}
+		for _, all := range rows {
+			for _, r := range all {
+				if r.Kind == "committed" {
+					return fmt.Errorf("the store has snapshots, and snapshotter %s has none: is it mounted? %w",
+						name, errdefs.ErrFailedPrecondition)
+				}
+			}
+		}
+	}
+	return nil
+}
+
+// compare gives an object its blob back if that is in lost/, and moves blobs and ingests that are no
+// object's there, unless they may be an object's of a newer store. Content without its blob is told
+// and stays: its labels hold other rows, and a client may write the blob again.
+func (cs *contentStore) compare(ctx context.Context, back metad.Objects, f *files,
+	ageKnown bool) error {
 	blobs, ingests := map[digest.Digest]bool{}, map[string]bool{}
 	for _, dgst := range back.Blobs {
 		blobs[digest.Digest(dgst)] = true
@@ -122,6 +156,9 @@ func (cs *contentStore) compare(ctx context.Context, back metad.Objects, f *file
 		if err := cs.findLost(ctx, dgst); err != nil {
 			return err
 		}
+	}
+	if !ageKnown {
+		return nil
 	}
 	for dgst := range f.blobs {
 		if !blobs[dgst] {
@@ -179,9 +216,9 @@ func (cs *contentStore) loseFile(ctx context.Context, path string) {
 }
 
 // compare reads the rows of this snapshotter if one may have to be mended, and notes snapshots that
-// are no object's in lost/.
+// are no object's in lost/. It does neither if the store may be older than its files.
 func (sn *snapshotter) compare(ctx context.Context, back []metad.SnapshotNumber,
-	keys map[string]bool) error {
+	keys map[string]bool, ageKnown bool) error {
 	owned, isWhole := map[string]bool{}, true
 	for _, of := range back {
 		if of.Snapshotter == sn.name {
@@ -190,33 +227,20 @@ func (sn *snapshotter) compare(ctx context.Context, back []metad.SnapshotNumber,
 			isWhole = isWhole && keys[key]
 		}
 	}
-	if !isWhole {
+	if !isWhole && ageKnown {
 		if err := sn.mendRows(ctx, keys); err != nil {
 			return err
 		}
 	}
-	return sn.noteLost(ctx, owned, keys)
+	return sn.noteLost(ctx, owned, keys, ageKnown)
 }
 
 // mendRows commits the backend's snapshot of each row that is committed, and removes the row of a
 // snapshot that was never made. A committed row without a backend is told and stays.
 func (sn *snapshotter) mendRows(ctx context.Context, keys map[string]bool) error {
-	names, err := sn.s.names(ctx)
+	rows, err := sn.allRows(ctx)
 	if err != nil {
 		return err
-	}
-	rows := map[string][]metad.Row{}
-	for _, ns := range names {
-		if err := sn.s.rows(ctx, sn.line("snap.list").With("ns", ns), func(r metad.Row) error {
-			if r.Kind == "committed" && len(keys) == 0 && sn.s.folders.Snapshotters[sn.name] == "" {
-				return fmt.Errorf("the store has snapshots, and snapshotter %s has none: is it mounted? %w",
-					sn.name, errdefs.ErrFailedPrecondition)
-			}
-			rows[ns] = append(rows[ns], r)
-			return nil
-		}); err != nil {
-			return err
-		}
 	}
 	for ns, all := range rows {
 		for _, r := range all {
@@ -226,6 +250,21 @@ func (sn *snapshotter) mendRows(ctx context.Context, keys map[string]bool) error
 		}
 	}
 	return nil
+}
+
+// allRows returns the rows of this snapshotter by namespace.
+func (sn *snapshotter) allRows(ctx context.Context) (map[string][]metad.Row, error) {
+	names, err := sn.s.names(ctx)
+	if err != nil {
+		return nil, err
+	}
+	rows := map[string][]metad.Row{}
+	for _, ns := range names {
+		if rows[ns], err = sn.s.rowsOf(ctx, sn.line("snap.list").With("ns", ns)); err != nil {
+			return nil, err
+		}
+	}
+	return rows, nil
 }
 
 func (sn *snapshotter) mendRow(ctx context.Context, ns string, r metad.Row,
@@ -247,8 +286,10 @@ func (sn *snapshotter) mendRow(ctx context.Context, ns string, r metad.Row,
 	return nil
 }
 
-// noteLost notes the snapshots without a row in lost/, and forgets those that have one again.
-func (sn *snapshotter) noteLost(ctx context.Context, owned, keys map[string]bool) error {
+// noteLost forgets the snapshots in lost/ that have a row again, and notes those without one there,
+// unless they may have one in a newer store.
+func (sn *snapshotter) noteLost(ctx context.Context, owned, keys map[string]bool,
+	ageKnown bool) error {
 	l := sn.s.lost()
 	if l.content == "" {
 		return nil
@@ -261,8 +302,8 @@ func (sn *snapshotter) noteLost(ctx context.Context, owned, keys map[string]bool
 			}
 			continue
 		}
-		if strings.ContainsAny(key, `/*?[\`) {
-			continue // no key of this store
+		if !ageKnown || strings.ContainsAny(key, `/*?[\`) { // or no key of this store
+			continue
 		}
 		if err := l.mark(path, sn.s.moment()); err != nil {
 			return err

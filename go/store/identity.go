@@ -8,12 +8,11 @@ import (
 	"fmt"
 	"os"
 	"path/filepath"
-	"strconv"
 	"strings"
-	"sync"
 
+	"github.com/containerd/containerd/content"
 	"github.com/containerd/containerd/errdefs"
-	"github.com/containerd/containerd/log"
+	"github.com/containerd/containerd/snapshots"
 
 	"metad/metad"
 )
@@ -30,25 +29,55 @@ type Folders struct {
 // identityFile has, in each folder, the identity of the store whose files are there.
 const identityFile = "metad.id"
 
-// Identity returns the file that says whose files the folder of content has, and whether it is
-// there.
-func (f Folders) Identity() (path string, has bool) {
-	path = filepath.Join(f.Content, identityFile)
-	_, err := os.Stat(path)
-	return path, err == nil
+// Traces names something that a store has left: the identity in a folder, a blob, an ingest or a
+// snapshot. It returns "" if there is nothing, as before the first start.
+func Traces(ctx context.Context, folders Folders, cs content.Store,
+	ss map[string]snapshots.Snapshotter) (string, error) {
+	for _, folder := range folders.all() {
+		path := filepath.Join(folder, identityFile)
+		if _, err := os.Lstat(path); err == nil {
+			return path, nil
+		} else if !errors.Is(err, os.ErrNotExist) {
+			return "", err
+		}
+	}
+	f, err := findFiles(ctx, folders, cs, ss)
+	if err != nil {
+		return "", err
+	}
+	if len(f.blobs)+len(f.ingests) > 0 {
+		return folders.Content, nil
+	}
+	for name, keys := range f.snapshots {
+		if len(keys) > 0 {
+			return "snapshotter " + name, nil
+		}
+	}
+	return "", nil
 }
 
-// identify compares the store's identity with that of each folder, and gives it to a folder that
-// has no file if the store has no object of it. A crash behind the store's first line leaves such
-// folders; one of which the store has objects isn't mounted. If no folder is refused, rows get
-// their form.
-func (s *Store) identify(ctx context.Context, back metad.Objects, f *files) error {
+// all returns the folders, that of content first.
+func (f Folders) all() []string {
+	all := []string{f.Content}
+	for _, folder := range f.Snapshotters {
+		all = append(all, folder)
+	}
+	return all
+}
+
+// ownership is whose the files are, as a start finds it.
+type ownership struct {
+	id         string // the store's identity, none if it is new
+	form       string // how its rows are
+	hasContent bool   // whether the folder of content has the identity
+}
+
+// checkIdentity refuses a folder that has files and not the store's identity, and one without files
+// of which the store has objects: that isn't mounted. A crash behind the store's first line leaves
+// folders that have neither. It changes no file.
+func (s *Store) checkIdentity(own *ownership, back metad.Objects, f *files) error {
 	if s.folders.Content == "" {
 		return nil
-	}
-	id, form, err := s.identity(ctx)
-	if err != nil {
-		return err
 	}
 	isEmpty := map[string]bool{s.folders.Content: len(f.blobs)+len(f.ingests) == 0}
 	objects := map[string]int{s.folders.Content: len(back.Blobs)}
@@ -61,55 +90,78 @@ func (s *Store) identify(ctx context.Context, back metad.Objects, f *files) erro
 		}
 	}
 	for folder := range isEmpty {
-		has, err := os.ReadFile(filepath.Join(folder, identityFile))
-		if err != nil && !errors.Is(err, os.ErrNotExist) {
+		text, err := identityOf(folder)
+		if err != nil {
 			return err
 		}
-		text := strings.TrimSpace(string(has))
-		if text != "" && text == id {
+		if text != "" && text == own.id {
+			own.hasContent = own.hasContent || folder == s.folders.Content
 			continue
 		}
 		var refused string
 		switch {
 		case isEmpty[folder] && objects[folder] == 0:
+			if folder == s.folders.Content {
+				refused = s.unnamedFiles(f)
+			}
 		case isEmpty[folder]:
 			refused = "has no file, and the store has rows of it: is it mounted?"
 		case text == "":
 			refused = "has files that aren't of this store"
-		case id == "":
+		case own.id == "":
 			refused = "has files of store " + text + ", and this store is new"
 		default:
-			refused = "has files of store " + text + ", and this is store " + id
+			refused = "has files of store " + text + ", and this is store " + own.id
 		}
 		if refused != "" {
 			return fmt.Errorf("%s %s: %w", folder, refused, errdefs.ErrFailedPrecondition)
 		}
 	}
-	if id == "" {
-		if id, err = s.newIdentity(ctx); err != nil {
+	return nil
+}
+
+// unnamedFiles refuses the folder of content if a snapshotter whose folder nobody knows has
+// snapshots: the identity in the folder of content counts for that one.
+func (s *Store) unnamedFiles(f *files) string {
+	for name, keys := range f.snapshots {
+		if s.folders.Snapshotters[name] == "" && len(keys) > 0 {
+			return "isn't of this store, and snapshotter " + name + " has snapshots"
+		}
+	}
+	return ""
+}
+
+// identityOf returns the identity in a folder, none if it has none.
+func identityOf(folder string) (string, error) {
+	text, err := os.ReadFile(filepath.Join(folder, identityFile))
+	if errors.Is(err, os.ErrNotExist) {
+		return "", nil
+	}
+	return strings.TrimSpace(string(text)), err
+}
+
+// takeFolders gives each folder the store's identity, which a new store gets first, and rows their
+// form. No folder may be refused any more.
+func (s *Store) takeFolders(ctx context.Context, own ownership) (err error) {
+	if s.folders.Content == "" {
+		return nil
+	}
+	if own.id == "" {
+		if own.id, err = s.newIdentity(ctx); err != nil {
 			return err
 		}
 	}
-	if form != asData {
+	if own.form != asData {
 		if err := s.convert(ctx); err != nil {
 			return err
 		}
 	}
-	for folder := range isEmpty {
-		if err := writeSynced(filepath.Join(folder, identityFile), id+"\n"); err != nil {
+	for _, folder := range s.folders.all() {
+		if err := writeSynced(filepath.Join(folder, identityFile), own.id+"\n"); err != nil {
 			return err
 		}
 	}
 	return nil
-}
-
-// identity returns the store's identity, none if it is new, and how its rows are.
-func (s *Store) identity(ctx context.Context) (id, form string, err error) {
-	r, err := s.client.Call(ctx, metad.Line{"op": "lease.get", "ns": ownNamespace, "id": "store"})
-	if r.Fault == metad.NotFound {
-		return "", asData, nil
-	}
-	return r.Row.Labels["id"], r.Row.Labels[formLabel], err
 }
 
 func (s *Store) newIdentity(ctx context.Context) (string, error) {
@@ -156,105 +208,4 @@ func syncFolder(path string) error {
 	}
 	defer d.Close()
 	return d.Sync()
-}
-
-// witnessFile has, in the folder of content, the greatest number that files of it were made for.
-const witnessFile = "metad.number"
-
-// witness remembers the greatest number that the store has given. Each file is made for a number, a
-// blob for that of its ingest, and no number is given twice: so a store that would give a number
-// again is older than its files, and would have rows for few of them.
-type witness struct {
-	mu   sync.Mutex
-	file *os.File
-	last uint32
-}
-
-// open reads the greatest number, 0 in a new folder.
-func (w *witness) open(path string) error {
-	if _, err := os.Stat(path); errors.Is(err, os.ErrNotExist) {
-		if err := writeSynced(path, fmt.Sprintf("%010d\n", 0)); err != nil {
-			return err
-		}
-	}
-	file, err := os.OpenFile(path, os.O_RDWR, 0)
-	if err != nil {
-		return err
-	}
-	var b [10]byte
-	_, err = file.ReadAt(b[:], 0)
-	if err == nil {
-		var last uint64
-		last, err = strconv.ParseUint(string(b[:]), 10, 32)
-		w.last = uint32(last)
-	}
-	if err != nil {
-		file.Close()
-		return fmt.Errorf("%s can't be read: %w", path, err)
-	}
-	w.file = file
-	return nil
-}
-
-// see notes a number before a file is made for it. The store has the number synced already, so what
-// a power cut takes back here is only less than what could be told.
-func (w *witness) see(number uint32) error {
-	w.mu.Lock()
-	defer w.mu.Unlock()
-	if w.file == nil || number <= w.last {
-		return nil
-	}
-	if _, err := w.file.WriteAt([]byte(fmt.Sprintf("%010d\n", number)), 0); err != nil {
-		return err
-	}
-	w.last = number
-	return nil
-}
-
-func (w *witness) close() error {
-	w.mu.Lock()
-	defer w.mu.Unlock()
-	if w.file == nil {
-		return nil
-	}
-	err := w.file.Close()
-	w.file = nil
-	return err
-}
-
-// checkAge refuses a store that is older than its files.
-func (s *Store) checkAge(ctx context.Context, f *files) error {
-	if s.folders.Content == "" {
-		return nil
-	}
-	path := filepath.Join(s.folders.Content, witnessFile)
-	if err := s.witness.open(path); err != nil {
-		return err
-	}
-	next, err := s.nextNumber(ctx)
-	if errdefs.IsUnavailable(err) {
-		log.G(ctx).WithError(err).
-			Warn("whether the store is older than its files isn't known: it takes no addition")
-		return nil
-	}
-	if err != nil {
-		return err
-	}
-	if next <= s.witness.last && !f.isEmpty() {
-		return fmt.Errorf("the store is older than its files: it would give %d, and %s has seen %d: %w",
-			next, path, s.witness.last, errdefs.ErrFailedPrecondition)
-	}
-	return s.witness.see(next)
-}
-
-// nextNumber takes a number of the store.
-func (s *Store) nextNumber(ctx context.Context) (uint32, error) {
-	abort := abortIngest(ownNamespace, "", "start")
-	replies, err := s.client.Do(ctx, abort,
-		metad.Line{"op": "ingest.begin", "ns": ownNamespace, "ref": "start",
-			"at": s.now()}.AskingForRow(), abort)
-	if err != nil {
-		return 0, err
-	}
-	return replies[1].Row.Number, firstRefusal(replies[1:])
 }

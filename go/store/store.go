@@ -100,6 +100,23 @@ func (s *Store) ContentStore() content.Store {
 	return s.content
 }
 
+// files returns containerd's own content store, nil if there is none.
+func (s *Store) files() content.Store {
+	if s.content == nil {
+		return nil
+	}
+	return s.content.Store
+}
+
+// backends returns containerd's own snapshotters.
+func (s *Store) backends() map[string]snapshots.Snapshotter {
+	all := map[string]snapshots.Snapshotter{}
+	for name, sn := range s.snapshotters {
+		all[name] = sn.Snapshotter
+	}
+	return all
+}
+
 // Snapshotter returns the snapshotter of that name, nil if there is none.
 func (s *Store) Snapshotter(name string) snapshots.Snapshotter {
 	if sn, ok := s.snapshotters[name]; ok {
@@ -254,9 +271,31 @@ func (s *Store) rows(ctx context.Context, list metad.Line, fn func(row metad.Row
 // removes.
 func (s *Store) backend(ctx context.Context) (metad.Objects, error) {
 	r, err := s.client.Call(ctx, metad.Line{"op": "back.list"})
-	if r.Fault == metad.BadLine {
-		err = fmt.Errorf("metad is older than this daemon, and has no op back.list: %w",
-			errdefs.ErrFailedPrecondition)
+	if err != nil {
+		return metad.Objects{}, err
 	}
-	return r.Backend, err
+	return r.Backend, nil
+}
+
+// backendAndOwnership returns what a start compares to the files, in one trip.
+func (s *Store) backendAndOwnership(ctx context.Context) (metad.Objects, ownership, error) {
+	replies, err := s.client.Do(ctx, metad.Line{"op": "back.list"},
+		metad.Line{"op": "lease.get", "ns": ownNamespace, "id": "store"})
+	if err != nil {
+		return metad.Objects{}, ownership{}, err
+	}
+	if replies[0].Fault == metad.BadLine {
+		return metad.Objects{}, ownership{}, fmt.Errorf(
+			"metad is older than this daemon, and has no op back.list: %w", errdefs.ErrFailedPrecondition)
+	}
+	if err := replies[0].Err(); err != nil {
+		return metad.Objects{}, ownership{}, err
+	}
+	own := ownership{form: asData}
+	if row := replies[1].Row; replies[1].OK {
+		own = ownership{id: row.Labels["id"], form: row.Labels[formLabel]}
+	} else if replies[1].Fault != metad.NotFound {
+		err = replies[1].Err()
+	}
+	return replies[0].Backend, own, err
 }

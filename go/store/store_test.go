@@ -51,6 +51,7 @@ type world struct {
 	now    time.Time
 
 	client *metad.Client
+	most   string // how many blocks of 512 bytes a file of the store may have, if that is limited
 	files  *failingContent
 	native *failingSnapshotter
 	s      *Store
@@ -68,10 +69,21 @@ func (w *world) path(elements ...string) string {
 	return filepath.Join(append([]string{w.folder}, elements...)...)
 }
 
+func (w *world) serve() *metad.Client {
+	w.t.Helper()
+	if w.most == "" {
+		return serve(w.t, w.path("rows"))
+	}
+	client, err := metad.Start("sh", "-c", `trap "" XFSZ; ulimit -f `+w.most+`; exec "$0" "$@"`,
+		os.Getenv("METAD"), "serve", "--dir", w.path("rows"))
+	w.must(err)
+	return client
+}
+
 // open opens the store as a start of the daemon does.
 func (w *world) open(options ...Option) error {
 	w.t.Helper()
-	w.client = serve(w.t, w.path("rows"))
+	w.client = w.serve()
 	cs, err := local.NewStore(w.path("content"))
 	if err != nil {
 		w.t.Fatal(err)

@@ -137,6 +137,12 @@ def metadata(work: str, metad: str) -> Checks:
     return check
 
 
+def last_number(daemon: Daemon) -> int:
+    """The greatest number that the daemon's folder of content has seen."""
+    with open(os.path.join(daemon.root, CONTENT, 'metad.number'), encoding='utf-8') as file:
+        return int(file.read())
+
+
 def folders(work: str, program: str, metad: str, registry: Registry) -> Checks:
     """An older backup, another store, a store that is gone, a full disk: a start refuses or goes
     on, and loses nothing."""
@@ -147,9 +153,11 @@ def folders(work: str, program: str, metad: str, registry: Registry) -> Checks:
     daemon.pull(registry.ref('v1'), 'native')
     daemon.end()
     shutil.copytree(rows, backup)
+    before = last_number(daemon)
     daemon.start_again()
     daemon.pull(registry.ref('v3'), 'native')
     daemon.end()
+    behind = last_number(daemon) - before
     blobs, snapshots = daemon.blobs(), daemon.snapshots('native')
     newest = os.path.join(work, 'newest')
     os.rename(rows, newest)
@@ -161,9 +169,20 @@ def folders(work: str, program: str, metad: str, registry: Registry) -> Checks:
               'a refused start changed files: ' + text)
 
     shutil.copytree(backup, rows)
-    refused('older than its files')
+    check(behind > 0, 'a pull gives numbers')
+    for _ in range(behind + 1):  # no start makes the store younger
+        refused('older than its files')
     shutil.rmtree(rows)
     refused('has no store')
+    identities = [os.path.join(daemon.root, folder, 'metad.id') for folder in os.listdir(daemon.root)]
+    kept = {path: open(path).read() for path in identities if os.path.exists(path)}
+    for path in kept:
+        os.remove(path)
+    refused('has no store')
+    check(not os.path.exists(rows), 'a refused start made a store')
+    for path, text in kept.items():
+        with open(path, 'w') as file:
+            file.write(text)
     other = Daemon(os.path.join(work, 'other'), program, [metad, 'serve'])
     other.start_again()
     other.pull(registry.ref('v2'), 'native')
