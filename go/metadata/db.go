@@ -4,9 +4,11 @@ package metadata
 
 import (
 	"context"
+	"fmt"
 	"net"
 	"os"
 	"path/filepath"
+	"syscall"
 
 	"github.com/containerd/containerd/containers"
 	"github.com/containerd/containerd/content"
@@ -120,14 +122,22 @@ func (db *DB) folders() store.Folders {
 
 // listen makes a socket that is its owner's alone, in place of one that a crash left.
 func listen(path string) (net.Listener, error) {
+	if info, err := os.Lstat(path); err == nil && info.Mode()&os.ModeSocket == 0 {
+		return nil, fmt.Errorf("%s is there, and is no socket", path)
+	}
 	if err := os.Remove(path); err != nil && !os.IsNotExist(err) {
 		return nil, err
 	}
-	l, err := net.Listen("unix", path)
-	if err != nil {
-		return nil, err
-	}
-	return l, os.Chmod(path, 0600)
+	// A mode that is set behind bind comes too late: a client may have connected. Linux gives the
+	// file the mode that the socket has before.
+	config := net.ListenConfig{Control: func(_, _ string, conn syscall.RawConn) (err error) {
+		controlErr := conn.Control(func(fd uintptr) { err = syscall.Fchmod(int(fd), 0600) })
+		if err == nil {
+			err = controlErr
+		}
+		return err
+	}}
+	return config.Listen(context.Background(), "unix", path)
 }
 
 // Close ends metad's input, and waits until it has answered and ended.

@@ -2,9 +2,11 @@ package metadata
 
 import (
 	"context"
+	"net"
 	"os"
 	"path/filepath"
 	"strings"
+	"syscall"
 	"testing"
 
 	"github.com/containerd/containerd/content"
@@ -146,6 +148,54 @@ func TestNoStoreIsMadeBesideFiles(t *testing.T) {
 		if _, err := os.Stat(filepath.Join(w.root, "metad")); err == nil {
 			t.Fatalf("%s: a refused start made the store's folder", left)
 		}
+	}
+}
+
+func TestSocketIsItsOwnersFromItsFirstMoment(t *testing.T) {
+	folder := t.TempDir()
+	path := filepath.Join(folder, "sock")
+	watch, err := syscall.InotifyInit1(syscall.IN_NONBLOCK)
+	if err != nil {
+		t.Fatal(err)
+	}
+	defer syscall.Close(watch)
+	if _, err := syscall.InotifyAddWatch(watch, folder, syscall.IN_ATTRIB); err != nil {
+		t.Fatal(err)
+	}
+	defer syscall.Umask(syscall.Umask(0))
+	l, err := listen(path)
+	if err != nil {
+		t.Fatal(err)
+	}
+	defer l.Close()
+	info, err := os.Stat(path)
+	if err != nil || info.Mode() != os.ModeSocket|0600 {
+		t.Fatalf("%v %v, want a socket of its owner", info, err)
+	}
+	var events [512]byte
+	if n, err := syscall.Read(watch, events[:]); err != syscall.EAGAIN {
+		t.Fatalf("%d bytes, %v: the mode was another before", n, err)
+	}
+}
+
+func TestSocketTakesThePlaceOfAnOldOneOnly(t *testing.T) {
+	path := filepath.Join(t.TempDir(), "sock")
+	old, err := net.Listen("unix", path)
+	if err != nil {
+		t.Fatal(err)
+	}
+	old.(*net.UnixListener).SetUnlinkOnClose(false)
+	old.Close()
+	l, err := listen(path)
+	if err != nil {
+		t.Fatal(err)
+	}
+	l.Close()
+	if err := os.WriteFile(path, []byte("text"), 0600); err != nil {
+		t.Fatal(err)
+	}
+	if _, err := listen(path); err == nil {
+		t.Fatal("a file was taken for an old socket")
 	}
 }
 
