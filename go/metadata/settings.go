@@ -8,6 +8,7 @@ import (
 	"os/exec"
 	"path/filepath"
 	"strconv"
+	"strings"
 
 	"github.com/containerd/containerd/log"
 	"github.com/containerd/containerd/plugin"
@@ -75,7 +76,7 @@ func (c Config) start(ctx context.Context, root string,
 		return nil, errors.New(`command of [plugins."io.metad.v1.store"] names no program`)
 	}
 	folder := c.folder(root)
-	stored, err := filepath.Glob(filepath.Join(folder, "metad.journal*"))
+	stored, err := hasStore(folder)
 	if err != nil {
 		return nil, err
 	}
@@ -83,7 +84,7 @@ func (c Config) start(ctx context.Context, root string,
 	if err != nil {
 		return nil, err
 	}
-	if trace != "" && len(stored) == 0 {
+	if trace != "" && !stored {
 		return nil, fmt.Errorf("%s has no store, and a store has left %s: put it back, or begin in a new root",
 			folder, trace)
 	}
@@ -96,6 +97,20 @@ func (c Config) start(ctx context.Context, root string,
 		}
 	}
 	return metad.StartService(ctx, c.Command, "--dir", folder, "--workers", strconv.Itoa(c.Workers))
+}
+
+// hasStore says whether a folder has a file of a store.
+func hasStore(folder string) (bool, error) {
+	files, err := os.ReadDir(folder)
+	if err != nil && !errors.Is(err, os.ErrNotExist) {
+		return false, err
+	}
+	for _, file := range files {
+		if strings.HasPrefix(file.Name(), "metad.journal") {
+			return true, nil
+		}
+	}
+	return false, nil
 }
 
 // These are how a metad program ends to words that it doesn't know, and if it can't make a store

@@ -117,6 +117,15 @@ func TestLaterStartMakesNoStore(t *testing.T) {
 	wants(t, calls, err, asks, serves)
 }
 
+func TestLaterStartInAFolderWhoseNameHasAPattern(t *testing.T) {
+	w := newWorld(t, "exit 0")
+	w.c.Folder = filepath.Join(w.root, "[a]")
+	w.write("content", "metad.id")
+	w.write("[a]", "metad.journal")
+	calls, err := w.start()
+	wants(t, calls, err, asks, serves)
+}
+
 func TestRepliesAreNumberedWhereTheProgramCan(t *testing.T) {
 	t.Setenv("KNOWS", "--dir DIR [--numbered]")
 	w := newWorld(t, "exit 0")

@@ -83,10 +83,15 @@ func (l lost) unmark(path string) error {
 	return nil
 }
 
-// find returns where a path is in lost/.
-func (l lost) find(path string) []string {
-	found, _ := filepath.Glob(filepath.Join(l.folder(), "*",
-		path)) // no path here has a pattern's characters
+// find returns where a path is in lost/, the oldest first.
+func (l lost) find(path string) (found []string) {
+	folders, _ := os.ReadDir(l.folder())
+	for _, folder := range folders {
+		at := filepath.Join(l.folder(), folder.Name(), path)
+		if _, err := os.Lstat(at); err == nil {
+			found = append(found, at)
+		}
+	}
 	return found
 }
 
@@ -145,11 +150,7 @@ func (l lost) removeSnapshots(ctx context.Context, s *Store, folders []string) m
 // tryEach tries once to remove each snapshot that a folder of lost/ names. It returns whether one
 // is removed, and the last refusal.
 func (l lost) tryEach(ctx context.Context, s *Store, folder string) (removed bool, refusal error) {
-	paths, err := filepath.Glob(filepath.Join(folder, snapshotPath("*", "*")))
-	if err != nil {
-		return false, err
-	}
-	for _, path := range paths {
+	for _, path := range notes(folder) {
 		sn, ok := s.snapshotters[filepath.Base(filepath.Dir(path))]
 		if !ok {
 			refusal = errors.New("their snapshotter isn't there")
@@ -166,4 +167,17 @@ func (l lost) tryEach(ctx context.Context, s *Store, folder string) (removed boo
 		removed = true
 	}
 	return removed, refusal
+}
+
+// notes returns the files that name snapshots in a folder of lost/.
+func notes(folder string) (paths []string) {
+	snapshotters := filepath.Join(folder, "snapshots")
+	names, _ := os.ReadDir(snapshotters)
+	for _, name := range names {
+		keys, _ := os.ReadDir(filepath.Join(snapshotters, name.Name()))
+		for _, key := range keys {
+			paths = append(paths, filepath.Join(snapshotters, name.Name(), key.Name()))
+		}
+	}
+	return paths
 }

@@ -311,6 +311,19 @@ func TestStartNotesSnapshotsWithoutRowsAndRemovesThemLater(t *testing.T) {
 	w.hasCleanedUp()
 }
 
+func TestLostFilesInAFolderWhoseNameHasAPattern(t *testing.T) {
+	w := newWorldIn(t, filepath.Join(t.TempDir(), "[a]"))
+	dgst := w.write("text")
+	w.must(w.s.lost().take(blobPath(dgst), w.now))
+	parent, _ := w.loseSnapshots()
+	w.reopen()
+	w.hasBlob(true, dgst)
+	w.hasLost(true, snapshotPath("native", parent))
+	w.now = w.now.Add(lostFor + time.Minute)
+	w.collect()
+	w.hasSnapshot(false, parent)
+}
+
 // loseSnapshots has the daemon end behind a collection that removes a parent and its child, and
 // returns their keys.
 func (w *world) loseSnapshots() (parent, child string) {

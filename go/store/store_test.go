@@ -57,8 +57,10 @@ type world struct {
 	s      *Store
 }
 
-func newWorld(t *testing.T) *world {
-	w := &world{t: t, folder: t.TempDir(), ctx: namespaces.WithNamespace(context.Background(), "one"),
+func newWorld(t *testing.T) *world { return newWorldIn(t, t.TempDir()) }
+
+func newWorldIn(t *testing.T, folder string) *world {
+	w := &world{t: t, folder: folder, ctx: namespaces.WithNamespace(context.Background(), "one"),
 		now: time.Now()}
 	w.mustOpen()
 	t.Cleanup(w.end)
