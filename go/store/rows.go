@@ -25,8 +25,16 @@ const updatedLabel = ownLabels + "updated"
 // timeForm is the form of moments in lines.
 const timeForm = time.RFC3339Nano
 
-// checkLabels refuses labels that containerd refuses, and the store's own.
+// mostLabels is how many labels a client may give an object. Metad takes one more, which is the
+// store's own: without room for it the object could never be updated.
+const mostLabels = 255
+
+// checkLabels refuses labels that containerd refuses, the store's own, and too many.
 func checkLabels(ls map[string]string) error {
+	if len(ls) > mostLabels {
+		return fmt.Errorf("%d labels, and an object may have %d: %w", len(ls), mostLabels,
+			errdefs.ErrInvalidArgument)
+	}
 	for k, v := range ls {
 		if err := labels.Validate(k, v); err != nil {
 			return err

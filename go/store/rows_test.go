@@ -248,6 +248,87 @@ func TestALongSpecIsPacked(t *testing.T) {
 	}
 }
 
+// filled returns so many labels, each with so long a value.
+func filled(labels, length int) map[string]string {
+	ls := map[string]string{}
+	for i := 0; i < labels; i++ {
+		ls[fmt.Sprint("label-", i)] = strings.Repeat("v", length)
+	}
+	return ls
+}
+
+// What containerd takes, and a client notices here: docs/CONTAINERD.md has each with its reason.
+func TestWhatContainerdTakesAndMetadRefuses(t *testing.T) {
+	w := newWorld(t)
+	is, cs, sn := NewImageStore(w.s), NewContainerStore(w.s), w.s.Snapshotter("native")
+	made := func(image images.Image) error {
+		_, err := is.Create(w.ctx, image)
+		return err
+	}
+	annotated := w.image("annotated", nil)
+	annotated.Target.Annotations = filled(50, 1000)
+	long := newContainer("long")
+	long.Spec.Value = make([]byte, 60_000)
+	rand.New(rand.NewSource(1)).Read(long.Spec.Value) // isn't shorter when it is deflated
+	for name, call := range map[string]func() error{
+		"a name of 1,025 bytes":           func() error { return made(w.image(strings.Repeat("n", 1025), nil)) },
+		"a name with a control character": func() error { return made(w.image("a\x1fb", nil)) },
+		"a key of 1,025 bytes": func() error {
+			_, err := sn.Prepare(w.ctx, strings.Repeat("k", 1025), "")
+			return err
+		},
+		"a ref with a line feed": func() error {
+			_, err := w.s.ContentStore().Writer(w.ctx, content.WithRef("a\nb"))
+			return err
+		},
+		"256 labels":        func() error { return made(w.image("labels", filled(256, 1))) },
+		"labels of 68 KB":   func() error { return made(w.image("labels", filled(17, 4000))) },
+		"50 KB annotations": func() error { return made(annotated) },
+		"a spec of 60 KB": func() error {
+			_, err := cs.Create(w.ctx, long)
+			return err
+		},
+		"a target by sha384": func() error {
+			image := w.image("sha384", nil)
+			image.Target.Digest = digest.SHA384.FromString("text")
+			return made(image)
+		},
+	} {
+		if err := call(); !errdefs.IsInvalidArgument(err) {
+			t.Errorf("%s: %v, want an invalid argument", name, err)
+		}
+	}
+
+	// what is a little less is taken, and can be changed
+	w.must(made(w.image(strings.Repeat("n", 1024), filled(255, 1))))
+	_, err := is.Update(w.ctx, w.image(strings.Repeat("n", 1024), filled(1, 2)), "labels.label-0")
+	w.must(err)
+	w.must(made(w.image("labels", filled(14, 4000))))
+	annotated.Target.Annotations = filled(38, 1000)
+	w.must(made(annotated))
+	long.Spec.Value = long.Spec.Value[:35_000]
+	_, err = cs.Create(w.ctx, long)
+	w.must(err)
+}
+
+func TestAnExpiryThatOnlyGoReadsNeverComes(t *testing.T) {
+	w := newWorld(t)
+	lm := NewLeaseManager(w.s)
+	for id, expiry := range map[string]string{"go": "2020-01-01T5:00:00Z", "comma": "2020-01-01T05:00:00,5Z",
+		"standard": "2020-01-01T05:00:00Z"} {
+		if _, err := time.Parse(time.RFC3339, expiry); err != nil {
+			t.Fatal(err)
+		}
+		_, err := lm.Create(w.ctx, leases.WithID(id),
+			leases.WithLabels(map[string]string{"containerd.io/gc.expire": expiry}))
+		w.must(err)
+	}
+	w.collect()
+	for id, there := range map[string]bool{"go": true, "comma": true, "standard": false} {
+		w.row(there, metad.Line{"op": "lease.get", "ns": "one", "id": id})
+	}
+}
+
 // A lease holds what is there when its ingest or its key would make it, and no longer the ingest or
 // the key.
 func TestALeaseHoldsWhatACommitMade(t *testing.T) {

@@ -79,13 +79,14 @@ def ends(work: str, program: str, metad: str, registry: Registry, snapshotter: s
 def kills(work: str, program: str, metad: str, registry: Registry, snapshotters: Sequence[str],
         rounds: int,
           seed: int) -> Checks:
-    """Kills the daemon, its metad, or both by -9 under clients that pull and remove."""
+    """Kills the daemon, its metad, or both by -9 under eight clients that pull, and others that
+    remove."""
     check, choose = Checks(), random.Random(seed)
     daemon = Daemon(work, program, [metad, 'serve'])
     daemon.start_again()
     for i in range(rounds):
         clients: List['subprocess.Popen[bytes]'] = []
-        for _ in range(choose.randint(2, 6)):
+        for _ in range(8):
             clients.append(daemon.begin_ctr('images', 'pull', '--plain-http', '--snapshotter',
                     choose.choice(snapshotters),
                                             registry.ref('v%d'
