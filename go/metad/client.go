@@ -140,8 +140,9 @@ func (c *Client) Trips() (trips, lines uint64) {
 }
 
 func (c *Client) read(out *bufio.Reader) {
+	lines := lineReader{in: out}
 	for number := uint64(1); ; number++ {
-		line, err := out.ReadString('\n')
+		line, err := lines.next()
 		if err != nil {
 			break
 		}
@@ -155,6 +156,35 @@ func (c *Client) read(out *bufio.Reader) {
 	}
 	c.fail(fmt.Errorf("metad has ended: %v", c.wait()))
 	close(c.done)
+}
+
+// mostKept is how long a line may be whose room is kept for the next.
+const mostKept = 1 << 20
+
+// lineReader reads lines. A line that is longer than the reader's buffer, as that of a listing, is
+// put together in room that is kept.
+type lineReader struct {
+	in   *bufio.Reader
+	long []byte
+}
+
+// next returns a line with its line feed.
+func (l *lineReader) next() (string, error) {
+	part, err := l.in.ReadSlice('\n')
+	if err != bufio.ErrBufferFull {
+		return string(part), err
+	}
+	l.long = l.long[:0]
+	for err == bufio.ErrBufferFull {
+		l.long = append(l.long, part...)
+		part, err = l.in.ReadSlice('\n')
+	}
+	l.long = append(l.long, part...)
+	line := string(l.long)
+	if len(l.long) > mostKept {
+		l.long = nil
+	}
+	return line, err
 }
 
 // take takes the reply to the line of this number.

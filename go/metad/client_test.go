@@ -7,6 +7,7 @@ import (
 	"encoding/json"
 	"errors"
 	"fmt"
+	"io"
 	"net"
 	"os"
 	"path/filepath"
@@ -74,6 +75,35 @@ func TestEachCallerGetsItsReplies(t *testing.T) {
 	callers.Wait()
 	if trips, lines := c.Trips(); trips != 1000 || lines != 2000 {
 		t.Fatalf("%d trips and %d lines, want 1000 and 2000", trips, lines)
+	}
+}
+
+func TestLinesOfAnyLengthAreReadWhole(t *testing.T) {
+	lengths := []int{0, 15, 16, 17, 40, mostKept + 1, 1, 33, 16}
+	var text strings.Builder
+	for i, length := range lengths {
+		text.WriteString(strings.Repeat(string(rune('a'+i)), length) + "\n")
+	}
+	text.WriteString("cut")
+	lines := lineReader{in: bufio.NewReaderSize(strings.NewReader(text.String()), 16)}
+	var kept []string // a line stays as it is while later ones are read
+	for range lengths {
+		line, err := lines.next()
+		if err != nil {
+			t.Fatal(err)
+		}
+		kept = append(kept, line)
+	}
+	for i, length := range lengths {
+		if kept[i] != strings.Repeat(string(rune('a'+i)), length)+"\n" {
+			t.Errorf("line %d: %d bytes, want %d and a line feed", i, len(kept[i]), length)
+		}
+	}
+	if cap(lines.long) > mostKept {
+		t.Errorf("room for %d bytes is kept", cap(lines.long))
+	}
+	if line, err := lines.next(); line != "cut" || err != io.EOF {
+		t.Errorf("%q, %v, want what a cut line has", line, err)
 	}
 }
 

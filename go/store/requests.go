@@ -128,8 +128,8 @@ func (k kind[T]) list(ctx context.Context, s *Store, line metad.Line, fs []strin
 	return all, err
 }
 
-// each calls fn for each value that the filter matches. A row whose data can't be read is told and
-// left out: the others are there all the same.
+// each calls fn for each value that the filter matches, nil for all. A row whose data can't be read
+// is told and left out: the others are there all the same.
 func (k kind[T]) each(ctx context.Context, rows []metad.Row, filter filters.Filter,
 	fn func(T) error) error {
 	for _, row := range rows {
@@ -138,7 +138,7 @@ func (k kind[T]) each(ctx context.Context, rows []metad.Row, filter filters.Filt
 			log.G(ctx).WithError(err).Error("a row can't be read")
 			continue
 		}
-		if !filter.Match(k.adapt(value)) {
+		if filter != nil && !filter.Match(k.adapt(value)) {
 			continue
 		}
 		if err := fn(value); err != nil {
@@ -148,16 +148,19 @@ func (k kind[T]) each(ctx context.Context, rows []metad.Row, filter filters.Filt
 	return nil
 }
 
-// listing returns the rows of a listing in the namespace of a request, and what the filters match.
+// listing returns the rows of a listing in the namespace of a request, and what the filters match:
+// nil if there are none, so no value is adapted to be matched.
 func (s *Store) listing(ctx context.Context, line metad.Line, fs []string) ([]metad.Row,
 	filters.Filter, error) {
 	ns, _, err := requested(ctx)
 	if err != nil {
 		return nil, nil, err
 	}
-	filter, err := filters.ParseAll(fs...)
-	if err != nil {
-		return nil, nil, err
+	var filter filters.Filter
+	if len(fs) > 0 {
+		if filter, err = filters.ParseAll(fs...); err != nil {
+			return nil, nil, err
+		}
 	}
 	line["ns"] = ns
 	rows, err := s.rowsOf(ctx, line)
