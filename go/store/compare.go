@@ -128,8 +128,8 @@ func (s *Store) checkMounted(ctx context.Context, back metad.Objects, f *files) 
 		for _, all := range rows {
 			for _, r := range all {
 				if r.Kind == "committed" {
-					return fmt.Errorf("the store has snapshots, and snapshotter %s has none: is it mounted? %w",
-						name, errdefs.ErrFailedPrecondition)
+					return fmt.Errorf("the store has snapshots, and snapshotter %s has none: "+
+						"is it mounted? %w", name, errdefs.ErrFailedPrecondition)
 				}
 			}
 		}
@@ -137,9 +137,9 @@ func (s *Store) checkMounted(ctx context.Context, back metad.Objects, f *files) 
 	return nil
 }
 
-// compare gives an object its blob back if that is in lost/, and moves blobs and ingests that are no
-// object's there, unless they may be an object's of a newer store. Content without its blob is told
-// and stays: its labels hold other rows, and a client may write the blob again.
+// compare gives an object its blob back if that is in lost/, and moves blobs and ingests that are
+// no object's there, unless they may be an object's of a newer store. Content without its blob is
+// told and stays: its labels hold other rows, and a client may write the blob again.
 func (cs *contentStore) compare(ctx context.Context, back metad.Objects, f *files,
 	ageKnown bool) error {
 	blobs, ingests := map[digest.Digest]bool{}, map[string]bool{}

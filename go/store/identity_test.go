@@ -125,7 +125,8 @@ func TestOlderStoreIsRefused(t *testing.T) {
 	}
 }
 
-// older puts the store back to what it was before a blob and a snapshot were made, and returns these.
+// older puts the store back to what it was before a blob and a snapshot were made, and returns
+// these.
 func (w *world) older() (blob digest.Digest, key string) {
 	w.t.Helper()
 	w.write("text")

@@ -271,7 +271,9 @@ func TestWhatContainerdTakesAndMetadRefuses(t *testing.T) {
 	long.Spec.Value = make([]byte, 60_000)
 	rand.New(rand.NewSource(1)).Read(long.Spec.Value) // isn't shorter when it is deflated
 	for name, call := range map[string]func() error{
-		"a name of 1,025 bytes":           func() error { return made(w.image(strings.Repeat("n", 1025), nil)) },
+		"a name of 1,025 bytes": func() error {
+			return made(w.image(strings.Repeat("n", 1025), nil))
+		},
 		"a name with a control character": func() error { return made(w.image("a\x1fb", nil)) },
 		"a key of 1,025 bytes": func() error {
 			_, err := sn.Prepare(w.ctx, strings.Repeat("k", 1025), "")
@@ -314,8 +316,8 @@ func TestWhatContainerdTakesAndMetadRefuses(t *testing.T) {
 func TestAnExpiryThatOnlyGoReadsNeverComes(t *testing.T) {
 	w := newWorld(t)
 	lm := NewLeaseManager(w.s)
-	for id, expiry := range map[string]string{"go": "2020-01-01T5:00:00Z", "comma": "2020-01-01T05:00:00,5Z",
-		"standard": "2020-01-01T05:00:00Z"} {
+	for id, expiry := range map[string]string{"go": "2020-01-01T5:00:00Z",
+		"comma": "2020-01-01T05:00:00,5Z", "standard": "2020-01-01T05:00:00Z"} {
 		if _, err := time.Parse(time.RFC3339, expiry); err != nil {
 			t.Fatal(err)
 		}

@@ -104,8 +104,8 @@ type age struct {
 }
 
 // checkAge refuses a store that is older than its files. It leaves its mark in the store, and else
-// changes nothing. Of a store that takes no mark only its objects can tell that it isn't older. What
-// the witness of another store has seen doesn't count: that one has no file there.
+// changes nothing. Of a store that takes no mark only its objects can tell that it isn't older.
+// What the witness of another store has seen doesn't count: that one has no file there.
 func (s *Store) checkAge(ctx context.Context, own ownership, back metad.Objects) (age, error) {
 	if s.folders.Content == "" {
 		return age{known: true}, nil
@@ -125,7 +125,7 @@ func (s *Store) checkAge(ctx context.Context, own ownership, back metad.Objects)
 		return age{given, true}, nil
 	case errdefs.IsUnavailable(err):
 		log.G(ctx).WithError(err).Warn(
-			"whether the store is older than its files isn't known: it takes no addition, and no file is moved")
+			"the store takes no addition: whether it is older isn't known, and no file is moved")
 		return age{last, false}, nil
 	case err != nil:
 		return age{}, err

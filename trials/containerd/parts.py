@@ -174,15 +174,14 @@ def folders(work: str, program: str, metad: str, registry: Registry) -> Checks:
         refused('older than its files')
     shutil.rmtree(rows)
     refused('has no store')
-    identities = [os.path.join(daemon.root, folder, 'metad.id') for folder in os.listdir(daemon.root)]
-    kept = {path: open(path).read() for path in identities if os.path.exists(path)}
-    for path in kept:
-        os.remove(path)
+    identities = [path for path in (os.path.join(daemon.root, folder, 'metad.id')
+            for folder in os.listdir(daemon.root)) if os.path.exists(path)]
+    for path in identities:  # the files alone tell that a store was there
+        os.rename(path, path + '.away')
     refused('has no store')
     check(not os.path.exists(rows), 'a refused start made a store')
-    for path, text in kept.items():
-        with open(path, 'w') as file:
-            file.write(text)
+    for path in identities:
+        os.rename(path + '.away', path)
     other = Daemon(os.path.join(work, 'other'), program, [metad, 'serve'])
     other.start_again()
     other.pull(registry.ref('v2'), 'native')
