@@ -3,3 +3,4 @@ pub mod Asking
 pub mod RawLabels
 pub mod LineMembers
 pub mod PassedOn
+mod Places

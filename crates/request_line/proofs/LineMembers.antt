@@ -1,6 +1,5 @@
 -- On the members of a line, and on the grammar's loop over members.
 use Rattle.std.proofs.Common.{◌≡◌, refl, sym, ap, ◌∙◌, ℕ, ◌+◌, ◌-◌, ◌<◌, ◌≤◌, ◌&&◌, List, [], ◌∷◌, ◌++◌, length, map, take, get_or, arith, Bor, Bool, true, false, true≢false, Option, Some, None, option_map, option_and_then, IfSome, IfOk, Result, Ok, Err, if◌then◌else◌, Ordering, Less, Equal, Greater, nat_cmp, is_eq, bytes_eq, string_bytes}
-use Rattle.std.specs.Prelude.{⊤}
 use Rattle.std.specs.Cmp.Lexicographic.{slice_cmp}
 use Rattle.std.specs.Ordering.{match_ordering, ordering_reverse, is_gt}
 use Rattle.std.specs.List.{list_all}
@@ -22,7 +21,7 @@ use Rattle.meta_types.specs.declared.fault.Fault.{Fault}
 use Rattle.request_line.specs.Members.{pairs_from}
 use Rattle.request_line.specs.Table.{Members as OpRow, members_of, command_of}
 use Rattle.request_line.specs.Lines.{are_texts, is_listed, has_kind, are_listed, has_required, op_in, command_with, command_by, command_in}
-use Rattle.request_line.specs.LineMembers.{LineMember, texts_object, value_of, put_all, object_of, is_behind, fits, command_as, command_by_all}
+use Rattle.request_line.specs.LineMembers.{LineMember, texts_object, value_of, put_all, object_of, is_behind, AllBelow, IsRising, fits, command_as, command_by_all}
 use Rattle.request_line.specs.declared.command.Command.{Command}
 use Rattle.request_line.specs.declared.op.Op.{Op}
 
@@ -66,6 +65,10 @@ with_member k j d old e None = refl
 with_member k j d old e (Some p) = rw e
 
 module _ (p : Parse json.Json) where
+  -- the members that are left, over those that were found
+  abbrev pub over_members : ℕ → List Token → Members → Option (Members × List Token)
+  over_members n ts found = converted (λ ms. of_members ms found) (members p n ts)
+
   pub member_read : (old : Members) (n : ℕ) (k : List ℕ) (ts s r : List Token) (d : Data) → 0 < n
       → read_key ts ≡ Some (Some k, s) → converted of_json (p s) ≡ Some (d, r)
       → converted (λ ms. of_members ms old) (members p n ts)
@@ -122,14 +125,6 @@ whole_read o d e = let j = converted_some of_json o d [] e in ap whole j.1 ∙ j
 
 -- ---- names that rise
 
-abbrev AllBelow : Text → List (Bor Text × Bor Text) → Type 0
-AllBelow name [] = ⊤
-AllBelow name (t ∷ ts) = (slice_cmp nat_cmp name t.0.now ≡ Greater) × AllBelow name ts
-
--- what stands behind the last name stands behind them all
-abbrev pub IsRising : Option (Bor Text) → List (Bor Text × Bor Text) → Type 0
-IsRising last ts = (name : Text) → is_behind last name ≡ true → AllBelow name ts
-
 -- what stands behind all names goes last
 pub put_behind : (ts : List (Bor Text × Bor Text)) (t : Bor Text × Bor Text) → AllBelow t.0.now ts
     → put t.0.now (string t.1.now) (texts_object ts) ≡ texts_object (ts ++ t ∷ [])
@@ -142,12 +137,14 @@ AllBelow-push : (name : Text) (ts : List (Bor Text × Bor Text)) (t : Bor Text �
 AllBelow-push name [] t below above = (above, tt)
 AllBelow-push name (u ∷ ts) t below above = (below.0, AllBelow-push name ts t below.1 above)
 
-greater : (o : Ordering) → is_gt o ≡ true → o ≡ Greater
+-- what is_gt tells
+pub greater : (o : Ordering) → is_gt o ≡ true → o ≡ Greater
 greater Less e = absurd (true≢false (sym e))
 greater Equal e = absurd (true≢false (sym e))
 greater Greater e = refl
 
-behind_both : (x y z : Text) → slice_cmp nat_cmp x y ≡ Greater → slice_cmp nat_cmp y z ≡ Greater
+-- what stands behind a name that stands behind a third
+pub behind_both : (x y z : Text) → slice_cmp nat_cmp x y ≡ Greater → slice_cmp nat_cmp y z ≡ Greater
     → slice_cmp nat_cmp x z ≡ Greater
 behind_both x y z first second =
     let below_first : slice_cmp nat_cmp y x ≡ Less =

@@ -1,9 +1,10 @@
 -- The members of a line as a list, and the object that they make. Ours.
-use Rattle.std.specs.Prelude.{List, [], ◌∷◌, Bool, true, ◌&&◌, if◌then◌else◌, Option, Some, None, option_and_then, codes}
+use Rattle.std.specs.Prelude.{◌≡◌, List, [], ◌∷◌, Bool, true, ◌&&◌, if◌then◌else◌, Option, Some, None, option_and_then, codes, ⊤}
 use Rattle.std.specs.Borrow.{Bor}
 use Rattle.std.specs.List.{list_all}
 use Rattle.std.specs.Cmp.Lexicographic.{slice_cmp}
 use Rattle.std.specs.Ordering.{nat_cmp, is_gt}
+use Rattle.std.specs.declared.cmp.Ordering.TheVariants.{Greater}
 use Rattle.serde_json.specs.Data as json
 use Rattle.serde_json.specs.Data.{Data, string, object, put}
 use Rattle.serde_json.specs.View.{view}
@@ -44,6 +45,15 @@ object_of = put_all json.no_members
 abbrev pub is_behind : Option (Bor Text) → Text → Bool
 is_behind None name = true
 is_behind (Some last) name = is_gt (slice_cmp nat_cmp name last.now)
+
+-- all names of these texts stand before this one
+abbrev pub AllBelow : Text → List (Bor Text × Bor Text) → Type 0
+AllBelow name [] = ⊤
+AllBelow name (t ∷ ts) = (slice_cmp nat_cmp name t.0.now ≡ Greater) × AllBelow name ts
+
+-- what stands behind the last name stands behind them all
+abbrev pub IsRising : Option (Bor Text) → List (Bor Text × Bor Text) → Type 0
+IsRising last ts = (name : Text) → is_behind last name ≡ true → AllBelow name ts
 
 -- ---- which members are those of an op
 

@@ -1,11 +1,13 @@
 //! Reads a plain line, which is an object of texts and labels, as it lies: no tree of values is
 //! made. What isn't plain is left to the reader of any line.
-ghost use Rattle.std.specs.Prelude.{◌≡◌, length, None, Some, IfOk, IfSome, ◌<◌};
+ghost use Rattle.std.specs.Prelude.{◌≡◌, length, take, get_or, false, None, Some, IfOk, OnOk, IfSome, ◌<◌, ◌≤◌};
+ghost use Rattle.std.specs.Borrow.{Bor};
 ghost use Rattle.json.specs.Json.{members, value};
-ghost use Rattle.serde_json.specs.Data.{no_members, object};
+ghost use Rattle.serde_json.specs.Data.{no_members, object, string, put};
 ghost use Rattle.serde_json.specs.Read.{of_json, of_members, converted, read};
 ghost use Rattle.meta_types.specs.Faults.{Refuses};
-ghost use Rattle.request_line.specs.LineMembers.{texts_object, value_of, object_of, is_behind};
+ghost use Rattle.meta_types.specs.Text.{Text};
+ghost use Rattle.request_line.specs.LineMembers.{texts_object, value_of, object_of, is_behind, AllBelow, IsRising};
 
 use crate::members::{LineValue, Member};
 use json::{Reader, Scratch, Token};
@@ -14,6 +16,10 @@ use std::alloc::Global;
 
 // No op has more members.
 const MOST: usize = 12;
+
+// No row has more labels. If more names come in another order than that of their bytes, the reader
+// of any line takes them, since each one is put in its place by a look at those before.
+const MOST_LABELS: usize = 256;
 
 // Whether a name stands behind the one before.
 fn is_behind(last: Option<&str>, name: &str) -> bool
@@ -25,8 +31,48 @@ fn is_behind(last: Option<&str>, name: &str) -> bool
     }
 }
 
-// The names and texts of an object, behind its brace: nothing, where a value is no text, where a
-// name doesn't stand behind the one before, or where it isn't whole.
+// The place of the first name that isn't below this one.
+fn place_of(texts: &[(&str, &str)], name: &str) -> usize
+    ensures within { result ≤ length texts.now }
+    ensures below { AllBelow name.now (take result texts.now) }
+    ensures stops { (t : Bor Text × Bor Text) → result < length texts.now
+        → is_behind (Some (get_or texts.now result t).0) name.now ≡ false }
+{
+    let mut place = 0;
+    'names: while place < texts.len() {
+        if name <= texts[place].0 {
+            return place;
+        }
+        place += 1;
+    }
+    place
+}
+
+// Puts a text at a name that doesn't stand behind the last one; at a name that is there, the text
+// takes the place of the one before.
+fn put_text<'a>(
+    texts: &mut Vec<(&'a str, &'a str)>,
+    name: &'a str,
+    text: &'a str,
+) -> Result<(), Fault>
+    ensures fault { Refuses result None }
+    ensures ok { OnOk result (texts_object texts.new.items
+        ≡ put name.now (string text.now) (texts_object texts.old.items)) }
+    ensures rising { (last : Bor Text) → is_behind (Some last) name.now ≡ false
+        → IsRising (Some last) texts.old.items
+        → OnOk result (IsRising (Some last) texts.new.items) }
+{
+    let place = place_of(texts.as_slice(), name);
+    if place < texts.len() && texts[place].0 == name {
+        texts[place] = (name, text);
+        return Ok(());
+    }
+    texts.insert(place, (name, text))?;
+    Ok(())
+}
+
+// The names and texts of an object, behind its brace, in the order of the names: nothing, where a
+// value is no text, where too many names come in another order, or where it isn't whole.
 fn read_labels<'a>(
     alloc: Global,
     reader: &mut Reader<'a>,
@@ -42,14 +88,17 @@ fn read_labels<'a>(
     'members: loop {
         match reader.next_key() {
             Ok(Some(name)) => {
-                if !is_behind(last, name) {
-                    return Ok(None);
-                }
                 let Some(Token::String(text)) = reader.next() else {
                     return Ok(None);
                 };
-                texts.push((name, text))?;
-                last = Some(name);
+                if is_behind(last, name) {
+                    texts.push((name, text))?;
+                    last = Some(name);
+                } else if texts.len() < MOST_LABELS {
+                    put_text(&mut texts, name, text)?;
+                } else {
+                    return Ok(None);
+                }
             }
             Ok(None) => return Ok(Some(texts)),
             Err(_) => return Ok(None),

@@ -2,8 +2,7 @@ use Rattle.std.proofs.Common.{◌≡◌, ℕ, ◌≤◌, length}
 use Rattle.json.specs.Json.{members, value}
 use Rattle.serde_json.specs.Data.{no_members}
 use Rattle.serde_json.specs.Read.{of_members, converted}
-use Rattle.request_line.specs.LineMembers.{texts_object}
-use Rattle.request_line.proofs.LineMembers.{IsRising}
+use Rattle.request_line.specs.LineMembers.{texts_object, IsRising}
 use Rattle.request_line.proofs.plain.read_labels.Given as goal
 
 abbrev pub invariant-members : goal.invariant-members
