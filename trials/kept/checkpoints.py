@@ -268,6 +268,17 @@ def missing(folder):
         wants("one without a line is told", done.status == 3 and b"half a store" in done.told, done)
 
 
+def told_until(client, *ends):
+    """What a client's program tells, up to the first line that has one of these texts."""
+    told = b""
+    while not any(end in told for end in ends):
+        line = client.run.stderr.readline()
+        if not line:
+            break
+        told += line
+    return told
+
+
 def refusals(folder):
     """Where there is no checkpoint that is told, and the run goes on in the file that counts."""
     lines = [line_of(op="ns.add", ns="x")]
@@ -281,7 +292,7 @@ def refusals(folder):
     wants("and of rows that are long", done.out == store.answers_of(more), done.status)
     added = line_of(op="lease.add", ns="x", id="added")
     client = Client(folder, "--checkpoint", preexec_fn=limit_files(HEAD + STEP))
-    told = b"".join(client.run.stderr.readline() for _ in range(3))
+    told = told_until(client, NOT_TAKEN, TAKEN)
     wants("a disk that has no room", NOT_TAKEN in told and FULL in told, told)
     lift(client)
     wants("the run goes on", client.ask([added]) == [store.answer(added)])

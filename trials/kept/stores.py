@@ -36,7 +36,9 @@ def slowness():
     return max(1.0, 5 * (time.monotonic() - began))
 
 
-WAIT = 60 * slowness()  # seconds after which a run that hasn't ended hangs
+# Seconds after which a run that hasn't ended hangs. The longest run takes some 12 on a good day; the
+# other programs of the gate may leave it a tenth of a processor.
+WAIT = 300 * slowness()
 
 Ended = namedtuple("Ended", "status out told")
 
