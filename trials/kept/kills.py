@@ -17,6 +17,7 @@ wants = Told.wants
 ROUNDS = 100
 COPIES = 50
 PAUSE = 0.004  # seconds between the writer's groups of 20 lines
+GROUPS = 200  # that it writes for each copy at most: a slow copy mustn't make the next one slower
 
 
 def send_for(client, chance):
@@ -82,20 +83,23 @@ def copy_mixed(old, new, more, pause):
 
 
 class Writer(threading.Thread):
-    """Adds rows until it is stopped."""
+    """Adds rows until it is stopped, so many groups for each copy."""
 
     def __init__(self, folder):
         super().__init__(daemon=True)
         self.client, self.stopped = Client(folder), threading.Event()
+        self.left = 0  # groups for this copy
         # the file is there once a line was answered
         self.client.ask([line_of(op="ns.add", ns="x")])
 
     def run(self):
         number = 0
         while not self.stopped.is_set():
-            ids = ["l%d" % it for it in range(number, number + 20)]
-            self.client.ask([line_of(op="lease.add", ns="x", id=it) for it in ids])
-            number += 20
+            if self.left > 0:
+                ids = ["l%d" % it for it in range(number, number + 20)]
+                self.client.ask([line_of(op="lease.add", ns="x", id=it) for it in ids])
+                number += 20
+                self.left -= 1
             time.sleep(PAUSE)
 
     def ends(self):
@@ -113,6 +117,7 @@ def copies():
         writer.start()
         for number in range(COPIES):
             new = os.path.join(top, "copy")
+            writer.left = GROUPS
             if number % 2:
                 copy_mixed(folder, new, 40 * number - 500, 0.001 * number)
             else:
