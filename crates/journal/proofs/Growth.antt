@@ -136,21 +136,18 @@ marks_leave file c k head less torn =
 
 -- ---- the zeros
 
-module _ (file more zeros : List ℕ) (k n at : ℕ) (head : IsHeaded file k)
-    (is : at ≡ 4096 + 1048576 * k) (are : zeros ≡ replicate n 0) (step : n ≡ 1048576)
-    (torn : Torn at (length zeros) file more) (holds : 0 < length zeros → Holds more at zeros) where
-  size : length zeros ≡ n
-  size = ap length are ∙ length-replicate n 0
-
-  there : Holds more at zeros
-  there = holds (let s = size in omega (arith, s, step))
+module _ (file more : List ℕ) (k n at : ℕ) (head : IsHeaded file k)
+    (is : at ≡ 4096 + 1048576 * k) (step : n ≡ 1048576) (torn : Torn at n file more)
+    (there : Holds more at (replicate n 0)) where
+  size : length (replicate {A = ℕ} n 0) ≡ n
+  size = length-replicate n 0
 
   pub is_long : 4096 + 1048576 * (k + 1) ≤ length more
   is_long = let s = size in let within = there.within in omega (arith, s, step, is, within)
 
   pub is_grown : take (1048576 * (k + 1)) (drop 4096 more) ≡ believed file ++ replicate n 0
   is_grown =
-      let kept = torn_behind file more k at (length zeros) head is torn in
+      let kept = torn_behind file more k at n head is torn in
       let next : 1048576 * (k + 1) ≡ 1048576 * k + n = omega (arith, step) in
       ap (λ (m : ℕ). take m (drop 4096 more)) next
       ∙ take-add (1048576 * k) n (drop 4096 more)
@@ -159,7 +156,7 @@ module _ (file more zeros : List ℕ) (k n at : ℕ) (head : IsHeaded file k)
       ∙ ap (λ (t : List ℕ). believed file ++ take n t)
       (drop-drop (1048576 * k) 4096 more ∙ ap (λ (m : ℕ). drop m more) (sym is))
       ∙ ap (λ (m : ℕ). believed file ++ take m (drop at more)) (sym size)
-      ∙ ap (λ (t : List ℕ). believed file ++ t) (sym (holds_take at more zeros there) ∙ are)
+      ∙ ap (λ (t : List ℕ). believed file ++ t) (sym (holds_take at more (replicate n 0) there))
 
 -- ---- what the calls leave
 
@@ -180,10 +177,8 @@ pub torn_over : (at n : ℕ) (a b c d : List ℕ) → b ≡ a → Torn at n b c 
 torn_over at n a b c d same torn then =
     subst (λ (t : List ℕ). Torn at n a t) (sym then) (torn_from at n a b c same torn)
 
-pub holds_to : (at : ℕ) (bytes a b : List ℕ) → b ≡ a → (0 < length bytes → Holds a at bytes)
-    → 0 < length bytes → Holds b at bytes
-holds_to at bytes a b same holds some =
-    subst (λ (t : List ℕ). Holds t at bytes) (sym same) (holds some)
+pub holds_to : (at : ℕ) (bytes a b : List ℕ) → b ≡ a → Holds a at bytes → Holds b at bytes
+holds_to at bytes a b same holds = subst (λ (t : List ℕ). Holds t at bytes) (sym same) holds
 
 pub marks_put : (file new bytes : List ℕ) (k at : ℕ) → k < 2037 → at ≡ 17 + 2 * k
     → bytes ≡ 43 ∷ 43 ∷ [] → (at + length bytes ≤ length file → new ≡ written at bytes file)

@@ -18,6 +18,7 @@ pub mod Groups
 pub mod Growing
 mod Growth
 mod Heads
+mod HiddenNotes
 mod LastFeeds
 mod LineFeeds
 mod MixedBytes
@@ -30,6 +31,7 @@ mod Openings
 mod Over
 mod Pairs
 mod Parts
+mod Pieces
 mod Pushing
 mod PutSelectors
 mod ReadHeads

@@ -56,15 +56,14 @@ module _ (file : List ℕ) (steps size : ℕ) (head : IsHeaded file steps)
 
 -- ---- growth
 
-module _ (file : List ℕ) (k at n : ℕ) (zeros : List ℕ) (head : IsHeaded file k)
-    (is : at ≡ 4096 + 1048576 * k) (are : zeros ≡ replicate n 0) (step : n ≡ 1048576) where
-  pub behind : (c : List ℕ) → Torn at (length zeros) file c
-      → IsHeaded c k × (believed c ≡ believed file)
-  behind c torn = torn_behind file c k at (length zeros) head is torn
+module _ (file : List ℕ) (k at n : ℕ) (head : IsHeaded file k)
+    (is : at ≡ 4096 + 1048576 * k) where
+  pub behind : (c : List ℕ) → Torn at n file c → IsHeaded c k × (believed c ≡ believed file)
+  behind c torn = torn_behind file c k at n head is torn
 
   -- nothing is seen of the zeros before the marks
   pub unmarked_text : (old left : List ℕ → Type 0) → old file
-      → ((c : List ℕ) → left c → (old c) ⊎ Torn at (length zeros) file c)
+      → ((c : List ℕ) → left c → (old c) ⊎ Torn at n file c)
       → (c : List ℕ) → Texts left c → Texts old c
   unmarked_text old left stays each c may = elim (each may.0 may.1) [
     | inl was ↦ (may.0, was, may.2)
@@ -74,19 +73,19 @@ module _ (file : List ℕ) (k at n : ℕ) (zeros : List ℕ) (head : IsHeaded fi
   same_longer : (c : List ℕ) → c ≡ believed file → Longer (believed file) c
   same_longer c same = (0, same ∙ sym (append-nil (believed file)))
 
-  module _ (more : List ℕ) (torn : Torn at (length zeros) file more)
-      (holds : 0 < length zeros → Holds more at zeros) where
+  module _ (step : n ≡ 1048576) (more : List ℕ) (torn : Torn at n file more)
+      (holds : Holds more at (replicate n 0)) where
     pub more_headed : IsHeaded more k
     more_headed = (behind more torn).0
 
     pub more_long : 4096 + 1048576 * (k + 1) ≤ length more
-    more_long = is_long file more zeros k n at head is are step torn holds
+    more_long = is_long file more k n at head is step torn holds
 
     pub grown_text : (new : List ℕ) → IsHeaded new (k + 1) → drop 4096 new ≡ drop 4096 more
         → believed new ≡ believed file ++ replicate n 0
     grown_text new now same = believed_is new (k + 1) now
         ∙ ap (take (1048576 * (k + 1))) same
-        ∙ is_grown file more zeros k n at head is are step torn holds
+        ∙ is_grown file more k n at head is step torn holds
 
     pub marked_text : (c : List ℕ)
         → (believed c ≡ believed more)
@@ -94,7 +93,7 @@ module _ (file : List ℕ) (k at n : ℕ) (zeros : List ℕ) (head : IsHeaded fi
         → Longer (believed file) (believed c)
     marked_text c which = elim which [
       | inl before ↦ same_longer (believed c) (before ∙ (behind more torn).1)
-      | inr after ↦ (n, after ∙ is_grown file more zeros k n at head is are step torn holds)
+      | inr after ↦ (n, after ∙ is_grown file more k n at head is step torn holds)
     ]
 
     -- what a crash leaves of the marks

@@ -3,6 +3,7 @@ pub mod Crashes
 pub mod Groups
 pub mod Growth
 pub mod Head
+pub mod Misnamed
 pub mod Notes
 pub mod Laws
 pub mod Reading

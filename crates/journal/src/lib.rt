@@ -26,7 +26,7 @@ pub use lines::{cut_line, is_commit};
 pub use log::Log;
 pub use page::{
     Bond, CARD, NOTE, NotBlank, Note, Notes, PAGE, Paged, WITNESS, bond_of, finds, first_sum,
-    identity_of, make_anew, make_page, note_bytes, put_note, read_note, read_page,
+    hides_note, identity_of, make_anew, make_page, note_bytes, put_note, read_note, read_page,
 };
 pub use reader::{Reader, Sound};
 pub use reading::{Extent, check, has_group};

@@ -1,7 +1,8 @@
 //! The page of notes before the text of a file of format 2.
-ghost use Rattle.std.specs.Prelude.{◌≡◌, ◌≤◌, ◌+◌, ◌∷◌, List, ℕ, length, take, drop, bytes_eq, IsTrue, IfOk, OnOk, IsErrOf};
+ghost use Rattle.std.specs.Prelude.{◌≡◌, ◌≤◌, ◌+◌, ◌∷◌, List, ℕ, length, take, drop, bytes_eq, true, false, IsTrue, IfOk, OnOk, IsErrOf};
 ghost use Rattle.journal.specs.Crashes.{Only, written};
 ghost use Rattle.journal.specs.Notes.{note_text, is_found, IsNote, Reads, NoteLeft};
+ghost use Rattle.journal.specs.Misnamed.{is_read, has_any, HasNote};
 
 mod anew;
 mod bond;
@@ -79,6 +80,35 @@ fn note_at(alloc: Global, block: &[u8], at: usize) -> Result<Option<Note>, Alloc
     Ok(found)
 }
 
+/// The notes of a block that begins as a page does.
+pub(crate) fn notes_in(alloc: Global, block: &[u8]) -> Result<Notes, AllocError>
+    ensures card { IfOk result (λ notes. Reads 0 block.now notes.card) }
+    ensures witness { IfOk result (λ notes. Reads 512 block.now notes.witness) }
+{
+    let card = note_at(alloc, block, CARD)?;
+    let witness = note_at(alloc, block, WITNESS)?;
+    Ok(Notes { card, witness })
+}
+
+// Whether a note was read.
+fn is_read(note: Option<Note>) -> bool
+    ensures { result ≡ is_read note }
+{
+    match note {
+        Some(_) => true,
+        None => false,
+    }
+}
+
+/// Whether a note of a page was read.
+pub(crate) fn has_any(notes: Notes) -> bool
+    ensures { result ≡ has_any notes }
+{
+    let card = is_read(notes.card);
+    let witness = is_read(notes.witness);
+    card | witness
+}
+
 /// The notes of a file's page. A file without one, or with an unreadable one, has none.
 pub fn read_page<L: Log>(alloc: Global, log: &mut L) -> Result<Notes, JournalError>
     ensures card { IfOk result (λ notes. IsTrue (L.is_clean log.new)
@@ -95,9 +125,26 @@ pub fn read_page<L: Log>(alloc: Global, log: &mut L) -> Result<Notes, JournalErr
     let count = size.min(PAGE);
     let mut block: Vec<u8> = Vec::new(alloc);
     log.read(0, count, &mut block)?;
-    let card = note_at(alloc, &block, CARD)?;
-    let witness = note_at(alloc, &block, WITNESS)?;
-    Ok(Notes { card, witness })
+    // For the prover: it reads the clauses of a result that was opened.
+    let notes = notes_in(alloc, &block)?;
+    Ok(notes)
+}
+
+/// Whether a note stands where the text begins of a file whose first line names format 1. No text
+/// of format 1 has one: the file has format 2, and the digit in its first line was changed.
+pub fn hides_note<L: Log>(alloc: Global, log: &mut L) -> Result<bool, JournalError>
+    ensures note { IfOk result (λ hides. IsTrue (L.is_clean log.new) → hides ≡ true
+        → HasNote (L.text log.old)) }
+    ensures none { IfOk result (λ hides. IsTrue (L.is_clean log.new) → hides ≡ false
+        → HasNote (L.text log.old) → ⊥) }
+    ensures clean { IsTrue (L.is_clean log.new) → IsTrue (L.is_clean log.old) }
+    ensures rests { L.rests log.old → L.rests log.new }
+    ensures same { L.text log.new ≡ L.text log.old }
+    ensures crash { (c : List ℕ) → L.may_leave log.new c → L.may_leave log.old c }
+    ensures blind { IsErrOf result JournalError.Damaged → ⊥ }
+{
+    let notes = read_page(alloc, log)?;
+    Ok(has_any(notes))
 }
 
 // Whether these bytes are those of a commit line up to its sum.

@@ -4,7 +4,7 @@ ghost use Rattle.journal.specs.Head.{IsHeaded};
 ghost use Rattle.journal.specs.Selector.{AllSelect};
 
 use crate::journal_file::growing::{add_zeros, put_marks};
-use crate::journal_file::head::{STEP, STEPS, end_of, make_zeros, place_of, step_size};
+use crate::journal_file::head::{STEP, STEPS, end_of, place_of};
 use crate::journal_file::selecting::find;
 use crate::journal_file::selector::{Selector, is_alike};
 use crate::journal_file::steps::{put, read_block};
@@ -167,8 +167,9 @@ impl<D: Disk + Drop, C: Selector> Log for JournalFile<D, C> {
         if self.steps >= STEPS {
             return Err(JournalError::CannotGrow);
         }
-        let zeros = make_zeros(self.alloc, step_size())?;
-        add_zeros(&mut self.disk, end_of(self.steps), &zeros)?;
+        let from = end_of(self.steps);
+        let till = end_of(self.steps + 1);
+        add_zeros(self.alloc, &mut self.disk, from, till)?;
         self.is_open = false;
         match put_marks(&mut self.disk, self.steps) {
             Ok(()) => {}

@@ -15,6 +15,7 @@ fn read_line<D: Disk>(disk: &mut D) -> Result<[u8; 17], JournalError>
     ensures bytes { IfOk result
         (λ line. IsTrue (D.is_clean disk.new) → line ≡ take 17 (D.seen disk.old)) }
     ensures failed { IfErr result (λ error. error ≡ JournalError.DiskFailed) }
+    ensures usable { IsTrue (D.is_usable disk.old) → IsTrue (D.is_usable disk.new) }
     ensures clean { IsTrue (D.is_clean disk.new) → IsTrue (D.is_clean disk.old) }
     ensures seen { D.seen disk.new ≡ D.seen disk.old }
     ensures crash { (c : List ℕ) → D.may_leave disk.new c → D.may_leave disk.old c }
@@ -34,6 +35,7 @@ pub fn reads_page<D: Disk>(disk: &mut D) -> Result<bool, JournalError>
     ensures page { IfOk result
         (λ has. IsTrue (D.is_clean disk.new) → has ≡ has_page (D.seen disk.old)) }
     ensures failed { IfErr result (λ error. error ≡ JournalError.DiskFailed) }
+    ensures usable { IsTrue (D.is_usable disk.old) → IsTrue (D.is_usable disk.new) }
     ensures clean { IsTrue (D.is_clean disk.new) → IsTrue (D.is_clean disk.old) }
     ensures seen { D.seen disk.new ≡ D.seen disk.old }
     ensures crash { (c : List ℕ) → D.may_leave disk.new c → D.may_leave disk.old c }

@@ -16,6 +16,9 @@ pub const HEAD_END: usize = 4_095;
 /// The length of a step in bytes.
 pub const STEP: usize = 1_048_576;
 
+/// Zeros are written by as many bytes at a time.
+pub const PIECE: usize = 65_536;
+
 /// A file has as many steps at most: its head has room for no more pairs of marks.
 pub const STEPS: usize = 2_037;
 
@@ -93,13 +96,6 @@ fn count_pairs(marks: &[u8]) -> usize
         steps += 1;
     }
     steps
-}
-
-/// How many bytes a step has.
-pub fn step_size() -> usize
-    ensures { result ≡ 1048576 }
-{
-    STEP
 }
 
 /// Where what is believed ends in the file.

@@ -1,12 +1,15 @@
 //! Finds the head of a file, or makes it.
 ghost use Rattle.std.specs.Prelude.{◌≡◌, ◌⊎◌, ◌≤◌, ℕ, List, length, take, bytes_eq, true, false, IsTrue, IfOk, IfSome, IfNone, OnOk, IsErrOf};
 ghost use Rattle.journal.specs.Crashes.{Only};
-ghost use Rattle.journal.specs.Head.{is_first_line, is_blank, IsHeaded};
+ghost use Rattle.journal.specs.Head.{is_first_line, is_blank, believed, IsHeaded};
+ghost use Rattle.journal.specs.Misnamed.{HasNote, IsMisnamed};
 ghost use Rattle.journal.specs.Selector.{SameSelector, IsUnused};
 
 use crate::JournalError;
+use crate::journal_file::format::reads_page;
 use crate::journal_file::head::{HEAD, HEAD_END, is_blank, make_zeros, new_head, read_head};
 use crate::journal_file::steps::{read_block, size_of, sync, write_through};
+use crate::page::{PAGE, has_any, notes_in};
 use sqlite_disk::Disk;
 use std::alloc::Global;
 
@@ -71,18 +74,68 @@ fn find_head<D: Disk>(disk: &mut D, block: &mut Vec<u8>) -> Result<Option<usize>
     }
 }
 
+// Whether a note of a page stands where what is believed of a file begins.
+fn has_note<D: Disk>(alloc: Global, disk: &mut D, steps: usize) -> Result<bool, JournalError>
+    requires { IsTrue (D.is_usable disk.old) }
+    ensures note { IfOk result (λ has. IsTrue (D.is_clean disk.new)
+        → IsHeaded (D.seen disk.old) steps → has ≡ true → HasNote (believed (D.seen disk.old))) }
+    ensures none { IfOk result (λ has. IsTrue (D.is_clean disk.new)
+        → IsHeaded (D.seen disk.old) steps → has ≡ false
+        → HasNote (believed (D.seen disk.old)) → ⊥) }
+    ensures blind { (IsErrOf result JournalError.Damaged → ⊥)
+        × (IsErrOf result JournalError.UnknownFormat → ⊥) }
+    ensures clean { IsTrue (D.is_clean disk.new) → IsTrue (D.is_clean disk.old) }
+    ensures seen { D.seen disk.new ≡ D.seen disk.old }
+    ensures crash { (c : List ℕ) → D.may_leave disk.new c → D.may_leave disk.old c }
+{
+    if steps == 0 {
+        return Ok(false);
+    }
+    let mut block = Vec::new(alloc);
+    read_block(disk, HEAD, PAGE, &mut block)?;
+    let notes = notes_in(alloc, &block)?;
+    Ok(has_any(notes))
+}
+
+// Whether a file of format 1 has a note where its text begins.
+fn is_misnamed<D: Disk>(alloc: Global, disk: &mut D, steps: usize) -> Result<bool, JournalError>
+    requires { IsTrue (D.is_usable disk.old) }
+    ensures misnamed { IfOk result (λ is. IsTrue (D.is_clean disk.new)
+        → IsHeaded (D.seen disk.old) steps → is ≡ true → IsMisnamed (D.seen disk.old)) }
+    ensures named { IfOk result (λ is. IsTrue (D.is_clean disk.new)
+        → IsHeaded (D.seen disk.old) steps → is ≡ false → IsMisnamed (D.seen disk.old) → ⊥) }
+    ensures blind { (IsErrOf result JournalError.Damaged → ⊥)
+        × (IsErrOf result JournalError.UnknownFormat → ⊥) }
+    ensures clean { IsTrue (D.is_clean disk.new) → IsTrue (D.is_clean disk.old) }
+    ensures seen { D.seen disk.new ≡ D.seen disk.old }
+    ensures crash { (c : List ℕ) → D.may_leave disk.new c → D.may_leave disk.old c }
+{
+    let has_page = reads_page(disk)?;
+    if has_page {
+        return Ok(false);
+    }
+    // For the prover: it reads the clauses of a result that was opened.
+    let has = has_note(alloc, disk, steps)?;
+    Ok(has)
+}
+
 /// Whether a file ever had a whole head. It isn't changed. Without one, nothing of it is believed.
+/// A file of format 1 in which a note stands where its text begins is damaged: it has format 2, and
+/// the digit in its first line was changed.
 pub fn has_head<D: Disk>(alloc: Global, disk: &mut D) -> Result<bool, JournalError>
     ensures headed { IfOk result (λ has. IsTrue (D.is_clean disk.new) → has ≡ true
         → (steps : ℕ) × IsHeaded (D.seen disk.old) steps) }
     ensures none { IfOk result (λ has. IsTrue (D.is_clean disk.new) → has ≡ false
         → is_blank (D.seen disk.old) ≡ true) }
+    ensures named { OnOk result
+        (IsTrue (D.is_clean disk.new) → IsMisnamed (D.seen disk.old) → ⊥) }
     ensures unknown { IsErrOf result JournalError.UnknownFormat → IsTrue (D.is_clean disk.new)
         → (is_blank (D.seen disk.old) ≡ false)
         × (is_first_line (take 17 (D.seen disk.old)) ≡ false) }
     ensures damaged { IsErrOf result JournalError.Damaged → IsTrue (D.is_clean disk.new)
         → (is_first_line (take 17 (D.seen disk.old)) ≡ true)
-        × ((steps : ℕ) → IsHeaded (D.seen disk.old) steps → ⊥) }
+        × (((steps : ℕ) → IsHeaded (D.seen disk.old) steps → ⊥)
+        ⊎ IsMisnamed (D.seen disk.old)) }
     ensures clean { IsTrue (D.is_clean disk.new) → IsTrue (D.is_clean disk.old) }
     ensures seen { D.seen disk.new ≡ D.seen disk.old }
     ensures crash { (c : List ℕ) → D.may_leave disk.new c → D.may_leave disk.old c }
@@ -91,10 +144,15 @@ pub fn has_head<D: Disk>(alloc: Global, disk: &mut D) -> Result<bool, JournalErr
         return Err(JournalError::DiskFailed);
     }
     let mut block = Vec::new(alloc);
-    if let Some(_steps) = find_head(disk, &mut block)? {
-        return Ok(true);
+    let found = find_head(disk, &mut block)?;
+    let Some(steps) = found else {
+        return Ok(false);
+    };
+    let is_misnamed = is_misnamed(alloc, disk, steps)?;
+    if is_misnamed {
+        return Err(JournalError::Damaged);
     }
-    Ok(false)
+    Ok(true)
 }
 
 // Makes a file that never had a head as long as one without its last byte. So what a crash leaves

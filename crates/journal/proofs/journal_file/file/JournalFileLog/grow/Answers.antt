@@ -1,4 +1,4 @@
-use Rattle.std.proofs.Common.{◌∙◌, ap, sym, ◌+◌, ◌*◌, Bool, ◌&&◌, inl, inr, arith}
+use Rattle.std.proofs.Common.{◌≡◌, ◌∙◌, ap, sym, ◌+◌, ◌-◌, ◌*◌, ◌<◌, Bool, ◌&&◌, inl, inr, arith}
 use Rattle.std.proofs.lemmas.Bool.{false≢true}
 use Rattle.journal.proofs.Selectors.{follows_selector, zeros_selector}
 use Rattle.journal.proofs.Most.{both_are}
@@ -13,10 +13,6 @@ pub returns-then-self-ge-STEPS-clause-crash : goal.returns-then-self-ge-STEPS-cl
 returns-then-self-ge-STEPS-clause-crash g c clean only out left =
     longer_same _ out (only out left)
 
-pub returns-in_err-zeros-clause-crash : goal.returns-in_err-zeros-clause-crash
-returns-in_err-zeros-clause-crash g c clean only out left =
-    longer_same _ out (only out left)
-
 pub invariant_of-self : goal.invariant_of-self
 invariant_of-self g c =
     let it = c.args.self.now in
@@ -24,13 +20,12 @@ invariant_of-self g c =
     record {
       headed = λ now still.
           let head = it.headed is_open (sym c.add_zeros.ensures.calm ∙ still) in
-          (behind _ it.steps c.end_of.result c.step_size.result c.deref.result.now head
-          c.end_of.ensures (c.deref.ensures.value ∙ c.in_ok-zeros.ensures) c.step_size.ensures
+          (behind _ it.steps c.end_of-from.result _ head c.end_of-from.ensures
           _ c.add_zeros.ensures.torn).0;
       sized = λ now. it.sized is_open;
       selected = λ opened still.
-          let end = c.end_of.ensures in
-          zeros_selector g.C.Selector.IS_STANDBY c.end_of.result _ _ _ _
+          let end = c.end_of-from.ensures in
+          zeros_selector g.C.Selector.IS_STANDBY c.end_of-from.result _ _ _ _
           (g.met.D.Disk.seen_may_stay it.disk) (inl (omega (arith, end)))
           c.add_zeros.ensures.crash (it.selected opened (sym c.add_zeros.ensures.calm ∙ still));
     }
@@ -41,16 +36,14 @@ returns-in_err-add_zeros-clause-calm g c =
 
 pub returns-in_err-add_zeros-clause-refused : goal.returns-in_err-add_zeros-clause-refused
 returns-in_err-add_zeros-clause-refused g c =
-    at_any_error c.from_residual-in_err-add_zeros.result (λ error other both.
+    at_any_error c.from_residual.result (λ error other both.
     let it = c.args.self.now in
     let clean = (both_are _ it.was_opened both).0 in
     let is_open = c.if-not-self.false in
     let head = it.headed is_open clean in (
-      (behind _ it.steps c.end_of.result c.step_size.result c.deref.result.now head
-          c.end_of.ensures (c.deref.ensures.value ∙ c.in_ok-zeros.ensures) c.step_size.ensures
+      (behind _ it.steps c.end_of-from.result _ head c.end_of-from.ensures
           _ c.add_zeros.ensures.torn).1,
-      unmarked_text _ it.steps c.end_of.result c.step_size.result c.deref.result.now head
-          c.end_of.ensures (c.deref.ensures.value ∙ c.in_ok-zeros.ensures) c.step_size.ensures
+      unmarked_text _ it.steps c.end_of-from.result _ head c.end_of-from.ensures
           _ _ (g.met.D.Disk.seen_may_stay it.disk) c.add_zeros.ensures.crash,
     ))
 
@@ -61,8 +54,7 @@ returns-in_err-add_zeros-clause-crash g c both only out left =
     let is_open = c.if-not-self.false in
     let head = it.headed is_open clean in
     longer_same _ out (only out
-    (unmarked_text _ it.steps c.end_of.result c.step_size.result c.deref.result.now head
-    c.end_of.ensures (c.deref.ensures.value ∙ c.in_ok-zeros.ensures) c.step_size.ensures
+    (unmarked_text _ it.steps c.end_of-from.result _ head c.end_of-from.ensures
     _ _ (g.met.D.Disk.seen_may_stay it.disk) c.add_zeros.ensures.crash out left))
 
 pub returns-in-Err-clause-crash : goal.returns-in-Err-clause-crash
@@ -71,9 +63,13 @@ returns-in-Err-clause-crash g c both only out left =
     let clean = (both_are _ it.was_opened both).0 in
     let is_open = c.if-not-self.false in
     let head = it.headed is_open clean in
-    grown_left _ it.steps c.end_of.result c.step_size.result c.deref.result.now head
-    c.end_of.ensures (c.deref.ensures.value ∙ c.in_ok-zeros.ensures) c.step_size.ensures
-    _ c.add_zeros.ensures.torn c.in_ok-add_zeros.ensures.holds
+    let from = c.end_of-from.result in
+    let till = c.end_of-till.result in
+    let step : till - from ≡ 1048576 =
+    omega (arith, c.end_of-from.ensures, c.end_of-till.ensures) in
+    let less : from < till = omega (arith, step) in
+    grown_left _ it.steps from _ head c.end_of-from.ensures step
+    _ c.add_zeros.ensures.torn (c.in_ok-add_zeros.ensures.holds less)
     _ _ c.in_ok-add_zeros.ensures.durable c.put_marks.ensures.crash out left
 
 pub invariant_of-self-2-clause-headed : goal.invariant_of-self-2-clause-headed
@@ -82,13 +78,16 @@ invariant_of-self-2-clause-headed g c now still =
     let it = c.args.self.now in
     let is_open = c.if-not-self.false in
     let head = it.headed is_open clean in
+    let from = c.end_of-from.result in
+    let till = c.end_of-till.result in
+    let step : till - from ≡ 1048576 =
+    omega (arith, c.end_of-from.ensures, c.end_of-till.ensures) in
+    let less : from < till = omega (arith, step) in
     let done = c.in-Ok.ensures.ok
-    (more_headed _ it.steps c.end_of.result c.step_size.result c.deref.result.now head
-    c.end_of.ensures (c.deref.ensures.value ∙ c.in_ok-zeros.ensures) c.step_size.ensures
-    _ c.add_zeros.ensures.torn c.in_ok-add_zeros.ensures.holds)
-    (more_long _ it.steps c.end_of.result c.step_size.result c.deref.result.now head
-    c.end_of.ensures (c.deref.ensures.value ∙ c.in_ok-zeros.ensures) c.step_size.ensures
-    _ c.add_zeros.ensures.torn c.in_ok-add_zeros.ensures.holds) in
+    (more_headed _ it.steps from _ head c.end_of-from.ensures step
+    _ c.add_zeros.ensures.torn (c.in_ok-add_zeros.ensures.holds less))
+    (more_long _ it.steps from _ head c.end_of-from.ensures step
+    _ c.add_zeros.ensures.torn (c.in_ok-add_zeros.ensures.holds less)) in
     done.0
 
 pub invariant_of-self-2-clause-sized : goal.invariant_of-self-2-clause-sized
@@ -102,18 +101,20 @@ returns-clause-ok g c both =
     let clean = (both_are _ it.was_opened both).0 in
     let is_open = c.if-not-self.false in
     let head = it.headed is_open clean in
+    let from = c.end_of-from.result in
+    let till = c.end_of-till.result in
+    let step : till - from ≡ 1048576 =
+    omega (arith, c.end_of-from.ensures, c.end_of-till.ensures) in
+    let less : from < till = omega (arith, step) in
     let done = c.in-Ok.ensures.ok
-    (more_headed _ it.steps c.end_of.result c.step_size.result c.deref.result.now head
-    c.end_of.ensures (c.deref.ensures.value ∙ c.in_ok-zeros.ensures) c.step_size.ensures
-    _ c.add_zeros.ensures.torn c.in_ok-add_zeros.ensures.holds)
-    (more_long _ it.steps c.end_of.result c.step_size.result c.deref.result.now head
-    c.end_of.ensures (c.deref.ensures.value ∙ c.in_ok-zeros.ensures) c.step_size.ensures
-    _ c.add_zeros.ensures.torn c.in_ok-add_zeros.ensures.holds) in (
-      c.step_size.result,
-      omega (arith, c.step_size.ensures),
-      grown_text _ it.steps c.end_of.result c.step_size.result c.deref.result.now head
-          c.end_of.ensures (c.deref.ensures.value ∙ c.in_ok-zeros.ensures) c.step_size.ensures
-          _ c.add_zeros.ensures.torn c.in_ok-add_zeros.ensures.holds _ done.0 done.1,
+    (more_headed _ it.steps from _ head c.end_of-from.ensures step
+    _ c.add_zeros.ensures.torn (c.in_ok-add_zeros.ensures.holds less))
+    (more_long _ it.steps from _ head c.end_of-from.ensures step
+    _ c.add_zeros.ensures.torn (c.in_ok-add_zeros.ensures.holds less)) in (
+      till - from,
+      omega (arith, step),
+      grown_text _ it.steps from _ head c.end_of-from.ensures step
+          _ c.add_zeros.ensures.torn (c.in_ok-add_zeros.ensures.holds less) _ done.0 done.1,
     )
 
 pub returns-clause-crash : goal.returns-clause-crash
@@ -122,20 +123,24 @@ returns-clause-crash g c both only out left =
     let clean = (both_are _ it.was_opened both).0 in
     let is_open = c.if-not-self.false in
     let head = it.headed is_open clean in
-    grown_left _ it.steps c.end_of.result c.step_size.result c.deref.result.now head
-    c.end_of.ensures (c.deref.ensures.value ∙ c.in_ok-zeros.ensures) c.step_size.ensures
-    _ c.add_zeros.ensures.torn c.in_ok-add_zeros.ensures.holds
+    let from = c.end_of-from.result in
+    let till = c.end_of-till.result in
+    let step : till - from ≡ 1048576 =
+    omega (arith, c.end_of-from.ensures, c.end_of-till.ensures) in
+    let less : from < till = omega (arith, step) in
+    grown_left _ it.steps from _ head c.end_of-from.ensures step
+    _ c.add_zeros.ensures.torn (c.in_ok-add_zeros.ensures.holds less)
     _ _ c.in_ok-add_zeros.ensures.durable c.put_marks.ensures.crash out left
 
 pub invariant_of-self-2-clause-selected : goal.invariant_of-self-2-clause-selected
 invariant_of-self-2-clause-selected g c opened still =
     let clean = sym c.add_zeros.ensures.calm ∙ sym c.put_marks.ensures.calm ∙ still in
     let it = c.args.self.now in
-    let end = c.end_of.ensures in
-    let less = c.if-self-ge-STEPS.false in
-    follows_selector g.C.Selector.IS_STANDBY (17 + 2 * it.steps) 2 _ _ (inr (omega (arith, less)))
+    let end = c.end_of-from.ensures in
+    let room = c.if-self-ge-STEPS.false in
+    follows_selector g.C.Selector.IS_STANDBY (17 + 2 * it.steps) 2 _ _ (inr (omega (arith, room)))
     c.put_marks.ensures.torn
-    (zeros_selector g.C.Selector.IS_STANDBY c.end_of.result _ _ _ _
+    (zeros_selector g.C.Selector.IS_STANDBY c.end_of-from.result _ _ _ _
     (g.met.D.Disk.seen_may_stay it.disk) (inl (omega (arith, end)))
     c.add_zeros.ensures.crash (it.selected opened clean))
 
@@ -156,16 +161,16 @@ returns-clause-calm g c =
 pub invariant_of-self-in-Err : goal.invariant_of-self-in-Err
 invariant_of-self-in-Err g c =
     let it = c.args.self.now in
-    let end = c.end_of.ensures in
-    let less = c.if-self-ge-STEPS.false in
+    let end = c.end_of-from.ensures in
+    let room = c.if-self-ge-STEPS.false in
     record {
       headed = λ now. absurd (false≢true now);
       sized = λ now. absurd (false≢true now);
       selected = λ opened still.
           let clean = sym c.add_zeros.ensures.calm ∙ sym c.put_marks.ensures.calm ∙ still in
           follows_selector g.C.Selector.IS_STANDBY (17 + 2 * it.steps) 2 _ _
-          (inr (omega (arith, less))) c.put_marks.ensures.torn
-          (zeros_selector g.C.Selector.IS_STANDBY c.end_of.result _ _ _ _
+          (inr (omega (arith, room))) c.put_marks.ensures.torn
+          (zeros_selector g.C.Selector.IS_STANDBY c.end_of-from.result _ _ _ _
           (g.met.D.Disk.seen_may_stay it.disk) (inl (omega (arith, end)))
           c.add_zeros.ensures.crash (it.selected opened clean));
     }
