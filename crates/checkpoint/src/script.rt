@@ -1,5 +1,6 @@
-//! The lines that make a store again, in their order: the profile, namespaces, blobs that no row
-//! owns, leases, what has a number by its number, other rows, what leases hold, the next number.
+//! The lines that make a store again, in their order: a number, the profile, namespaces, blobs that
+//! no row owns, leases, what has a number by its number, other rows, what leases hold, the next
+//! number.
 ghost use Rattle.std.specs.Prelude.{IfErr};
 ghost use Rattle.checkpoint.specs.Writing.{Stops};
 
@@ -13,7 +14,7 @@ mod spare_lines;
 mod unowned;
 mod unowned_lines;
 
-use crate::script::line::{Lines, put_plain, put_profile};
+use crate::script::line::{Lines, put_number, put_plain, put_profile};
 use crate::script::numbered::{Numbered, in_number_order};
 use crate::script::numbered_lines::{go_on_at, put_numbered};
 use crate::script::row_lines::{put_containers, put_content, put_holds, put_images, put_leases};
@@ -157,7 +158,8 @@ fn put_held<L: Lines>(lines: &mut L, alloc: Global, leases: &Leases) -> Result<(
     put_holds(lines, alloc, &rows)
 }
 
-// The profile, which is chosen before all else, and the namespaces.
+// A number, by which a checkpoint is known from its first line on; the profile, which is chosen
+// before all requests; and the namespaces.
 fn put_head<L: Lines>(
     lines: &mut L,
     alloc: Global,
@@ -166,6 +168,7 @@ fn put_head<L: Lines>(
 ) -> Result<(), Fault>
     ensures { IfErr result (Stops L.refuses) }
 {
+    put_number(lines, alloc, 1)?;
     if records.profile != 1 {
         put_profile(lines, alloc, records.profile)?;
     }

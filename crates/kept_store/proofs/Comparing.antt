@@ -4,7 +4,7 @@ use Rattle.std.proofs.lemmas.List.{take_at}
 use Rattle.meta_types.specs.Rows.{State, empty_store}
 use Rattle.journal.specs.Text.{journal_text}
 use Rattle.journal.specs.Groups.{HasGroups}
-use Rattle.kept_run.specs.Runs.{lines_of}
+use Rattle.line_loop.specs.JournalLines.{lines_of}
 use Rattle.kept_store.specs.Replays.{store_after, requests_in}
 use Rattle.kept_store.specs.Checkpoints.{Makes}
 use Rattle.kept_store.proofs.Replayed.{requests_in-journal}

@@ -5,14 +5,15 @@ use Rattle.std.specs.Prelude.{not, filter}
 use Rattle.std.specs.Option.{option_map_or}
 use Rattle.meta_types.specs.Rows.{State}
 use Rattle.journal.specs.Text.{is_commit, commit_line, group_sum, group_end, lines_from, journal_lines, journal_text, AreLines, AreGroups}
-use Rattle.journal.specs.Reading.{whole_lines}
+use Rattle.journal.specs.Reading.{Found, whole_lines}
 use Rattle.journal.proofs.TextLines.{HasNoFeed, whole_lines-text, whole_lines-line, whole_lines-none}
 use Rattle.journal.proofs.Groups.{lines_are_whole}
 use Rattle.store_front.specs.NextNumber.{raised}
 use Rattle.kept_store.specs.Numbers.{number_in}
 use Rattle.scripts.specs.Changes.{after_line}
 use Rattle.kept_store.specs.Replays.{after_kept_line, store_after, requests_among, requests_in, LineSteps}
-use Rattle.kept_run.specs.Runs.{Entry, accepted, Trace, lines_of}
+use Rattle.line_loop.specs.JournalLines.{lines_of, lines_found}
+use Rattle.line_loop.specs.Runs.{Entry, accepted, Trace}
 
 pub store_after-append : (state : State) (lines more : List (List ℕ))
     → store_after state (lines ++ more) ≡ store_after (store_after state lines) more
@@ -39,6 +40,10 @@ in_lines before start (group ∷ groups) all =
     ∙ kept_lines group (line ∷ line ∷ rest) all.0
     ∙ ap (λ (ls : List (List ℕ)). group ++ ls)
     (in_lines (group_sum before group) (group_end before start group) groups all.1)
+
+-- the lines of a file without damage are found
+pub undamaged : (f : Found) → f.is_damaged ≡ false → lines_found f ≡ Some (lines_of f.groups)
+undamaged f none = rw none refl
 
 -- the lines of a journal are those of its groups
 pub requests_in-journal : (first : List ℕ) (groups : List (List (List ℕ))) → AreGroups groups

@@ -1,14 +1,15 @@
 -- A next start finds what was answered.
-use Rattle.std.proofs.Common.{◌≡◌, ◌∙◌, ap, refl, sym, subst, ℕ, ◌+◌, List, [], ◌∷◌, ◌++◌, length, Option, append_assoc}
+use Rattle.std.proofs.Common.{◌≡◌, ◌∙◌, ap, refl, sym, subst, ℕ, ◌+◌, List, [], ◌∷◌, ◌++◌, length, true, false, Option, append_assoc}
 use Rattle.meta_types.specs.Rows.{State, empty_store}
-use Rattle.journal.specs.Reading.{Found}
-use Rattle.kept_run.specs.Runs.{Entry, asked, replies, accepted, Trace, lines_of, Kept, Survives, Pauses}
-use Rattle.kept_run.proofs.Taking.{asked-append, trace-append}
-use Rattle.kept_run.proofs.Reading.{Consumes-append}
-use Rattle.kept_run.proofs.Writers.{Appends-append}
-use Rattle.kept_run.proofs.Joining.{first_asked, first_answered}
+use Rattle.line_loop.specs.Runs.{Entry, asked, replies, accepted, Trace, Start, Kept, Survives, Answers}
+use Rattle.line_loop.specs.Reads.{heard, heard_whole}
+use Rattle.line_loop.specs.Laws.{goes_on}
+use Rattle.line_loop.proofs.Taking.{asked-append, trace-append}
+use Rattle.line_loop.proofs.Reading.{Consumes-append}
+use Rattle.line_loop.proofs.Writers.{Appends-append}
+use Rattle.line_loop.proofs.Joining.{asks_both, first_answered}
 use Rattle.kept_store.specs.Replays.{store_after, LineSteps}
-use Rattle.kept_store.specs.Restarts.{FindsAgain}
+use Rattle.kept_store.specs.Restarts.{FindsAgain, KeepsStore}
 use Rattle.kept_store.proofs.Replayed.{store_after-append, runs_replay}
 
 -- where a run was after its first entries
@@ -23,27 +24,24 @@ trace-front from to (entry ∷ front) rest goes =
     let more = trace-front goes.0 to front rest goes.2 in
     record { middle = more.middle; goes = (goes.0, goes.1, more.goes) }
 
-pub finds_again : (first : List ℕ) (old : List (List (List ℕ))) (from : State)
-    (before : Option (List ℕ)) (begun : List ℕ) (unread : Option (List ℕ))
-    (outcomes : List ℕ → Type 0) (contents left : Option (List ℕ))
-    → from ≡ store_after empty_store (lines_of old)
-    → Kept LineSteps first old from before begun unread outcomes contents left
-    → (file : List ℕ) → outcomes file
-    → FindsAgain first from before begun unread contents left file
-finds_again first old from before begun unread outcomes contents left replayed kept file is =
-    let s : Survives first old kept.trace kept.written file = kept.crash file is in
-    let split = trace-front from kept.to s.front s.rest
-    (subst (λ (es : List Entry). Trace LineSteps from es kept.to) s.is kept.goes) in
+finds_again : (start : Start State) (contents left : Option (List ℕ))
+    (finds : Option (List (List ℕ)) → Type 0)
+    → start.service ≡ store_after empty_store start.kept
+    → Kept LineSteps start contents left finds
+    → (found : Option (List (List ℕ))) → finds found → FindsAgain start contents left found
+finds_again start contents left finds replayed kept found may =
+    let s : Survives start.kept kept.trace kept.written found = kept.crash found may in
+    let split = trace-front start.service kept.to s.front s.rest
+    (subst (λ (es : List Entry). Trace LineSteps start.service es kept.to) s.is kept.goes) in
     record {
-      sound = ap (λ (f : Found). f.is_damaged) s.read;
+      lines = start.kept ++ accepted s.front;
+      sound = s.lines;
       front = s.front;
       middle = split.middle;
       goes = split.goes;
-      finds = ap (λ (f : Found). store_after empty_store (lines_of f.groups)) s.read
-          ∙ ap (store_after empty_store) s.lines
-          ∙ store_after-append empty_store (lines_of old) (accepted s.front)
+      finds = store_after-append empty_store start.kept (accepted s.front)
           ∙ ap (λ (t : State). store_after t (accepted s.front)) (sym replayed)
-          ∙ sym (runs_replay from split.middle s.front split.goes);
+          ∙ sym (runs_replay start.service split.middle s.front split.goes);
       read = kept.read;
       consumes = kept.consumes;
       later = asked s.rest ++ kept.later;
@@ -57,35 +55,41 @@ finds_again first old from before begun unread outcomes contents left replayed k
       answers = s.answers;
     }
 
+-- what survives is found again, where the store was the one of its log's lines
+pub keeps_store : (start : Start State) (contents left : Option (List ℕ))
+    (finds : Option (List (List ℕ)) → Type 0) → Kept LineSteps start contents left finds
+    → KeepsStore start contents left finds
+keeps_store start contents left finds kept =
+    (kept, λ replayed found may. finds_again start contents left finds replayed kept found may)
+
 -- what a call stopped with is found behind what it did
-pub finds_both : (first : List ℕ) (old : List (List (List ℕ))) (from mid : State)
-    (before : Option (List ℕ)) (begun : List ℕ) (unread : Option (List ℕ)) (text : List ℕ)
-    (outcomes : List ℕ → Type 0) (last : List ℕ) (end : ℕ) (contents : Option (List ℕ))
-    (piece : List ℕ) (left : Option (List ℕ))
-    → (one : Pauses LineSteps first old from mid before begun unread text outcomes last end contents
-    piece left)
-    → (first2 : List ℕ) (contents2 left2 : Option (List ℕ)) (file : List ℕ)
-    → FindsAgain first2 mid contents piece left contents2 left2 file
-    → FindsAgain first2 from before begun unread contents2 left2 file
-finds_both first old from mid before begun unread text outcomes last end contents piece left one
-    first2 contents2 left2 file other =
-    let rests = one.rests in record {
-      sound = other.sound;
-      front = rests.trace ++ other.front;
-      middle = other.middle;
-      goes = trace-append LineSteps from mid other.middle rests.trace other.front rests.goes
-          other.goes;
-      finds = other.finds;
-      read = rests.read ++ other.read;
-      consumes = Consumes-append unread left left2 rests.read other.read rests.consumes
-          other.consumes;
-      later = other.later;
-      asks = first_asked LineSteps first old from mid before begun unread text outcomes last end
-          contents piece left one other.read other.front other.later other.asks;
-      written = replies rests.trace ++ other.written;
-      wrote = Appends-append before contents contents2 (replies rests.trace) other.written
-          rests.wrote other.wrote;
-      bytes = length (replies rests.trace) + other.bytes;
-      answers = first_answered LineSteps first old from mid before begun unread text outcomes last
-          end contents piece left one other.front other.written other.bytes other.answers;
-    }
+pub finds_both : (start : Start State) (mid : State) (contents : Option (List ℕ))
+    (piece : List ℕ) (left : Option (List ℕ)) (holds : List (List ℕ) → List (List ℕ) → Type 0)
+    → (one : Answers LineSteps start false mid contents piece left holds)
+    → (contents2 left2 : Option (List ℕ)) (found : Option (List (List ℕ)))
+    → FindsAgain (goes_on start mid contents piece left one.trace) contents2 left2 found
+    → FindsAgain start contents2 left2 found
+finds_both start mid contents piece left holds one contents2 left2 found other = record {
+  lines = other.lines;
+  sound = other.sound;
+  front = one.trace ++ other.front;
+  middle = other.middle;
+  goes = trace-append LineSteps start.service mid other.middle one.trace other.front one.goes
+      other.goes;
+  finds = other.finds;
+  read = one.read ++ other.read;
+  consumes = Consumes-append start.unread left left2 one.read other.read one.consumes
+      other.consumes;
+  later = other.later;
+  asks = sym (asks_both LineSteps start mid contents piece left holds one true other.read)
+      ∙ ap (λ (ls : List (List ℕ)). heard_whole (start.begun ++ one.read) ++ ls) other.asks
+      ∙ ap (λ (ls : List (List ℕ)). ls ++ (asked other.front ++ other.later)) (sym one.asks)
+      ∙ sym (append_assoc (asked one.trace) (asked other.front) other.later)
+      ∙ ap (λ (ls : List (List ℕ)). ls ++ other.later) (sym (asked-append one.trace other.front));
+  written = replies one.trace ++ other.written;
+  wrote = Appends-append start.held contents contents2 (replies one.trace) other.written
+      one.wrote other.wrote;
+  bytes = length (replies one.trace) + other.bytes;
+  answers = first_answered LineSteps start mid contents piece left holds one other.front
+      other.written other.bytes other.answers;
+}

@@ -19,7 +19,8 @@ read_none : (rest : List ℕ) → read (codes "number " ++ rest) ≡ None
 unfolding serde_json_on_literals
 read_none rest = refl
 
-none_of : (b : Bool) (found : Option Command) → found ≡ None → (if b then found else None) ≡ None
+pub none_of : (b : Bool) (found : Option Command) → found ≡ None
+    → (if b then found else None) ≡ None
 none_of true found none = none
 none_of false found none = refl
 

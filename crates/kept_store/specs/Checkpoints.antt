@@ -4,7 +4,7 @@ use Rattle.meta_types.specs.Rows.{State, empty_store}
 use Rattle.journal.specs.Text.{lines_text, AreLines}
 use Rattle.journal.specs.Crashes.{Only}
 use Rattle.journal.specs.Groups.{HasGroups}
-use Rattle.kept_run.specs.Runs.{lines_of}
+use Rattle.line_loop.specs.JournalLines.{lines_of}
 use Rattle.kept_store.specs.Replays.{store_after}
 
 -- the file is zeros alone, and they are on the disk

@@ -6,6 +6,9 @@ use Rattle.journal.specs.Text.{is_commit}
 use Rattle.journal.specs.Reading.{whole_lines}
 use Rattle.scripts.specs.Changes.{after_line}
 use Rattle.scripts.specs.LineSteps.{Supplied, line_step, IsTrueAt}
+use Rattle.scripts.specs.Lines.{with_line_feed}
+use Rattle.scripts.specs.ReplyTexts.{reply_text_bytes}
+use Rattle.scripts.specs.declared.reply_text.ReplyText.{ReplyText}
 use Rattle.store_front.specs.NextNumber.{raised}
 use Rattle.kept_store.specs.Numbers.{number_in}
 
@@ -36,3 +39,7 @@ LineSteps state line reply changes new =
     × IsTrueAt state supplied line)
     × (changes ≡ true → (number_in line ≡ None) × (new ≡ after_line state line))
     × (changes ≡ false → new ≡ state)
+
+-- what is written for a reply
+abbrev pub said_bytes : ReplyText → List ℕ
+said_bytes said = with_line_feed (reply_text_bytes said)

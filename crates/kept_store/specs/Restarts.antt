@@ -1,27 +1,34 @@
 -- What a next start finds.
-use Rattle.std.specs.Prelude.{◌≡◌, ℕ, List, ◌++◌, take, false, Option}
+use Rattle.std.specs.Prelude.{◌≡◌, ℕ, List, ◌++◌, take, Option, Some}
 use Rattle.std.specs.Io.KnownBytes.{Appends, Consumes}
 use Rattle.meta_types.specs.Rows.{State, empty_store}
-use Rattle.journal.specs.Reading.{found}
-use Rattle.kept_run.specs.Reads.{heard}
-use Rattle.kept_run.specs.Runs.{Entry, asked, replies, Trace, lines_of}
+use Rattle.line_loop.specs.Reads.{heard}
+use Rattle.line_loop.specs.Runs.{Entry, asked, replies, Trace, Start, Kept}
 use Rattle.kept_store.specs.Replays.{store_after, LineSteps}
 
--- The file isn't damaged, and its lines give the store after the first lines of what was begun and
+-- Lines are found, and no damage. They give the store after the first lines of what was begun and
 -- read, in order. Whatever was written are replies to these.
-pub record FindsAgain (first : List ℕ) (from : State)
-    (before : Option (List ℕ)) (begun : List ℕ) (unread contents left : Option (List ℕ))
-    (file : List ℕ) : Type 0 where
-  pub sound : (found first file).is_damaged ≡ false
+pub record FindsAgain (start : Start State) (contents left : Option (List ℕ))
+    (found : Option (List (List ℕ))) : Type 0 where
+  pub lines : List (List ℕ)
+  pub sound : found ≡ Some lines
   pub front : List Entry
   pub middle : State
-  pub goes : Trace LineSteps from front middle
-  pub finds : store_after empty_store (lines_of (found first file).groups) ≡ middle
+  pub goes : Trace LineSteps start.service front middle
+  pub finds : store_after empty_store lines ≡ middle
   pub read : List ℕ
-  pub consumes : Consumes unread left read
+  pub consumes : Consumes start.unread left read
   pub later : List (List ℕ)
-  pub asks : heard (begun ++ read) ≡ asked front ++ later
+  pub asks : heard (start.begun ++ read) ≡ asked front ++ later
   pub written : List ℕ
-  pub wrote : Appends before contents written
+  pub wrote : Appends start.held contents written
   pub bytes : ℕ
   pub answers : written ≡ take bytes (replies front)
+
+-- The lines of the log survive, and those logged among the first lines of the run; and where the
+-- store was the one of its log's lines, each next start finds it again.
+abbrev pub KeepsStore : Start State → Option (List ℕ) → Option (List ℕ)
+    → (Option (List (List ℕ)) → Type 0) → Type 0
+KeepsStore start contents left finds = Kept LineSteps start contents left finds
+    × (start.service ≡ store_after empty_store start.kept → (found : Option (List (List ℕ)))
+    → finds found → FindsAgain start contents left found)

@@ -1,7 +1,8 @@
 //! What holds of journals and stores.
 ghost use Rattle.kept_store.specs.Laws.{JournalsReplay, RestartsJoin, RunsReplay, NumbersAskNothing};
+ghost use Rattle.kept_store.specs.Loads.{ScriptsLoad, GroupsLoad, EndsAskNothing};
 
-use journal::Log;
+use line_loop::LineLog;
 
 /// A journal's lines are those of its groups, so a replay of one is a replay of the other.
 pub fn journals_replay()
@@ -19,6 +20,14 @@ pub fn numbers_ask_nothing()
 {}
 
 /// After a run that stopped and went on, a start finds the same as after one run that didn't stop.
-pub fn restarts_join<D: Log>()
-    ensures joined { RestartsJoin D.text D.may_leave }
+pub fn restarts_join<L: LineLog>()
+    ensures joined { RestartsJoin L.holds }
+{}
+
+/// A script of a journal, and the groups of a backup, load as the journal's lines. A line that ends a
+/// checkpoint is no request.
+pub fn journals_load()
+    ensures scripts { ScriptsLoad }
+    ensures groups { GroupsLoad }
+    ensures ends { EndsAskNothing }
 {}

@@ -24,8 +24,8 @@ fn back(line: &[u8]) -> &[u8]
     &line[line.len().min(7)..]
 }
 
-// Whether a line begins by the mark.
-fn is_marked(line: &[u8]) -> bool
+/// Whether a line begins by the mark.
+pub(crate) fn is_marked(line: &[u8]) -> bool
     ensures { result ≡ is_marked line.now }
 {
     front(line) == MARK
@@ -81,8 +81,8 @@ fn value(digits: &[u8]) -> Option<u64>
     Some(number)
 }
 
-// The number that a text writes.
-fn number_of(text: &[u8]) -> Option<u64>
+/// The number that a text writes.
+pub(crate) fn number_of(text: &[u8]) -> Option<u64>
     ensures { result ≡ number_of text.now }
 {
     if !are_digits(text) {

@@ -4,7 +4,7 @@ ghost use Rattle.meta_types.specs.Rows.{empty_store};
 ghost use Rattle.journal.specs.Text.{journal_text, AreGroups};
 ghost use Rattle.journal.specs.Reading.{found};
 ghost use Rattle.journal.specs.Groups.{HasGroups};
-ghost use Rattle.kept_run.specs.Runs.{lines_of};
+ghost use Rattle.line_loop.specs.JournalLines.{lines_of};
 ghost use Rattle.kept_store.specs.Replays.{store_after};
 ghost use Rattle.kept_store.specs.Starts.{Starts};
 
@@ -124,8 +124,8 @@ pub fn open<L: Ledger, D: Log, T: Threads + Wait + Sync>(
     // After a restart, what is read is what is on the disk.
     requires rests { D.rests log.old }
     ensures ok { IfOk result (λ opened. IsTrue (D.is_clean log.new)
-        → Starts first.now (D.text log.old) (D.text log.new) (D.may_leave log.new)
-        opened.sound.last opened.sound.end opened.store) }
+        → Starts first.now (D.text log.old) (D.is_clean log.new) (D.text log.new)
+        (D.may_leave log.new) opened.sound.last opened.sound.end opened.store) }
     ensures lines { IfOk result (λ opened. IsTrue (D.is_clean log.new)
         → opened.lines ≡ length (lines_of (found first.now (D.text log.old)).groups)) }
 

@@ -70,8 +70,8 @@ fn redo<L: Ledger, T: Threads + Wait + Sync>(
     Err(StartError::Refused)
 }
 
-// Does a line of a journal again, where it is no commit line.
-fn replay_line<L: Ledger, T: Threads + Wait + Sync>(
+/// Does a line of a journal again, where it is no commit line.
+pub(crate) fn replay_line<L: Ledger, T: Threads + Wait + Sync>(
     store: &mut KeptStore<L>,
     rt: &T,
     line: &[u8],

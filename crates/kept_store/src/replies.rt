@@ -1,159 +1,83 @@
-//! Puts replies where they wait for their line to be on the disk.
-ghost use Rattle.std.specs.Prelude.{◌≡◌, ◌++◌, ◌∷◌, [], ℕ, List, false, OnOk, None};
-ghost use Rattle.meta_types.specs.Faults.{Refuses};
-ghost use Rattle.meta_types.specs.Steps.{reported};
-ghost use Rattle.reply_line.specs.Replies.{answer_text};
+//! The replies of a store.
+ghost use Rattle.std.specs.Prelude.{◌≡◌, ℕ, List, false, OnOk, OnErr, IfErr};
+ghost use Rattle.std.specs.Io.KnownBytes.{Appends};
+ghost use Rattle.meta_types.specs.Steps.{refused};
 ghost use Rattle.meta_types.specs.Rows.{State};
-ghost use Rattle.meta_types.specs.Shown.{shows_rows};
-ghost use Rattle.reply_line.specs.Shown.{shows_text, objects_text};
+ghost use Rattle.reply_line.specs.Blocks.{WritesFront};
+ghost use Rattle.reply_line.specs.Replies.{answer_text};
+ghost use Rattle.scripts.specs.Exchanging.{IsLateFault};
 ghost use Rattle.scripts.specs.Lines.{with_line_feed};
 ghost use Rattle.scripts.specs.ReplyTexts.{reply_text_bytes, reply_bytes};
+ghost use Rattle.line_loop.specs.Runs.{EndsAnswering};
 ghost use Rattle.kept_store.specs.Replays.{LineSteps};
 
-use gc_report::{Objects, Report};
-use meta_types::{Fault, ShownRow};
-use reply_line::{refusal_text, write_objects, write_report, write_rows};
+use line_loop::RunError;
+use meta_types::Fault;
+use reply_line::{refusal_text, write_bytes, write_objects, write_report, write_rows};
 use scripts::ReplyText;
 use std::alloc::Global;
+use std::borrow::CowStr;
+use std::io::Write;
 
-/// At least the bytes of each reply that has one text: {"ok":true}, and each refusal.
-const SHORT_REPLY: usize = 64;
-
-/// Puts a text and a line feed behind what waits.
-pub(crate) fn put_line(out: &mut Vec<u8>, text: &[u8]) -> Result<(), Fault>
-    ensures fault { Refuses result None }
-    ensures ok { OnOk result (out.new.items ≡ out.old.items ++ (text.now ++ 10 ∷ [])) }
+/// What is replied to a line that is refused.
+pub(crate) fn refusal(fault: Fault) -> ReplyText
+    ensures { reply_text_bytes result ≡ answer_text (refused fault) }
 {
-    out.extend_from_slice(text)?;
-    out.push(b'\n')?;
-    Ok(())
+    ReplyText::Text(CowStr::Borrowed(refusal_text(fault)))
 }
 
-// Puts a report and a line feed there.
-fn put_report(
-    out: &mut Vec<u8>,
-    alloc: Global,
-    block: &mut Vec<u8>,
-    report: &Report,
-) -> Result<(), Fault>
-    ensures fault { Refuses result None }
-    ensures ok { OnOk result
-        (out.new.items ≡ out.old.items ++ (answer_text (reported report.now) ++ 10 ∷ [])) }
+/// The reply to a line that isn't done, for memory or for room: none to an empty one.
+pub(crate) fn refuse_line(line: &[u8]) -> Option<ReplyText>
+    ensures { (state : State) → LineSteps state line.now (reply_bytes result) false state }
 {
-    match write_report(out, alloc, block, report) {
-        Ok(()) => Ok(()),
-        Err(_) => Err(Fault::OutOfMemory),
+    if line.is_empty() {
+        return None;
     }
+    Some(refusal(Fault::OutOfMemory))
 }
 
-// Puts the rows of a listing and a line feed there.
-fn put_rows(
-    out: &mut Vec<u8>,
-    alloc: Global,
-    block: &mut Vec<u8>,
-    rows: &[ShownRow],
-) -> Result<(), Fault>
-    ensures fault { Refuses result None }
-    ensures ok { OnOk result (out.new.items
-        ≡ out.old.items ++ (shows_text (shows_rows rows.now) ++ 10 ∷ [])) }
+// Writes a text and a line feed.
+fn write_line<W: Write>(writer: &mut W, text: &str) -> Result<(), Fault>
+    ensures ok { OnOk result (Appends (W.contents writer.old) (W.contents writer.new)
+        (with_line_feed text.now)) }
+    ensures err { OnErr result ((rest : List ℕ)
+        × WritesFront (W.contents writer.old) (W.contents writer.new) rest
+        (with_line_feed text.now)) }
+    ensures fault { IfErr result (λ fault. fault ≡ Fault.WriteFailed) }
 {
-    match write_rows(out, alloc, block, rows) {
-        Ok(()) => Ok(()),
-        Err(_) => Err(Fault::OutOfMemory),
-    }
+    write_bytes(writer, text.as_bytes())?;
+    write_bytes(writer, b"\n")
 }
 
-// Puts all objects of the backend and a line feed there.
-fn put_objects(
-    out: &mut Vec<u8>,
-    alloc: Global,
-    block: &mut Vec<u8>,
-    objects: &Objects,
-) -> Result<(), Fault>
-    ensures fault { Refuses result None }
-    ensures ok { OnOk result
-        (out.new.items ≡ out.old.items ++ (objects_text objects.now ++ 10 ∷ [])) }
-{
-    match write_objects(out, alloc, block, objects) {
-        Ok(()) => Ok(()),
-        Err(_) => Err(Fault::OutOfMemory),
-    }
-}
-
-// Puts what is said there.
-fn put_said(
-    out: &mut Vec<u8>,
+/// Writes what is said for a line, and a line feed. The text of a report, of rows or of objects is
+/// made in the block.
+pub(crate) fn write_said<W: Write>(
+    writer: &mut W,
     alloc: Global,
     block: &mut Vec<u8>,
     said: &ReplyText,
 ) -> Result<(), Fault>
-    ensures fault { Refuses result None }
-    ensures ok { OnOk result
-        (out.new.items ≡ out.old.items ++ with_line_feed (reply_text_bytes said.now)) }
+    ensures ok { OnOk result (Appends (W.contents writer.old) (W.contents writer.new)
+        (with_line_feed (reply_text_bytes said.now))) }
+    ensures err { OnErr result ((rest : List ℕ)
+        × WritesFront (W.contents writer.old) (W.contents writer.new) rest
+        (with_line_feed (reply_text_bytes said.now))) }
+    ensures fault { IfErr result IsLateFault }
 {
     match said {
-        ReplyText::Text(text) => put_line(out, text.as_str().as_bytes()),
-        ReplyText::Report(report) => put_report(out, alloc, block, report.as_ref()),
-        ReplyText::Rows(rows) => put_rows(out, alloc, block, rows),
-        ReplyText::Objects(objects) => put_objects(out, alloc, block, objects.as_ref()),
+        ReplyText::Text(text) => write_line(writer, text.as_str()),
+        ReplyText::Report(report) => write_report(writer, alloc, block, report.as_ref()),
+        ReplyText::Rows(rows) => write_rows(writer, alloc, block, rows),
+        ReplyText::Objects(objects) => write_objects(writer, alloc, block, objects.as_ref()),
     }
 }
 
-/// Puts the reply to a line there, where it has one.
-pub(crate) fn put_reply(
-    out: &mut Vec<u8>,
-    alloc: Global,
-    block: &mut Vec<u8>,
-    reply: &Option<ReplyText>,
-) -> Result<(), Fault>
-    ensures fault { Refuses result None }
-    ensures ok { OnOk result (out.new.items ≡ out.old.items ++ reply_bytes reply.now) }
+/// How a run ends that can't write a reply.
+pub(crate) fn write_error(fault: Fault) -> RunError
+    ensures { EndsAnswering false result }
 {
-    match reply {
-        None => Ok(()),
-        Some(said) => put_said(out, alloc, block, said),
+    match fault {
+        Fault::WriteFailed => RunError::WriteFailed,
+        _ => RunError::OutOfMemory,
     }
-}
-
-/// Takes room for a short reply.
-pub(crate) fn take_room(out: &mut Vec<u8>) -> Result<(), Fault>
-    ensures fault { Refuses result None }
-    ensures same { out.new.items ≡ out.old.items }
-{
-    out.reserve(SHORT_REPLY)?;
-    Ok(())
-}
-
-// Takes room for a reply that is a text. A report takes its own while it is written.
-fn text_room(out: &mut Vec<u8>, reply: &Option<ReplyText>) -> bool
-    ensures { out.new.items ≡ out.old.items }
-{
-    match reply {
-        Some(ReplyText::Text(text)) => out.reserve(text.as_str().len().saturating_add(1)).is_ok(),
-        _ => true,
-    }
-}
-
-/// Takes room for a reply whose line changed nothing. Any other line is done, so none is asked for.
-pub(crate) fn has_room(out: &mut Vec<u8>, reply: &Option<ReplyText>, changes: bool) -> bool
-    ensures same { out.new.items ≡ out.old.items }
-    ensures done { result ≡ false → changes ≡ false }
-{
-    if changes {
-        return true;
-    }
-    text_room(out, reply)
-}
-
-/// Puts there that memory refuses a line, where it isn't empty.
-pub(crate) fn put_refusal(out: &mut Vec<u8>, line: &[u8]) -> Result<(), Fault>
-    ensures fault { Refuses result None }
-    ensures ok { OnOk result ((state : State) → (reply : List ℕ)
-        × LineSteps state line.now reply false state × (out.new.items ≡ out.old.items ++ reply)) }
-{
-    if line.is_empty() {
-        return Ok(());
-    }
-    put_line(out, refusal_text(Fault::OutOfMemory).as_bytes())?;
-    Ok(())
 }

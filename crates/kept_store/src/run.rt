@@ -1,90 +1,49 @@
-//! A run of a store with a journal.
-ghost use Rattle.std.specs.Prelude.{◌≡◌, ◌<◌, [], List, ℕ, length, IsTrue, IfErr, IfOk, OnOk, IsErrOf};
+//! A run of a store over a log.
+ghost use Rattle.std.specs.Prelude.{◌≡◌, ◌<◌, [], List, ℕ, length, IsTrue, IfErr, IfOk, IfSome, IsErrOf, OnOk};
 ghost use Rattle.std.specs.Io.KnownBytes.{Consumes, IsAtEnd};
-ghost use Rattle.journal.specs.Groups.{HasGroups};
-ghost use Rattle.kept_run.specs.Reads.{heard};
-ghost use Rattle.meta_types.specs.Rows.{empty_store};
-ghost use Rattle.kept_run.specs.Runs.{Kept, Rests, Pauses, lines_of};
-ghost use Rattle.kept_store.specs.Replays.{LineSteps, store_after};
-ghost use Rattle.kept_store.specs.Restarts.{FindsAgain};
+ghost use Rattle.line_loop.specs.Runs.{EndsRun, stopped_at_end, from, Answers};
+ghost use Rattle.kept_store.specs.Replays.{LineSteps};
+ghost use Rattle.kept_store.specs.Restarts.{KeepsStore};
 
 use crate::store::KeptStore;
-use journal::{Journal, Log};
-use kept_run::{Input, RunError, Stop, run_kept};
+use line_loop::{LineLog, RunBuffers, RunError, Stop, run_lines};
 use std::io::{Read, Write};
 use std::sync::Wait;
 use std::sync::ledger::Ledger;
 use std::thread::Threads;
 
-/// The headline: whatever is read and whatever fails, at each moment a crash leaves a file that is
-/// read as the lines that were there, and those logged among the first lines of what was read, in
-/// order; and whatever was written are replies to these. Each reply is that of `line_step`, and a
-/// line that isn't logged changes nothing.
-pub fn run_store<L: Ledger, T: Threads + Wait + Sync, D: Log + Drop, R: Read, W: Write>(
+/// The headline: whatever is read and whatever fails, at each moment a crash leaves a log in which a
+/// start finds the lines that were there, and those logged among the first lines of what was read,
+/// in order; and whatever was written are replies to these. Each reply is that of `line_step`, and a
+/// line that isn't logged changes nothing. Where the log has no room, questions are still answered.
+pub fn run_store<L: Ledger, T: Threads + Wait + Sync, G: LineLog, R: Read, W: Write>(
     rt: &T,
     store: &mut KeptStore<L>,
-    journal: &mut Journal<D>,
-    input: &mut Input<R>,
+    log: &mut G,
+    buffers: &mut RunBuffers,
+    reader: &mut R,
     writer: &mut W,
 ) -> Result<Stop, RunError>
-    requires nothing_waits { journal.old.pending.items ≡ [] }
-    ensures end { IfOk result (λ stop. stop ≡ Stop.End
-        → IsAtEnd input.new.unread × (input.new.piece ≡ [])) }
-    ensures ok { IfOk result (λ stop. stop ≡ Stop.End → (first : List ℕ)
-        (groups : List (List (List ℕ))) → IsTrue (D.is_clean journal.old.log)
-        → HasGroups (D.text journal.old.log)
-        (D.may_leave journal.old.log) journal.old.last journal.old.end first groups
-        → Rests LineSteps heard first groups store.old store.new (W.contents writer.old)
-        input.old.piece input.old.unread (D.text journal.new.log) (D.may_leave journal.new.log)
-        journal.new.last journal.new.end (W.contents writer.new) input.new.unread) }
-
-    // A line that isn't whole when the run stops isn't answered yet.
-    ensures due { IfOk result (λ stop. stop ≡ Stop.Due → (first : List ℕ)
-        (groups : List (List (List ℕ))) → IsTrue (D.is_clean journal.old.log)
-        → HasGroups (D.text journal.old.log)
-        (D.may_leave journal.old.log) journal.old.last journal.old.end first groups
-        → Pauses LineSteps first groups store.old store.new (W.contents writer.old)
-        input.old.piece input.old.unread (D.text journal.new.log) (D.may_leave journal.new.log)
-        journal.new.last journal.new.end (W.contents writer.new) input.new.piece
-        input.new.unread) }
-
-    // So it is when the reader fails.
-    ensures read_failed { IsErrOf result RunError.ReadFailed → (first : List ℕ)
-        (groups : List (List (List ℕ))) → IsTrue (D.is_clean journal.old.log)
-        → HasGroups (D.text journal.old.log)
-        (D.may_leave journal.old.log) journal.old.last journal.old.end first groups
-        → Pauses LineSteps first groups store.old store.new (W.contents writer.old)
-        input.old.piece input.old.unread (D.text journal.new.log) (D.may_leave journal.new.log)
-        journal.new.last journal.new.end (W.contents writer.new) input.new.piece
-        input.new.unread }
-    ensures kept { (first : List ℕ) (groups : List (List (List ℕ)))
-        → IsTrue (D.is_clean journal.old.log)
-        → HasGroups (D.text journal.old.log)
-        (D.may_leave journal.old.log) journal.old.last journal.old.end first groups
-        → Kept LineSteps first groups store.old (W.contents writer.old) input.old.piece
-        input.old.unread (D.may_leave journal.new.log) (W.contents writer.new) input.new.unread }
-
-    // The same in the words of the next start, where the store was the one of its journal.
-    ensures finds { (first : List ℕ) (groups : List (List (List ℕ)))
-        → IsTrue (D.is_clean journal.old.log)
-        → HasGroups (D.text journal.old.log)
-        (D.may_leave journal.old.log) journal.old.last journal.old.end first groups
-        → store.old ≡ store_after empty_store (lines_of groups)
-        → (file : List ℕ) → D.may_leave journal.new.log file
-        → FindsAgain first store.old (W.contents writer.old) input.old.piece input.old.unread
-        (W.contents writer.new) input.new.unread file }
-
-    // The run may be called again where it stopped, and where the reader failed. Before each stop
-    // some bytes were read.
-    ensures gets_on { IfOk result (λ stop. stop ≡ Stop.Due → (read : List ℕ)
-        × Consumes input.old.unread input.new.unread read × (0 < length read)) }
-    ensures settled { OnOk result (journal.new.pending.items ≡ []) }
-    ensures unread { IsErrOf result RunError.ReadFailed → journal.new.pending.items ≡ [] }
-    ensures calm { D.is_clean journal.new.log ≡ D.is_clean journal.old.log }
+    ensures end { IfOk result (λ stop. stop ≡ Stop.End → IsAtEnd (R.remaining reader.new)
+        × (buffers.new ≡ [])) }
+    ensures answers { IfSome (stopped_at_end result) (λ at_end. (kept : List (List ℕ))
+        → G.holds log.old kept []
+        → Answers LineSteps (from store.old kept (W.contents writer.old) buffers.old
+        (R.remaining reader.old)) at_end store.new (W.contents writer.new) buffers.new
+        (R.remaining reader.new) (G.holds log.new)) }
+    ensures kept { (kept : List (List ℕ)) → G.holds log.old kept []
+        → KeepsStore (from store.old kept (W.contents writer.old) buffers.old
+        (R.remaining reader.old)) (W.contents writer.new) (R.remaining reader.new)
+        (G.may_find log.new) }
+    ensures gets_on { IfOk result (λ stop. stop ≡ Stop.CheckpointDue → IsTrue G.keeps
+        × (read : List ℕ) × Consumes (R.remaining reader.old) (R.remaining reader.new) read
+        × (0 < length read)) }
+    ensures settled { OnOk result (G.settled log.old → G.settled log.new) }
+    ensures unread { IsErrOf result RunError.ReadFailed → G.settled log.old → G.settled log.new }
+    ensures error { IfErr result (EndsRun G.keeps) }
 
     // After another failure what was read of a block may be lost, and the line with it.
-    ensures lost { IfErr result (λ error. (error ≡ RunError.ReadFailed → ⊥)
-        → input.new.piece ≡ []) }
+    ensures lost { IfErr result (λ error. (error ≡ RunError.ReadFailed → ⊥) → buffers.new ≡ []) }
 {
-    run_kept(rt, store, journal, input, writer)
+    run_lines(rt, store, log, buffers, reader, writer)
 }

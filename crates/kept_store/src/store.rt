@@ -1,4 +1,4 @@
-//! A store that answers lines, to be run with a journal.
+//! A store that answers lines, to be run over a log.
 ghost use Rattle.std.specs.Prelude.{◌≡◌, ◌≤◌, ◌++◌, ℕ, List, length, true, IfOk, OnOk, Option, None};
 ghost use Rattle.meta_types.specs.Faults.{Refuses};
 ghost use Rattle.meta_types.specs.Rows.{empty_store};
@@ -6,17 +6,23 @@ ghost use Rattle.scripts.specs.Changes.{is_report, after_line, Changes};
 ghost use Rattle.scripts.specs.LineSteps.{Supplied, line_step, IsTrueAt};
 ghost use Rattle.scripts.specs.ReplyTexts.{reply_bytes};
 ghost use Rattle.store_front.specs.NextNumber.{raised};
+ghost use Rattle.line_loop.specs.Modes.{MayChange};
+ghost use Rattle.kept_store.specs.Doing.{adds};
 ghost use Rattle.kept_store.specs.Replays.{LineSteps};
 
-use crate::due::is_due;
-use crate::replies::{has_room, put_line, put_refusal, put_reply, take_room};
+mod doing;
+
+use crate::due::rows::rows_logged;
+use crate::due::work_of;
+use crate::replies::{refusal, refuse_line, write_error, write_said};
+use crate::store::doing::{lets_line, logs};
 use back_model::{MemBackend, MemBlobs, MemIngests};
-use kept_run::Service;
+use line_loop::{Answered, Mode, RunError, Service};
 use meta_types::{Fault, Workers};
-use reply_line::refusal_text;
 use request_core::State;
-use scripts::{Answered, Fresh, LineMemory, ReplyText, execute_line};
+use scripts::{Answered as Executed, Fresh, LineMemory, ReplyText, execute_line};
 use std::alloc::{AllocError, Global};
+use std::io::Write;
 use std::marker::Model;
 use std::sync::Wait;
 use std::sync::ledger::Ledger;
@@ -27,8 +33,8 @@ use table_seed::Seed;
 /// The longest line that can be a request, in bytes without its line feed.
 pub(crate) const LINE_LIMIT: usize = 65536;
 
-/// A store in memory with its one session, and how many workers collect. A run is due by the size of
-/// the last checkpoint. Its tables hash by the seed.
+/// A store in memory with its one session, how many workers collect, and how many rows its logged
+/// lines looked at since the last checkpoint. Its tables hash by the seed.
 #[derive(Drop)]
 pub struct KeptStore<L: Ledger> {
     alloc: Global,
@@ -36,8 +42,7 @@ pub struct KeptStore<L: Ledger> {
     session: Session<L>,
     workers: Workers,
     memory: LineMemory,
-    checkpoint: Option<usize>,
-    pause: Option<usize>,
+    rows: u128,
     pub(crate) seed: Seed,
 }
 
@@ -72,8 +77,7 @@ impl<L: Ledger> KeptStore<L> {
             session,
             workers: Workers::ONE,
             memory,
-            checkpoint: None,
-            pause: None,
+            rows: 0,
             seed,
         })
     }
@@ -85,27 +89,26 @@ impl<L: Ledger> KeptStore<L> {
         self.workers = workers;
     }
 
-    /// Whether a checkpoint is due where the journal goes so far.
-    pub fn wants_checkpoint(&self, end: usize) -> bool {
-        match self.checkpoint {
-            Some(bytes) => is_due(end, bytes),
-            None => false,
-        }
-    }
-
-    /// From now on a run stops where its journal goes so far, as where a checkpoint is due.
-    pub fn set_pause(&mut self, end: usize)
+    /// From now on the only rows that make a checkpoint due are those that lines look at from here on:
+    /// one was taken, or tried.
+    pub fn count_rows_anew(&mut self)
         ensures { self.new ≡ self.old }
     {
-        self.pause = Some(end);
+        self.rows = 0;
     }
 
-    /// From now on a run is due for a checkpoint, by the size of the last one in bytes, or 0. Without
-    /// this call it never is.
-    pub fn set_checkpoint(&mut self, bytes: usize)
+    // Counts the rows that a line looked at, if it is logged.
+    fn count_rows(&mut self, executed: &Executed)
         ensures { self.new ≡ self.old }
     {
-        self.checkpoint = Some(bytes);
+        self.rows = self.rows.saturating_add(rows_logged(executed));
+    }
+
+    /// From now on lines that add are refused with 7: the next start would find too little memory.
+    pub fn refuse_additions(&mut self)
+        ensures { self.new ≡ self.old }
+    {
+        self.memory.refuse_additions(true);
     }
 
     /// From now on the next backend number is at least this one.
@@ -123,7 +126,7 @@ impl<L: Ledger> KeptStore<L> {
     }
 
     // The answer to a line that isn't too long, as `execute_line` gives it.
-    fn execute<T: Threads + Wait + Sync>(&mut self, rt: &T, line: &[u8]) -> Result<Answered, Fault>
+    fn execute<T: Threads + Wait + Sync>(&mut self, rt: &T, line: &[u8]) -> Result<Executed, Fault>
         requires { length line.now ≤ 65536 }
         ensures fault { Refuses result None }
         ensures ok { IfOk result (λ answered. (supplied : Option Supplied)
@@ -151,7 +154,7 @@ impl<L: Ledger> KeptStore<L> {
         &mut self,
         rt: &T,
         line: &[u8],
-    ) -> Result<Answered, Fault>
+    ) -> Result<Executed, Fault>
         requires { length line.now ≤ 65536 }
         ensures fault { Refuses result None }
         ensures ok { IfOk result (λ answered.
@@ -159,83 +162,97 @@ impl<L: Ledger> KeptStore<L> {
         ensures report { IfOk result (λ answered. is_report answered.reply ≡ true
             → self.new ≡ after_line self.old line.now) }
     {
-        let answered = self.execute(rt, line)?;
-        Ok(answered)
+        let executed = self.execute(rt, line)?;
+        self.count_rows(&executed);
+        Ok(executed)
     }
 
-    // Puts a reply behind what waits.
-    fn put(&mut self, out: &mut Vec<u8>, reply: &Option<ReplyText>) -> Result<(), Fault>
-        ensures same { self.new ≡ self.old }
-        ensures fault { Refuses result None }
-        ensures ok { OnOk result (out.new.items ≡ out.old.items ++ reply_bytes reply.now) }
-    {
-        put_reply(out, self.alloc, &mut self.memory.block, reply)
-    }
-
-    /// Answers a line: puts the reply behind what waits, and returns whether the line is to be
-    /// logged. No line is done while there is no room for a short reply. A line that changes nothing
-    /// is refused where there is no room for its text.
+    /// Answers a line. It is refused where it is too long, or where the mode doesn't let it be done.
     pub(crate) fn take<T: Threads + Wait + Sync>(
         &mut self,
         rt: &T,
         line: &[u8],
-        out: &mut Vec<u8>,
-    ) -> Result<bool, Fault>
+        mode: Mode,
+    ) -> Result<Answered<ReplyText>, Fault>
         ensures fault { Refuses result None }
-        ensures ok { IfOk result (λ changes. (reply : List ℕ)
-            × LineSteps self.old line.now reply changes self.new
-            × (out.new.items ≡ out.old.items ++ reply)) }
+        ensures ok { IfOk result (λ answered.
+            LineSteps self.old line.now (reply_bytes answered.reply) answered.changes self.new) }
+        ensures allowed { IfOk result (λ answered.
+            MayChange adds mode line.now answered.changes) }
     {
-        take_room(out)?;
         if line.len() > LINE_LIMIT {
-            put_line(out, refusal_text(Fault::TooLong).as_bytes())?;
-            return Ok(false);
+            return Ok(Answered {
+                reply: Some(refusal(Fault::TooLong)),
+                changes: false,
+            });
         }
-        let answered = self.reply(rt, line)?;
-        if has_room(out, &answered.reply, answered.changes) {
-            self.put(out, &answered.reply)?;
-            return Ok(answered.changes);
+        if !lets_line(self.alloc, mode, line) {
+            return Ok(Answered {
+                reply: refuse_line(line),
+                changes: false,
+            });
         }
-        put_refusal(out, line)?;
-        Ok(false)
+        let executed = self.reply(rt, line)?;
+        let Executed { reply, changes } = executed;
+        Ok(Answered {
+            reply,
+            changes: logs(mode, changes),
+        })
     }
 }
 
 impl<L: Ledger> Service for KeptStore<L> {
-    ghost use Rattle.kept_store.specs.Replays.{LineSteps};
+    ghost use Rattle.std.specs.Prelude.{[]};
+    ghost use Rattle.kept_store.specs.Doing.{adds};
+    ghost use Rattle.kept_store.specs.Replays.{LineSteps, said_bytes};
+
+    type ReplyText = ReplyText;
+
+    ghost bytes = { said_bytes };
+
+    ghost front = { λ _. [] };
 
     ghost steps = { LineSteps };
+
+    ghost adds = { adds };
 
     fn answer<T: Threads + Wait + Sync>(
         &mut self,
         rt: &T,
         line: &[u8],
-        out: &mut Vec<u8>,
-    ) -> Result<bool, AllocError> {
-        let Ok(changes) = self.take(rt, line, out) else {
-            return Err(AllocError);
-        };
-        Ok(changes)
+        mode: Mode,
+    ) -> Result<Answered<Self::ReplyText>, AllocError> {
+        match self.take(rt, line, mode) {
+            Ok(answered) => Ok(answered),
+            Err(_) => Err(AllocError),
+        }
     }
 
-    fn refuse(&mut self, line: &[u8], out: &mut Vec<u8>) -> Result<(), AllocError> {
-        let Ok(()) = put_refusal(out, line) else {
-            return Err(AllocError);
-        };
+    fn work(&self) -> u128 {
+        work_of(self.rows)
+    }
+
+    fn refuse(&mut self, line: &[u8]) -> Option<Self::ReplyText> {
+        refuse_line(line)
+    }
+
+    fn put_front(_reply: &Self::ReplyText, _out: &mut Vec<u8>) -> Result<(), AllocError> {
         Ok(())
     }
 
-    fn refuse_additions(&mut self, are_refused: bool) {
-        self.memory.refuse_additions(are_refused);
+    fn text(reply: &Self::ReplyText) -> Option<&[u8]> {
+        match reply {
+            ReplyText::Text(text) => Some(text.as_str().as_bytes()),
+            ReplyText::Report(_) => None,
+            ReplyText::Rows(_) => None,
+            ReplyText::Objects(_) => None,
+        }
     }
 
-    fn is_due(&self, end: usize) -> bool {
-        if self.wants_checkpoint(end) {
-            return true;
-        }
-        match self.pause {
-            Some(pause) => end >= pause,
-            None => false,
+    fn write<W: Write>(&mut self, writer: &mut W, reply: &Self::ReplyText) -> Result<(), RunError> {
+        match write_said(writer, self.alloc, &mut self.memory.block, reply) {
+            Ok(()) => Ok(()),
+            Err(fault) => Err(write_error(fault)),
         }
     }
 }

@@ -108,8 +108,8 @@ fn made_again<N: Ledger, E: Log + Drop, T: Threads + Wait + Sync>(
     Ok(store)
 }
 
-// Does the lines of a journal again in an empty store, which has to become this one.
-fn compare<L: Ledger, N: Ledger, E: Log + Drop, T: Threads + Wait + Sync>(
+/// Does the lines of a journal again in an empty store, which has to become this one.
+pub(crate) fn compare<L: Ledger, N: Ledger, E: Log + Drop, T: Threads + Wait + Sync>(
     rt: &T,
     alloc: Global,
     blank: Blank,

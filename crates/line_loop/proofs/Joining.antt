@@ -31,7 +31,7 @@ module _ {S : Type 0} (steps : S → List ℕ → List ℕ → Bool → S → Ty
     → List (List ℕ) → Type 0)
     (one : Answers steps start false mid contents piece left holds) where
   -- the lines of both
-  asks_both : (at_end : Bool) (read : List ℕ)
+  pub asks_both : (at_end : Bool) (read : List ℕ)
       → heard_whole (start.begun ++ one.read) ++ heard_till at_end (piece ++ read)
       ≡ heard_till at_end (start.begun ++ (one.read ++ read))
   asks_both at_end read =
@@ -77,7 +77,7 @@ module _ {S : Type 0} (steps : S → List ℕ → List ℕ → Bool → S → Ty
   }
 
   -- the replies of the first call are the first ones of both
-  first_answered : (trace : List Entry) (written : List ℕ) (bytes : ℕ)
+  pub first_answered : (trace : List Entry) (written : List ℕ) (bytes : ℕ)
       → written ≡ take bytes (replies trace)
       → replies one.trace ++ written
       ≡ take (length (replies one.trace) + bytes) (replies (one.trace ++ trace))

@@ -8,7 +8,7 @@ use Rattle.journal.specs.Groups.{HasGroups, LeavesEither, added}
 use Rattle.journal.proofs.Noise.{what_is_written_is_read}
 use Rattle.journal.proofs.TextLines.{lines_text-append}
 use Rattle.line_loop.specs.Runs.{FindsOnly, FindsEither}
-use Rattle.line_loop.specs.JournalLines.{first_sum, lines_of, lines_found, HasLines, MayFind}
+use Rattle.line_loop.specs.JournalLines.{lines_of, lines_found, HasLines, MayFind}
 
 lines_of-append : (a b : List (List (List ℕ))) → lines_of (a ++ b) ≡ lines_of a ++ lines_of b
 lines_of-append [] b = refl
@@ -30,28 +30,30 @@ read_so first text last outcomes end groups has c left =
     ∙ what_is_written_is_read first groups has.room has.each
 
 -- the lines of groups that are found
-pub finds_lines : (groups : List (List (List ℕ))) (kept : List (List ℕ)) (c : List ℕ)
-    (lines : Option (List (List ℕ)))
-    → lines_of groups ≡ kept → found first_sum c ≡ sound groups
-    → lines ≡ lines_found (found first_sum c) → lines ≡ Some kept
-finds_lines groups kept c lines is same told =
+pub finds_lines : (first : List ℕ) (groups : List (List (List ℕ))) (kept : List (List ℕ))
+    (c : List ℕ) (lines : Option (List (List ℕ)))
+    → lines_of groups ≡ kept → found first c ≡ sound groups
+    → lines ≡ lines_found (found first c) → lines ≡ Some kept
+finds_lines first groups kept c lines is same told =
     told ∙ ap lines_found same ∙ ap (λ (ls : List (List ℕ)). Some ls) is
 
 -- where each crash leaves these groups, these lines are found
-pub finds_only : (groups : List (List (List ℕ))) (kept : List (List ℕ)) (outcomes : List ℕ → Type 0)
+pub finds_only : (first : List ℕ) (groups : List (List (List ℕ))) (kept : List (List ℕ))
+    (outcomes : List ℕ → Type 0)
     → lines_of groups ≡ kept
-    → ((c : List ℕ) → outcomes c → found first_sum c ≡ sound groups)
-    → FindsOnly kept (MayFind outcomes)
-finds_only groups kept outcomes is same lines may =
-    finds_lines groups kept may.0 lines is (same may.0 may.1) may.2
+    → ((c : List ℕ) → outcomes c → found first c ≡ sound groups)
+    → FindsOnly kept (MayFind first outcomes)
+finds_only first groups kept outcomes is same lines may =
+    finds_lines first groups kept may.0 lines is (same may.0 may.1) may.2
 
 -- a file that has groups, and lines that wait
-pub has_lines : (clean : Bool) (text : List ℕ) (outcomes : List ℕ → Type 0) (last : List ℕ)
-    (end : ℕ) (pending : List ℕ) (groups : List (List (List ℕ))) (kept waiting : List (List ℕ))
-    → IsTrue clean → HasGroups text outcomes last end first_sum groups → lines_of groups ≡ kept
+pub has_lines : (first : List ℕ) (clean : Bool) (text : List ℕ) (outcomes : List ℕ → Type 0)
+    (last : List ℕ) (end : ℕ) (pending : List ℕ) (groups : List (List (List ℕ)))
+    (kept waiting : List (List ℕ))
+    → IsTrue clean → HasGroups text outcomes last end first groups → lines_of groups ≡ kept
     → AreLines waiting → pending ≡ lines_text waiting
-    → HasLines clean text outcomes last end pending kept waiting
-has_lines clean text outcomes last end pending groups kept waiting is has lines each waits =
+    → HasLines first clean text outcomes last end pending kept waiting
+has_lines first clean text outcomes last end pending groups kept waiting is has lines each waits =
     record {
       reads = is;
       groups = groups;
@@ -59,21 +61,22 @@ has_lines clean text outcomes last end pending groups kept waiting is has lines 
       is = lines;
       each = each;
       waits = waits;
-      only = finds_only groups kept outcomes lines
-          (read_so first_sum text last outcomes end groups has);
+      only = finds_only first groups kept outcomes lines
+          (read_so first text last outcomes end groups has);
     }
 
 -- a commit that a crash may cut short
-pub finds_either : {clean : Bool} {text : List ℕ} {outcomes : List ℕ → Type 0} {last : List ℕ}
-    {end : ℕ} {pending : List ℕ} {kept waiting : List (List ℕ)} (new : List ℕ → Type 0)
-    → (h : HasLines clean text outcomes last end pending kept waiting)
-    → LeavesEither first_sum h.groups (added h.groups waiting) new
-    → FindsEither kept (kept ++ waiting) (MayFind new)
-finds_either {clean} {text} {outcomes} {last} {end} {pending} {kept} {waiting} new h either lines
-    may =
+pub finds_either : {first : List ℕ} {clean : Bool} {text : List ℕ} {outcomes : List ℕ → Type 0}
+    {last : List ℕ} {end : ℕ} {pending : List ℕ} {kept waiting : List (List ℕ)}
+    (new : List ℕ → Type 0)
+    → (h : HasLines first clean text outcomes last end pending kept waiting)
+    → LeavesEither first h.groups (added h.groups waiting) new
+    → FindsEither kept (kept ++ waiting) (MayFind first new)
+finds_either {first} {clean} {text} {outcomes} {last} {end} {pending} {kept} {waiting} new h either
+    lines may =
     elim (either may.0 may.1) [
-      | inl before ↦ inl (finds_lines h.groups kept may.0 lines h.is before may.2)
-      | inr more ↦ inr (finds_lines (added h.groups waiting) (kept ++ waiting) may.0 lines
+      | inl before ↦ inl (finds_lines first h.groups kept may.0 lines h.is before may.2)
+      | inr more ↦ inr (finds_lines first (added h.groups waiting) (kept ++ waiting) may.0 lines
           (lines_of-added h.groups waiting
           ∙ ap (λ (ls : List (List ℕ)). ls ++ waiting) h.is) more may.2)
     ]

@@ -9,6 +9,7 @@ pub Appends-none : (held : Option (List ℕ)) → Appends held held []
 Appends-none None = tt
 Appends-none (Some xs) = sym (append-nil xs)
 
+-- one text behind the other
 pub Appends-append : (h0 h1 h2 : Option (List ℕ)) (xs ys : List ℕ) → Appends h0 h1 xs
     → Appends h1 h2 ys → Appends h0 h2 (xs ++ ys)
 Appends-append None h1 h2 xs ys a b = tt

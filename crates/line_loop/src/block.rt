@@ -98,6 +98,7 @@ pub fn feed<T: Threads + Wait + Sync, S: Service, L: LineLog, W: Write>(
         (W.contents writer.old) left waiting.old.line.items bytes.now
         → Kept S.steps start (W.contents writer.new) left (L.may_find log.new) }
     ensures empty { OnOk result (waiting.new.replies.items ≡ []) }
+    ensures settled { OnOk result (L.settled log.new) }
     ensures begun { OnOk result
         (IsPiece waiting.old.line.items → IsPiece waiting.new.line.items) }
     ensures error { IfErr result (EndsAnswering L.keeps) }
@@ -157,6 +158,7 @@ pub fn finish<T: Threads + Wait + Sync, S: Service, L: LineLog, W: Write>(
         (W.contents writer.old) left waiting.old.line.items []
         → Kept S.steps start (W.contents writer.new) left (L.may_find log.new) }
     ensures empty { OnOk result ((waiting.new.replies.items ≡ []) × (waiting.new.line.items ≡ [])) }
+    ensures settled { OnOk result (L.settled log.new) }
     ensures error { IfErr result (EndsAnswering L.keeps) }
 {
     end_last_line(rt, service, log, waiting, writer)?;

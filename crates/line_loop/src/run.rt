@@ -39,7 +39,8 @@ fn serve<T: Threads + Wait + Sync, S: Service, L: LineLog, R: Read, W: Write>(
 ) -> Result<Stop, RunError>
     requires ready { IsReady buffers.old.block.items buffers.old.waiting.line.items
         buffers.old.waiting.replies.items }
-    ensures end { IfOk result (λ stop. stop ≡ Stop.End → IsAtEnd (R.remaining reader.new)) }
+    ensures end { IfOk result (λ stop. stop ≡ Stop.End → IsAtEnd (R.remaining reader.new)
+        × (buffers.new.waiting.line.items ≡ [])) }
     ensures answers { IfSome (stopped_at_end result) (λ at_end. (kept : List (List ℕ))
         → L.holds log.old kept []
         → Answers S.steps (from service.old kept (W.contents writer.old)
@@ -53,6 +54,8 @@ fn serve<T: Threads + Wait + Sync, S: Service, L: LineLog, R: Read, W: Write>(
     ensures gets_on { IfOk result (λ stop. stop ≡ Stop.CheckpointDue → IsTrue L.keeps
         × (read : List ℕ) × Consumes (R.remaining reader.old) (R.remaining reader.new) read
         × (0 < length read)) }
+    ensures settled { IfSome (stopped_at_end result)
+        (λ at_end. L.settled log.old → L.settled log.new) }
     ensures error { IfErr result (EndsRun L.keeps) }
     ensures lost { IfErr result (λ error. (error ≡ RunError.ReadFailed → ⊥)
         → buffers.new.waiting.line.items ≡ []) }
@@ -78,7 +81,7 @@ fn serve<T: Threads + Wait + Sync, S: Service, L: LineLog, R: Read, W: Write>(
                 return Err(error);
             }
         }
-        if log.is_due() {
+        if log.is_due(service.work()) {
             return Ok(Stop::CheckpointDue);
         }
     }
@@ -100,7 +103,8 @@ pub fn run_lines<T: Threads + Wait + Sync, S: Service, L: LineLog, R: Read, W: W
     reader: &mut R,
     writer: &mut W,
 ) -> Result<Stop, RunError>
-    ensures end { IfOk result (λ stop. stop ≡ Stop.End → IsAtEnd (R.remaining reader.new)) }
+    ensures end { IfOk result (λ stop. stop ≡ Stop.End → IsAtEnd (R.remaining reader.new)
+        × (buffers.new ≡ [])) }
     ensures answers { IfSome (stopped_at_end result) (λ at_end. (kept : List (List ℕ))
         → L.holds log.old kept []
         → Answers S.steps (from service.old kept (W.contents writer.old) buffers.old
@@ -113,6 +117,8 @@ pub fn run_lines<T: Threads + Wait + Sync, S: Service, L: LineLog, R: Read, W: W
     ensures gets_on { IfOk result (λ stop. stop ≡ Stop.CheckpointDue → IsTrue L.keeps
         × (read : List ℕ) × Consumes (R.remaining reader.old) (R.remaining reader.new) read
         × (0 < length read)) }
+    ensures settled { IfSome (stopped_at_end result)
+        (λ at_end. L.settled log.old → L.settled log.new) }
     ensures error { IfErr result (EndsRun L.keeps) }
 
     // After another failure what was read of a block may be lost, and the line with it.

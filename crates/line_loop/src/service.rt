@@ -50,6 +50,10 @@ pub trait Service {
             steps self.old line.now (reply_bytes bytes answered.reply) answered.changes self.new) }
         ensures allowed { IfOk result (λ answered. MayChange adds mode line.now answered.changes) };
 
+    /// How long a start takes for what the kept lines looked at beyond themselves, in bytes of lines
+    /// that it executes in this time.
+    fn work(&self) -> u128;
+
     /// Refuses a line, which isn't done: there is no memory or no room to keep it.
     fn refuse(&mut self, line: &[u8]) -> Option<Self::ReplyText>
         ensures { steps self.old line.now (reply_bytes bytes result) false self.new };

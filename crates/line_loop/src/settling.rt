@@ -19,6 +19,7 @@ pub fn settle<L: LineLog, W: Write>(
     ensures written { OnOk result
         (Appends (W.contents writer.old) (W.contents writer.new) out.old.items) }
     ensures empty { OnOk result (out.new.items ≡ []) }
+    ensures settled { OnOk result (L.settled log.new) }
     ensures crash { (kept waiting : List (List ℕ)) → L.holds log.old kept waiting
         → Settles kept waiting out.old.items (L.may_find log.new) (W.contents writer.old)
         (W.contents writer.new) }

@@ -9,8 +9,8 @@ use crate::telling::{
     tell_no_store, tell_unfit,
 };
 use journal::{JournalError, Log};
-use kept_run::RunError;
 use kept_store::StartError;
+use line_loop::RunError;
 use meta_types::Fault;
 use sqlite_std_file::OpenError;
 use std::os::unix::fs::MetadataExt;
@@ -117,6 +117,6 @@ pub fn not_ended(rt: &HostRuntime, path: &str, error: RunError) -> ExitCode {
         RunError::OutOfMemory => tell(rt, Fault::OutOfMemory),
         RunError::ReadFailed => tell(rt, Fault::ReadFailed),
         RunError::WriteFailed => tell(rt, Fault::WriteFailed),
-        RunError::JournalFailed | RunError::JournalFull => tell_at(rt, path, Fault::WriteFailed),
+        RunError::LogFailed => tell_at(rt, path, Fault::WriteFailed),
     }
 }

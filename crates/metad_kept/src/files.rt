@@ -2,8 +2,10 @@
 ghost use Rattle.std.specs.Prelude.{◌≡◌};
 
 use crate::names::{Names, OwnNames};
+use crate::starting::progress::Progress;
 use crate::telling_file::TellingFile;
 use journal::{Active, Journal, JournalFile, Log, Note, Paged};
+use line_loop::JournalLog;
 use sqlite_disk::Disk;
 
 /// The disk of the file that doesn't count.
@@ -34,6 +36,9 @@ pub type Text<D> = Paged<CountingFile<D>>;
 /// The journal of the file that counts.
 pub type Counting<D> = Journal<TellingFile<Text<D>>>;
 
+/// The same as the log of a run.
+pub type CountingLog<D> = JournalLog<TellingFile<Text<D>>>;
+
 /// The journal of the file that counts, and the other file.
 #[derive(Drop)]
 pub struct Files<'a, D: Disk + Drop, E: Log + Drop> {
@@ -41,15 +46,27 @@ pub struct Files<'a, D: Disk + Drop, E: Log + Drop> {
     pub names: Names<'a>,
     /// What is known of the file that counts: its store's identity, its generation.
     pub card: Note,
-    pub journal: Journal<TellingFile<Paged<E>>>,
+    pub log: JournalLog<TellingFile<Paged<E>>>,
     pub spare: Spare<D>,
 }
 
-/// A file that counts, and that tells when it can't grow.
+/// The log of a run that stops nowhere, of a journal with this first sum.
+pub fn log_of<E: Log + Drop>(first: [u8; 64], journal: Journal<E>) -> JournalLog<E>
+    ensures { result.journal ≡ journal }
+{
+    JournalLog {
+        journal,
+        first,
+        due_at: usize::MAX,
+    }
+}
+
+/// A file that counts, and that tells when it can't grow, and how far its start is.
 pub fn telling<D: Disk + Drop>(
     rt: &HostRuntime,
     names: OwnNames,
     is_second: bool,
+    progress: Progress,
     log: Text<D>,
 ) -> TellingFile<Text<D>>
     ensures { result.log ≡ log }
@@ -60,5 +77,6 @@ pub fn telling<D: Disk + Drop>(
         is_second,
         log,
         is_told: false,
+        progress,
     }
 }

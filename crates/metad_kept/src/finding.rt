@@ -82,8 +82,8 @@ fn find_sound<D: Log>(
     }
 }
 
-// How many lines of a text commit nothing.
-fn count_in(text: &[u8]) -> u64 {
+/// How many lines of a text commit nothing.
+pub fn count_in(text: &[u8]) -> u64 {
     let mut count = 0u64;
     let mut rest = text;
     'lines: for _ in 0..u64::MAX {

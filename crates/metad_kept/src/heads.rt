@@ -9,7 +9,7 @@ pub use fitting::{Loss, Ready, loss_of, make_ready, open_ready, unfit_by};
 use journal::JournalError;
 pub use looking::{Other, look, unknown};
 pub use opening::{Head, open_head, read_head, take_unmade};
-pub use putting::{new_card, put_card, put_witness};
+pub use putting::{card_beside, new_card, put_card, put_witness};
 
 /// Why two files aren't served.
 #[derive(Clone, Copy, PartialEq, Eq)]

@@ -17,8 +17,10 @@ mod telling_file;
 mod words;
 
 use crate::names::{Names, first_name, second_name};
+use crate::reading::backing::{backup, check_backup};
 use crate::reading::{check, script};
 use crate::serving::serve;
+use crate::starting::loading::load;
 use crate::starting::making::make;
 use crate::telling::tell;
 use crate::words::{Command, Words, read_words};
@@ -34,17 +36,22 @@ use std::thread::Threads;
 const SERVING: &str =
     "metad serve --dir DIR [--new] [--workers 1..16] [--checkpoint] [--accept-loss]";
 
+// The other words, without a lock: those that only read.
+const READING: &str = "check --dir DIR | check FILE | script --dir DIR | backup --dir DIR FILE";
+
 // How a program ends whose words ask for nothing.
 fn usage(rt: &HostRuntime) -> ExitCode {
-    let others = "new --dir DIR | check --dir DIR | script --dir DIR";
-    let _told = eprintln!(rt; "usage: {SERVING} | {others}");
+    let making = "new --dir DIR | load --dir DIR [--part]";
+    let _told = eprintln!(rt; "usage: {SERVING} | {making} | {READING}");
     ExitCode::from(2)
 }
 
 // What the words are.
 fn help(rt: &HostRuntime) -> ExitCode {
-    let others = "metad new --dir DIR\nmetad check --dir DIR\nmetad script --dir DIR";
-    if println!(rt; "{SERVING}\n{others}").is_err() {
+    let making = "metad new --dir DIR\nmetad load --dir DIR [--part]";
+    let checking = "metad check --dir DIR\nmetad check FILE";
+    let writing = "metad script --dir DIR\nmetad backup --dir DIR FILE";
+    if println!(rt; "{SERVING}\n{making}\n{checking}\n{writing}").is_err() {
         return tell(rt, Fault::WriteFailed);
     }
     ExitCode::SUCCESS
@@ -68,6 +75,9 @@ fn answer<T: Threads + Wait + Sync>(rt: &HostRuntime, threads: &T, words: Words<
         Command::Check => check(rt, names),
         Command::Script => script(rt, names),
         Command::New => make(rt, names, Unknown),
+        Command::Load { takes_part } => load(rt, threads, names, Unknown, takes_part),
+        Command::CheckBackup => check_backup(rt, words.file),
+        Command::Backup => backup(rt, names, words.file),
     }
 }
 

@@ -1,14 +1,15 @@
 //! Reads the file that counts, without its lock, be it that a program writes meanwhile.
 
+pub mod backing;
 mod looking;
-mod scripting;
+pub mod scripting;
 
 use crate::finding::{Finding, find};
 use crate::heads::{Loss, NoHeads, Ready, Unfit, loss_of, make_ready, read_head, unfit_by};
 use crate::names::{Names, is_missing, second_place};
 use crate::plain_file::{PlainError, PlainFile, has_bytes};
 use crate::reading::looking::look;
-use crate::reading::scripting::{ScriptError, write_script};
+use crate::reading::scripting::{Extent, ScriptError, write_script};
 use crate::telling::{
     fault_of, print_found, print_identity, tell, tell_at, tell_damage, tell_format, tell_head,
     tell_missing, tell_no_store, tell_renewed, tell_unfit, tell_unread_head,
@@ -40,13 +41,13 @@ struct Counting {
     is_second: bool,
 }
 
-// The file that counts, and what it holds.
+/// The file that counts, and what it holds.
 #[derive(Drop)]
-struct Reading {
-    ready: Ready<PlainFile>,
-    is_second: bool,
-    found: Finding,
-    loss: Loss,
+pub struct Reading {
+    pub ready: Ready<PlainFile>,
+    pub is_second: bool,
+    pub found: Finding,
+    pub loss: Loss,
 }
 
 // How a program ends whose file can't be read.
@@ -264,13 +265,13 @@ fn write_lines(
         return tell(rt, Fault::OutOfMemory);
     };
     let first = ready.first;
-    match write_script(
-        rt.alloc(),
-        &first,
-        &mut ready.text,
-        &found.sound,
-        &mut writer,
-    ) {
+    let sound = found.sound;
+    let extent = Extent {
+        first,
+        checkpoint: ready.card.end,
+        sound,
+    };
+    match write_script(rt.alloc(), &extent, &mut ready.text, &mut writer) {
         Ok(()) => ExitCode::SUCCESS,
         Err(ScriptError::Journal(error)) => tell_at(rt, path, fault_of(error)),
         Err(ScriptError::WriteFailed) => tell(rt, Fault::WriteFailed),

@@ -2,23 +2,27 @@
 ghost use Rattle.std.specs.Prelude.{◌≡◌, [], IfOk};
 
 mod noting;
+mod room;
 mod selecting;
 mod writing;
 
-use crate::files::{Counting, CountingFile, Files, Spare};
+use crate::files::{CountingFile, CountingLog, Files, Spare, log_of};
 use crate::heads::put_witness;
 use crate::names::Names;
-use crate::renewing::noting::note_of;
+pub use crate::renewing::noting::{note_of, with_note};
+pub use crate::renewing::room::keep_length;
 use crate::renewing::selecting::{select_first, select_second};
 use crate::renewing::writing::write_into;
-use journal::{Active, JournalError, Log, Note, Standby};
-use kept_run::RunError;
+use crate::telling::{tell_renewed_after, tell_renewing};
+use journal::{Active, JournalError, Log, Note, Standby, first_sum};
 use kept_store::{CheckpointError, KeptStore};
+use line_loop::RunError;
 use sqlite_disk::Disk;
 use std::alloc::Global;
 use std::sync::Wait;
 use std::sync::ledger::Ledger;
 use std::thread::Threads;
+use std::time::Instant;
 
 // A file has room for 2,037 MiB. So a larger checkpoint counts as one of this size: four times as
 // much has room as well.
@@ -52,23 +56,23 @@ fn renew_second<'a, L: Ledger, D: Disk + Drop, T: Threads + Wait + Sync>(
     rt: &'a HostRuntime,
     names: Names<'a>,
     card: Note,
-    journal: Counting<D>,
+    log: CountingLog<D>,
     disk: D,
 ) -> Result<Renewed<'a, D, CountingFile<D>>, RunError>
-    requires { journal.pending.items ≡ [] }
-    ensures { IfOk result (λ renewed. renewed.files.journal.pending.items ≡ []) }
+    requires { log.journal.pending.items ≡ [] }
+    ensures { IfOk result (λ renewed. renewed.files.log.journal.pending.items ≡ []) }
 {
-    let witness = note_of(card, &journal);
+    let witness = note_of(card, &log.journal);
     match write_into::<L, Active, D, T>(threads, rt.alloc(), store, witness, disk) {
         Ok(next) => {
             let card = next.card;
-            let (journal, spare) = select_second(rt, journal, next)?;
+            let (journal, spare) = select_second(rt, log.journal, next)?;
             Ok(Renewed {
                 files: Files {
                     rt,
                     names,
                     card,
-                    journal,
+                    log: log_of(first_sum(card), journal),
                     spare,
                 },
                 why: None,
@@ -79,7 +83,7 @@ fn renew_second<'a, L: Ledger, D: Disk + Drop, T: Threads + Wait + Sync>(
                 rt,
                 names,
                 card,
-                journal,
+                log,
                 spare: Spare::Second(not.disk),
             },
             why: Some(not.why),
@@ -94,23 +98,23 @@ fn renew_first<'a, L: Ledger, D: Disk + Drop, T: Threads + Wait + Sync>(
     rt: &'a HostRuntime,
     names: Names<'a>,
     card: Note,
-    journal: Counting<D>,
+    log: CountingLog<D>,
     disk: D,
 ) -> Result<Renewed<'a, D, CountingFile<D>>, RunError>
-    requires { journal.pending.items ≡ [] }
-    ensures { IfOk result (λ renewed. renewed.files.journal.pending.items ≡ []) }
+    requires { log.journal.pending.items ≡ [] }
+    ensures { IfOk result (λ renewed. renewed.files.log.journal.pending.items ≡ []) }
 {
-    let witness = note_of(card, &journal);
+    let witness = note_of(card, &log.journal);
     match write_into::<L, Standby, D, T>(threads, rt.alloc(), store, witness, disk) {
         Ok(next) => {
             let card = next.card;
-            let (journal, spare) = select_first(rt, next, journal)?;
+            let (journal, spare) = select_first(rt, next, log.journal)?;
             Ok(Renewed {
                 files: Files {
                     rt,
                     names,
                     card,
-                    journal,
+                    log: log_of(first_sum(card), journal),
                     spare,
                 },
                 why: None,
@@ -121,7 +125,7 @@ fn renew_first<'a, L: Ledger, D: Disk + Drop, T: Threads + Wait + Sync>(
                 rt,
                 names,
                 card,
-                journal,
+                log,
                 spare: Spare::First(not.disk),
             },
             why: Some(not.why),
@@ -148,50 +152,118 @@ fn put_spare<D: Disk + Drop>(alloc: Global, spare: Spare<D>, note: Note) -> (Spa
 pub fn leave_witness<'a, D: Disk + Drop>(
     files: Files<'a, D, CountingFile<D>>,
 ) -> (Files<'a, D, CountingFile<D>>, bool)
-    requires { files.journal.pending.items ≡ [] }
-    ensures { result.0.journal.pending.items ≡ [] }
+    requires { files.log.journal.pending.items ≡ [] }
+    ensures { result.0.log.journal.pending.items ≡ [] }
 {
     let Files {
         rt,
         names,
         card,
-        journal,
+        log,
         spare,
     } = files;
-    let note = note_of(card, &journal);
+    let note = note_of(card, &log.journal);
     let (spare, is_left) = put_spare(rt.alloc(), spare, note);
     (
         Files {
             rt,
             names,
             card,
-            journal,
+            log,
             spare,
         },
         is_left,
     )
 }
 
-/// Writes a checkpoint into the file that doesn't count, and lets that one count. Where there is no
-/// checkpoint, the file that counts goes on. Where the selector can't be put, either file has the
-/// store.
-pub fn renew<'a, L: Ledger, D: Disk + Drop, T: Threads + Wait + Sync>(
+// Writes a checkpoint into the file that doesn't count, and lets that one count.
+fn renew_spare<'a, L: Ledger, D: Disk + Drop, T: Threads + Wait + Sync>(
     threads: &T,
     store: &KeptStore<L>,
     files: Files<'a, D, CountingFile<D>>,
 ) -> Result<Renewed<'a, D, CountingFile<D>>, RunError>
-    requires { files.journal.pending.items ≡ [] }
-    ensures { IfOk result (λ renewed. renewed.files.journal.pending.items ≡ []) }
+    requires { files.log.journal.pending.items ≡ [] }
+    ensures { IfOk result (λ renewed. renewed.files.log.journal.pending.items ≡ []) }
 {
     let Files {
         rt,
         names,
         card,
-        journal,
+        log,
         spare,
     } = files;
     match spare {
-        Spare::First(disk) => renew_first(threads, store, rt, names, card, journal, disk),
-        Spare::Second(disk) => renew_second(threads, store, rt, names, card, journal, disk),
+        Spare::First(disk) => renew_first(threads, store, rt, names, card, log, disk),
+        Spare::Second(disk) => renew_second(threads, store, rt, names, card, log, disk),
     }
+}
+
+// The milliseconds since a moment; none where the clock fails.
+fn millis_since(rt: &HostRuntime, moment: Option<Instant>) -> u128 {
+    let Some(moment) = moment else {
+        return 0;
+    };
+    match moment.elapsed(rt) {
+        Ok(time) => time.as_millis(),
+        Err(_) => 0,
+    }
+}
+
+// Writes a checkpoint back into the file that counted before. Where that is refused, the first one
+// counts.
+fn renew_back<'a, L: Ledger, D: Disk + Drop, T: Threads + Wait + Sync>(
+    threads: &T,
+    store: &KeptStore<L>,
+    files: Files<'a, D, CountingFile<D>>,
+) -> Result<Files<'a, D, CountingFile<D>>, RunError>
+    requires { files.log.journal.pending.items ≡ [] }
+    ensures { IfOk result (λ files. files.log.journal.pending.items ≡ []) }
+{
+    let renewed = renew_spare(threads, store, files)?;
+    let (files, _has_more) = keep_length(renewed.files);
+    Ok(files)
+}
+
+// Makes the file that counted before as long as the checkpoint. If it is longer than the file that
+// counts, on a full disk, another checkpoint goes back there.
+fn keep_room<'a, L: Ledger, D: Disk + Drop, T: Threads + Wait + Sync>(
+    threads: &T,
+    store: &KeptStore<L>,
+    renewed: Renewed<'a, D, CountingFile<D>>,
+) -> Result<Renewed<'a, D, CountingFile<D>>, RunError>
+    requires { renewed.files.log.journal.pending.items ≡ [] }
+    ensures { IfOk result (λ renewed. renewed.files.log.journal.pending.items ≡ []) }
+{
+    if renewed.why.is_some() {
+        return Ok(renewed);
+    }
+    let (files, has_more) = keep_length(renewed.files);
+    if !has_more {
+        return Ok(Renewed { files, why: None });
+    }
+    let files = renew_back(threads, store, files)?;
+    Ok(Renewed { files, why: None })
+}
+
+/// Writes a checkpoint into the file that doesn't count, and lets that one count. Tells before it and
+/// after it how long clients wait. Where there is no checkpoint, the file that counts goes on. Where
+/// the selector can't be put, either file has the store. If the disk is full, the longer of both files
+/// counts at the end.
+pub fn renew<'a, L: Ledger, D: Disk + Drop, T: Threads + Wait + Sync>(
+    threads: &T,
+    store: &KeptStore<L>,
+    files: Files<'a, D, CountingFile<D>>,
+) -> Result<Renewed<'a, D, CountingFile<D>>, RunError>
+    requires { files.log.journal.pending.items ≡ [] }
+    ensures { IfOk result (λ renewed. renewed.files.log.journal.pending.items ≡ []) }
+{
+    let (rt, names) = (files.rt, files.names);
+    let path = names.of(files.spare.is_second());
+    let end = files.log.journal.end;
+    tell_renewing(rt, path, end, files.log.journal.log.progress.renewal(end));
+    let began = Instant::now(rt).ok();
+    let renewed = renew_spare(threads, store, files)?;
+    let renewed = keep_room(threads, store, renewed)?;
+    tell_renewed_after(rt, path, millis_since(rt, began));
+    Ok(renewed)
 }

@@ -1,17 +1,17 @@
 //! Answers lines, and takes a checkpoint where one is due.
-ghost use Rattle.std.specs.Prelude.{◌≡◌, [], IfOk, IfSome};
+ghost use Rattle.std.specs.Prelude.{◌≡◌, [], IfOk, IfSome, OnOk};
 
-use crate::files::{CountingFile, Files, Text};
+use crate::files::{CountingFile, CountingLog, Files, Text};
 use crate::heads::Unfit;
-use crate::renewing::{Why, leave_witness, next_size, renew};
+use crate::renewing::{Why, keep_length, leave_witness, next_size, renew};
 use crate::starting::beginning::{Cause, NotStarted};
 use crate::telling::{
     tell_checkpoint, tell_found, tell_identity, tell_no_checkpoint, tell_unwitnessed,
 };
 use crate::telling_file::TellingFile;
 use journal::{JournalError, Log, Note, Paged, STEP, Sound};
-use kept_run::{Input, RunError, Stop};
-use kept_store::{KeptStore, StartError, run_store};
+use kept_store::{KeptStore, StartError, due_at, run_store};
+use line_loop::{RunBuffers, RunError, Service, Stop};
 use sqlite_disk::Disk;
 use std::io::{Read, Write};
 use std::sync::Wait;
@@ -57,9 +57,17 @@ impl Teller for Errors<'_> {
 /// Where lines come from, where replies go, and who tells the rest.
 #[derive(Drop)]
 pub struct Streams<R: Read + Drop, W: Write + Drop, N: Teller + Drop> {
-    pub input: Input<R>,
+    pub buffers: RunBuffers,
+    pub reader: R,
     pub writer: W,
     pub teller: N,
+}
+
+/// The lengths of a journal behind which a run stops for a checkpoint, and for a witness.
+#[derive(Drop)]
+struct Pauses {
+    checkpoint: usize,
+    witness: usize,
 }
 
 /// Why a service ended early, and where.
@@ -94,40 +102,44 @@ pub fn failure_of<'a, D: Disk + Drop>(
 fn try_checkpoint<'a, L: Ledger, T: Threads + Wait + Sync, D: Disk + Drop, N: Teller>(
     threads: &T,
     store: &mut KeptStore<L>,
+    pauses: &mut Pauses,
     files: Files<'a, D, CountingFile<D>>,
     teller: &mut N,
 ) -> Result<Files<'a, D, CountingFile<D>>, Failure<'a, CountingFile<D>>>
-    requires { files.journal.pending.items ≡ [] }
-    ensures { IfOk result (λ files. files.journal.pending.items ≡ []) }
+    requires { files.log.journal.pending.items ≡ [] }
+    ensures { IfOk result (λ files. files.log.journal.pending.items ≡ []) }
 {
     let names = files.names;
-    let path = names.of(files.spare.is_second());
     let renewed = match renew(threads, store, files) {
         Ok(renewed) => renewed,
         Err(error) => return Err(Failure::Run(names.first, error)),
     };
-    let end = renewed.files.journal.end;
+    // the file that took it counts; one that took none doesn't
+    let is_second = renewed.files.spare.is_second() == renewed.why.is_some();
+    let path = names.of(is_second);
+    let end = renewed.files.log.journal.end;
     teller.renewed(path, end, renewed.why);
-    store.set_checkpoint(next_size(end));
+    pauses.checkpoint = due_at(next_size(end));
+    store.count_rows_anew();
     Ok(renewed.files)
 }
 
 // Leaves a witness in the file that doesn't count, and tells where that failed. The next one is
 // left once the journal is so much longer.
-fn leave<'a, L: Ledger, D: Disk + Drop, N: Teller>(
-    store: &mut KeptStore<L>,
+fn leave<'a, D: Disk + Drop, N: Teller>(
+    pauses: &mut Pauses,
     files: Files<'a, D, CountingFile<D>>,
     teller: &mut N,
 ) -> Files<'a, D, CountingFile<D>>
-    requires { files.journal.pending.items ≡ [] }
-    ensures { result.journal.pending.items ≡ [] }
+    requires { files.log.journal.pending.items ≡ [] }
+    ensures { result.log.journal.pending.items ≡ [] }
 {
     let path = files.names.of(files.spare.is_second());
     let (files, is_left) = leave_witness(files);
     if !is_left {
         teller.unwitnessed(path);
     }
-    store.set_pause(files.journal.end.saturating_add(STEP));
+    pauses.witness = files.log.journal.end.saturating_add(STEP - 1);
     files
 }
 
@@ -135,17 +147,48 @@ fn leave<'a, L: Ledger, D: Disk + Drop, N: Teller>(
 fn pause<'a, L: Ledger, T: Threads + Wait + Sync, D: Disk + Drop, N: Teller>(
     threads: &T,
     store: &mut KeptStore<L>,
+    pauses: &mut Pauses,
     files: Files<'a, D, CountingFile<D>>,
     teller: &mut N,
 ) -> Result<Files<'a, D, CountingFile<D>>, Failure<'a, CountingFile<D>>>
-    requires { files.journal.pending.items ≡ [] }
-    ensures { IfOk result (λ files. files.journal.pending.items ≡ []) }
+    requires { files.log.journal.pending.items ≡ [] }
+    ensures { IfOk result (λ files. files.log.journal.pending.items ≡ []) }
 {
-    if !store.wants_checkpoint(files.journal.end) {
-        return Ok(leave(store, files, teller));
+    let end = files.log.journal.end;
+    if end <= pauses.checkpoint && store.work() <= end as u128 {
+        return Ok(leave(pauses, files, teller));
     }
-    let files = try_checkpoint(threads, store, files, teller)?;
-    Ok(leave(store, files, teller))
+    let files = try_checkpoint(threads, store, pauses, files, teller)?;
+    Ok(leave(pauses, files, teller))
+}
+
+// Answers lines until the input ends, or until the log is due. No line waits then.
+fn run_on<
+    L: Ledger,
+    T: Threads + Wait + Sync,
+    D: Disk + Drop,
+    R: Read + Drop,
+    W: Write + Drop,
+    N: Teller + Drop,
+>(
+    threads: &T,
+    store: &mut KeptStore<L>,
+    log: &mut CountingLog<D>,
+    streams: &mut Streams<R, W, N>,
+) -> Result<Stop, RunError>
+    requires waits { log.old.journal.pending.items ≡ [] }
+    ensures settled { OnOk result (log.new.journal.pending.items ≡ []) }
+{
+    // For the prover: the result is opened, not passed on.
+    let stop = run_store(
+        threads,
+        store,
+        log,
+        &mut streams.buffers,
+        &mut streams.reader,
+        &mut streams.writer,
+    )?;
+    Ok(stop)
 }
 
 // Answers lines until the input ends, or until a witness or a checkpoint is due, and does that.
@@ -160,28 +203,23 @@ fn go_on<
 >(
     threads: &T,
     store: &mut KeptStore<L>,
+    pauses: &mut Pauses,
     files: Files<'a, D, CountingFile<D>>,
     streams: &mut Streams<R, W, N>,
 ) -> Result<Option<Files<'a, D, CountingFile<D>>>, Failure<'a, CountingFile<D>>>
-    requires { files.journal.pending.items ≡ [] }
-    ensures { IfOk result (λ next. IfSome next (λ files. files.journal.pending.items ≡ [])) }
+    requires { files.log.journal.pending.items ≡ [] }
+    ensures { IfOk result (λ next. IfSome next (λ files. files.log.journal.pending.items ≡ [])) }
 {
     let mut files = files;
     let path = files.names.of(!files.spare.is_second());
-    let input = &mut streams.input;
-    match run_store(
-        threads,
-        store,
-        &mut files.journal,
-        input,
-        &mut streams.writer,
-    ) {
+    files.log.due_at = pauses.checkpoint.min(pauses.witness);
+    match run_on(threads, store, &mut files.log, streams) {
         Ok(Stop::End) => {
-            let _ended = leave(store, files, &mut streams.teller);
+            let _ended = leave(pauses, files, &mut streams.teller);
             Ok(None)
         }
-        Ok(Stop::Due) => {
-            let next = pause(threads, store, files, &mut streams.teller)?;
+        Ok(Stop::CheckpointDue) => {
+            let next = pause(threads, store, pauses, files, &mut streams.teller)?;
             Ok(Some(next))
         }
         Err(error) => Err(Failure::Run(path, error)),
@@ -200,15 +238,16 @@ fn answer_all<
 >(
     threads: &T,
     store: &mut KeptStore<L>,
+    pauses: &mut Pauses,
     files: Files<'a, D, CountingFile<D>>,
     streams: &mut Streams<R, W, N>,
 ) -> Result<(), Failure<'a, CountingFile<D>>>
-    requires { files.journal.pending.items ≡ [] }
+    requires { files.log.journal.pending.items ≡ [] }
 {
     let first = files.names.first;
     let mut files = files;
     'serving: for _ in 0..u64::MAX {
-        match go_on(threads, store, files, streams)? {
+        match go_on(threads, store, pauses, files, streams)? {
             Some(next) => files = next,
             None => return Ok(()),
         }
@@ -233,14 +272,18 @@ pub fn run<
     files: Files<'a, D, CountingFile<D>>,
     streams: &mut Streams<R, W, N>,
 ) -> Result<(), Failure<'a, CountingFile<D>>>
-    requires { files.journal.pending.items ≡ [] }
+    requires { files.log.journal.pending.items ≡ [] }
 {
-    store.set_checkpoint(next_size(files.card.end));
-    let files = leave(store, files, &mut streams.teller);
+    let mut pauses = Pauses {
+        checkpoint: due_at(next_size(files.card.end)),
+        witness: 0,
+    };
+    let files = leave(&mut pauses, files, &mut streams.teller);
+    let (files, _has_more) = keep_length(files);
     if has_checkpoint {
-        let files = try_checkpoint(threads, store, files, &mut streams.teller)?;
-        let files = leave(store, files, &mut streams.teller);
-        return answer_all(threads, store, files, streams);
+        let files = try_checkpoint(threads, store, &mut pauses, files, &mut streams.teller)?;
+        let files = leave(&mut pauses, files, &mut streams.teller);
+        return answer_all(threads, store, &mut pauses, files, streams);
     }
-    answer_all(threads, store, files, streams)
+    answer_all(threads, store, &mut pauses, files, streams)
 }

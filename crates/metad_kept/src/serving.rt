@@ -4,23 +4,25 @@ ghost use Rattle.std.specs.Prelude.{◌≡◌, []};
 mod opened;
 
 use crate::ending::{not_ended, not_fit, not_opened, not_read, not_started, not_there};
-use crate::files::{CountingFile, Files, telling};
+use crate::files::{CountingFile, Files, log_of, telling};
 use crate::heads::{NoHeads, open_ready};
 use crate::names::{Names, OwnNames, is_missing, make_private};
 use crate::running::{Errors, Failure, Streams, Teller, failure_of, run};
 use crate::serving::opened::{Disks, disks_of};
 use crate::starting::beginning::{begin, wanted_lines};
 use crate::starting::making::make_store;
+use crate::starting::progress::Progress;
 use crate::starting::selecting::{Selection, select_file};
 use crate::telling::{tell, tell_missing, tell_no_store, tell_taken};
 use crate::words::Serving;
 use journal::{JournalError, Sound};
-use kept_run::Input;
 use kept_store::KeptStore;
+use line_loop::RunBuffers;
 use meta_types::Fault;
 use scripts::Fresh;
 use sqlite_disk::Disk;
 use sqlite_std_file::Start;
+use std::alloc::Global;
 use std::io::{self, Read, Write};
 use std::marker::Brand;
 use std::mem::ManuallyDrop;
@@ -30,9 +32,32 @@ use std::sync::ledger::{Blank, Ledger};
 use std::thread::Threads;
 use table_seed::Seed;
 
-// What a start takes beside its store. A run keeps it free where it can be had, so that a store which
-// ran full starts again.
-const SPARE: usize = 131_072;
+// A run keeps so many bytes free, so that a store which ran full starts again. The start takes a
+// block of 64 KiB beside the store. The C library takes memory by 132 KiB, and may do so at another
+// row than in the run before.
+const SPARE: usize = 655_360;
+
+// A run keeps so many bytes free, if its start leaves no more.
+const LESS_SPARE: usize = 458_752;
+
+// If fewer are free, additions are refused: the next start would find too little.
+const LEAST_SPARE: usize = 262_144;
+
+// Room of so many bytes, where it can be had.
+fn room_of(alloc: Global, bytes: usize) -> Option<Vec<u8>> {
+    Vec::<u8>::with_capacity(alloc, bytes).ok()
+}
+
+// What a run keeps free; none where too little is.
+fn spare_room(alloc: Global) -> Option<Vec<u8>> {
+    if let Some(spare) = room_of(alloc, SPARE) {
+        return Some(spare);
+    }
+    if let Some(spare) = room_of(alloc, LESS_SPARE) {
+        return Some(spare);
+    }
+    room_of(alloc, LEAST_SPARE)
+}
 
 // Tells what a start found, and answers lines.
 fn answer_lines<
@@ -51,16 +76,19 @@ fn answer_lines<
     files: Files<'a, D, CountingFile<D>>,
     streams: &mut Streams<R, W, N>,
 ) -> Result<(), Failure<'a, CountingFile<D>>>
-    requires { files.journal.pending.items ≡ [] }
+    requires { files.log.journal.pending.items ≡ [] }
 {
     let path = files.names.of(!files.spare.is_second());
-    let last = files.journal.last;
+    let last = files.log.journal.last;
     let sound = Sound {
-        end: files.journal.end,
+        end: files.log.journal.end,
         last,
     };
     streams.teller.found(path, lines, &sound, files.card);
-    let spare = Vec::<u8>::with_capacity(files.rt.alloc(), SPARE);
+    let spare = spare_room(files.rt.alloc());
+    if spare.is_none() {
+        store.refuse_additions();
+    }
     let result = run(threads, store, has_checkpoint, files, streams);
     drop(spare);
     result
@@ -103,7 +131,8 @@ fn serve_named<
     let Ok(own) = OwnNames::new(rt, names) else {
         return Err(Failure::Head(path, JournalError::OutOfMemory));
     };
-    let file = telling(rt, own, is_second, ready.text);
+    let progress = Progress::begin(rt, is_second);
+    let file = telling(rt, own, is_second, progress, ready.text);
     let wanted = wanted_lines(is_second);
     let workers = serving.workers;
     let alloc = rt.alloc();
@@ -111,11 +140,12 @@ fn serve_named<
         Ok(started) => started,
         Err(not) => return Err(failure_of(path, &first, not)),
     };
+    progress.end(rt, path);
     let files = Files {
         rt,
         names,
         card,
-        journal: started.journal,
+        log: log_of(first, started.journal),
         spare,
     };
     let mut store = started.store;
@@ -164,14 +194,15 @@ fn serve_streams<'a, T: Threads + Wait + Sync, D: Disk + Drop>(
     let rt = disks.rt;
     let names = disks.names;
     let folder = names.folder;
-    let Ok(input) = Input::new(rt.alloc(), rt.reader()) else {
+    let Ok(buffers) = RunBuffers::new(rt.alloc()) else {
         return tell(rt, Fault::OutOfMemory);
     };
     let Ok(seed) = Seed::secret(rt) else {
         return tell(rt, Fault::ReadFailed);
     };
     let mut streams = Streams {
-        input,
+        buffers,
+        reader: rt.reader(),
         writer: io::writer(rt),
         teller: Errors { rt },
     };

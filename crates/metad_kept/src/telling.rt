@@ -6,10 +6,10 @@ use crate::renewing::Why;
 use journal::{JournalError, Note, Sound};
 use kept_store::CheckpointError;
 use meta_types::Fault;
-use std::fs;
 use std::os::unix::fs::FileExt;
 use std::process::ExitCode;
 use std::str::from_utf8;
+use std::{fs, io};
 
 /// What a journal's error is among the faults.
 pub fn fault_of(error: JournalError) -> Fault {
@@ -35,9 +35,53 @@ pub fn tell_at(rt: &HostRuntime, path: &str, fault: Fault) -> ExitCode {
     ExitCode::from(1)
 }
 
+/// Tells why a file can't be used, and the fault that ended the program.
+pub fn tell_io(rt: &HostRuntime, path: &str, error: io::Error, fault: Fault) -> ExitCode {
+    if error.kind() == io::ErrorKind::OutOfMemory {
+        return tell_at(rt, path, Fault::OutOfMemory);
+    }
+    let _told = eprintln!(rt; "metad: {path}: {error}");
+    tell_at(rt, path, fault)
+}
+
 /// Tells that a file can't grow.
 pub fn tell_full(rt: &HostRuntime, path: &str) {
     let _told = eprintln!(rt; "metad: {path} can't grow: additions are refused until it can");
+}
+
+/// Tells how far a start is that takes long: in which of its three readings of the journal, and where.
+pub fn tell_progress(
+    rt: &HostRuntime,
+    path: &str,
+    seconds: u64,
+    reading: u64,
+    at: usize,
+    size: usize,
+) {
+    let _told = eprintln!(rt;
+        "metad: {path}: starting for {seconds} s: byte {at} of {size} in reading {reading} of 3"
+    );
+}
+
+/// Tells how long a start took.
+pub fn tell_started(rt: &HostRuntime, path: &str, seconds: u64) {
+    let _told = eprintln!(rt; "metad: {path}: started after {seconds} s");
+}
+
+/// Tells that a checkpoint begins, and about how long clients wait for it at most, if that is known.
+pub fn tell_renewing(rt: &HostRuntime, path: &str, bytes: usize, millis: Option<u64>) {
+    let what = "a checkpoint begins, of a journal of";
+    let _told = match millis {
+        Some(wait) => {
+            eprintln!(rt; "metad: {path}: {what} {bytes} bytes: all clients wait, some {wait} ms")
+        }
+        None => eprintln!(rt; "metad: {path}: {what} {bytes} bytes: all clients wait"),
+    };
+}
+
+/// Tells how long a checkpoint took.
+pub fn tell_renewed_after(rt: &HostRuntime, path: &str, millis: u128) {
+    let _told = eprintln!(rt; "metad: {path}: clients waited {millis} ms for it");
 }
 
 /// Tells that a file's name leads to no file, or to another.
@@ -101,8 +145,8 @@ pub fn tell_unfit(rt: &HostRuntime, path: &str, unfit: Unfit) -> ExitCode {
     ExitCode::from(3)
 }
 
-// Why there is no checkpoint.
-fn text_of(why: Why) -> &'static str {
+/// Why there is no checkpoint.
+pub fn checkpoint_text(why: Why) -> &'static str {
     match why {
         Why::Opening(JournalError::UnknownFormat) => "its first line isn't that of a journal",
         Why::Opening(JournalError::Damaged) => "damage in its head",
@@ -123,8 +167,15 @@ pub fn tell_checkpoint(rt: &HostRuntime, path: &str, bytes: usize) {
 
 /// Tells that a file took no checkpoint, so the other one goes on.
 pub fn tell_no_checkpoint(rt: &HostRuntime, path: &str, why: Why) {
-    let text = text_of(why);
+    let text = checkpoint_text(why);
     let _told = eprintln!(rt; "metad: {path}: no checkpoint: {text}");
+}
+
+/// Tells that a file is shorter than the checkpoint of the other one, and can't grow.
+pub fn tell_short(rt: &HostRuntime, path: &str) {
+    let _told = eprintln!(rt;
+        "metad: {path}: it can't grow to the length of the checkpoint: the next one may have no room"
+    );
 }
 
 /// Tells that one of the two files isn't there, or is empty, and the other one is.

@@ -1,6 +1,7 @@
 //! A journal's file that tells when it can't grow, and when its name leads elsewhere.
 
 use crate::names::OwnNames;
+use crate::starting::progress::Progress;
 use crate::telling::{tell_full, tell_gone};
 use journal::{JournalError, Log};
 
@@ -13,6 +14,7 @@ pub struct TellingFile<D: Log + Drop> {
     pub is_second: bool,
     pub log: D,
     pub is_told: bool,
+    pub progress: Progress,
 }
 
 // Tells that a file can't grow, where that isn't told yet. Answers whether it is told now.
@@ -40,6 +42,9 @@ impl<D: Log + Drop> Log for TellingFile<D> {
     }
 
     fn read(&mut self, at: usize, count: usize, block: &mut Vec<u8>) -> Result<(), JournalError> {
+        let size = self.log.size()?;
+        let path = self.names.of(self.is_second);
+        self.progress.read(&self.rt, path, at, size);
         self.log.read(at, count, block)
     }
 

@@ -22,16 +22,23 @@ pub enum Command {
     Serve(Serving),
     /// What the journal holds.
     Check,
+    /// What a backup holds.
+    CheckBackup,
     /// The lines of the journal.
     Script,
     /// A store without a line.
     New,
+    /// A store of the lines of the input, be they a part of a checkpoint.
+    Load { takes_part: bool },
+    /// All lines in one file.
+    Backup,
 }
 
-/// What the words ask for, and the folder that they name.
+/// What the words ask for, and the folder and the file that they name: an empty text names none.
 #[derive(Clone, Copy)]
 pub struct Words<'a> {
     pub dir: &'a str,
+    pub file: &'a str,
     pub asked: Command,
 }
 
@@ -39,10 +46,12 @@ pub struct Words<'a> {
 #[derive(Clone, Copy)]
 struct Options<'a> {
     dir: Option<&'a str>,
+    file: Option<&'a str>,
     workers: Option<Workers>,
     has_checkpoint: bool,
     is_new: bool,
     takes_less: bool,
+    takes_part: bool,
 }
 
 // The number of workers that a text is.
@@ -83,7 +92,30 @@ fn with_switch<'a>(options: Options<'a>, name: &str) -> Option<Options<'a>> {
             takes_less: true,
             ..options
         }),
+        "--part" if !options.takes_part => Some(Options {
+            takes_part: true,
+            ..options
+        }),
         _ => None,
+    }
+}
+
+// The options with the name of a file. It stands once at most.
+fn with_file<'a>(options: Options<'a>, name: &'a str) -> Option<Options<'a>> {
+    if options.file.is_some() || name.is_empty() {
+        return None;
+    }
+    Some(Options {
+        file: Some(name),
+        ..options
+    })
+}
+
+// Whether a word is an option that has no value.
+fn is_switch(word: &str) -> bool {
+    match word {
+        "--checkpoint" | "--new" | "--accept-loss" | "--part" => true,
+        _ => false,
     }
 }
 
@@ -91,10 +123,12 @@ fn with_switch<'a>(options: Options<'a>, name: &str) -> Option<Options<'a>> {
 fn read_options<'a>(words: &[&'a str]) -> Option<Options<'a>> {
     let mut options = Options {
         dir: None,
+        file: None,
         workers: None,
         has_checkpoint: false,
         is_new: false,
         takes_less: false,
+        takes_part: false,
     };
     let mut at = 0usize;
     'reading: for _ in 0..u64::MAX {
@@ -102,8 +136,12 @@ fn read_options<'a>(words: &[&'a str]) -> Option<Options<'a>> {
             return Some(options);
         };
         at = at.saturating_add(1);
-        if *word == "--checkpoint" || *word == "--new" || *word == "--accept-loss" {
+        if is_switch(word) {
             options = with_switch(options, word)?;
+            continue;
+        }
+        if !word.starts_with("--") {
+            options = with_file(options, word)?;
             continue;
         }
         if let Some((name, value)) = word.split_once('=') {
@@ -117,25 +155,57 @@ fn read_options<'a>(words: &[&'a str]) -> Option<Options<'a>> {
     None
 }
 
+// What a run is asked for.
+fn serving_of(options: Options<'_>) -> Option<Command> {
+    if options.file.is_some() || options.takes_part {
+        return None;
+    }
+    Some(Command::Serve(Serving {
+        workers: options.workers.unwrap_or(Workers::ONE),
+        has_checkpoint: options.has_checkpoint,
+        is_new: options.is_new,
+        takes_less: options.takes_less,
+    }))
+}
+
+// Whether options are there that only a run has.
+fn are_of_a_run(options: Options<'_>) -> bool {
+    options.workers.is_some() || options.has_checkpoint || options.is_new || options.takes_less
+}
+
+// What a word asks for that is no run, by the folder and the file that it is given.
+fn command_of(word: &str, options: Options<'_>) -> Option<Command> {
+    if are_of_a_run(options) || (options.takes_part && word != "load") {
+        return None;
+    }
+    match (word, options.dir.is_some(), options.file.is_some()) {
+        ("check", true, false) => Some(Command::Check),
+        ("check", false, true) => Some(Command::CheckBackup),
+        ("script", true, false) => Some(Command::Script),
+        ("new", true, false) => Some(Command::New),
+        ("load", true, false) => Some(Command::Load {
+            takes_part: options.takes_part,
+        }),
+        ("backup", true, true) => Some(Command::Backup),
+        _ => None,
+    }
+}
+
 /// What the words ask for, the program's name first among them.
 pub fn read_words<'a>(words: &[&'a str]) -> Option<Words<'a>> {
     let [_, command, rest @ ..] = words else {
         return None;
     };
     let options = read_options(rest)?;
-    let dir = options.dir?;
-    let asked = match (*command, options.workers) {
-        ("serve", workers) => Command::Serve(Serving {
-            workers: workers.unwrap_or(Workers::ONE),
-            has_checkpoint: options.has_checkpoint,
-            is_new: options.is_new,
-            takes_less: options.takes_less,
-        }),
-        _ if options.has_checkpoint || options.is_new || options.takes_less => return None,
-        ("check", None) => Command::Check,
-        ("script", None) => Command::Script,
-        ("new", None) => Command::New,
-        _ => return None,
+    let asked = if *command == "serve" {
+        options.dir?;
+        serving_of(options)?
+    } else {
+        command_of(command, options)?
     };
-    Some(Words { dir, asked })
+    Some(Words {
+        dir: options.dir.unwrap_or(""),
+        file: options.file.unwrap_or(""),
+        asked,
+    })
 }

@@ -18,10 +18,11 @@ const LAST_ROOM: usize = 1 << 20;
 /// A line feed, and both commit lines of a group.
 const LINE_END: usize = 167;
 
-/// A journal, and the length in bytes behind which a checkpoint is due.
+/// A journal, its first sum, and the length in bytes behind which the run stops.
 #[derive(Drop)]
 pub struct JournalLog<D: Log + Drop> {
     pub journal: Journal<D>,
+    pub first: [u8; 64],
     pub due_at: usize,
 }
 
@@ -78,16 +79,18 @@ fn mode_of(room: usize) -> Mode
 }
 
 impl<D: Log + Drop> LineLog for JournalLog<D> {
-    ghost use Rattle.std.specs.Prelude.{◌≤◌, ◌-◌, length, true, IsTrue};
+    ghost use Rattle.std.specs.Prelude.{◌≡◌, ◌≤◌, ◌-◌, [], length, true, IsTrue};
     ghost use Rattle.line_loop.specs.JournalLines.{HasLines, MayFind};
 
     ghost keeps = { true };
 
-    ghost holds = { λ l kept waiting. HasLines (D.Log.is_clean l.journal.log)
+    ghost holds = { λ l kept waiting. HasLines l.first (D.Log.is_clean l.journal.log)
         (D.Log.text l.journal.log) (D.Log.may_leave l.journal.log) l.journal.last l.journal.end
         l.journal.pending.items kept waiting };
 
-    ghost may_find = { λ l. MayFind (D.Log.may_leave l.journal.log) };
+    ghost settled = { λ l. l.journal.pending.items ≡ [] };
+
+    ghost may_find = { λ l. MayFind l.first (D.Log.may_leave l.journal.log) };
 
     ghost has_room = { λ l room. IsTrue (D.Log.is_clean l.journal.log)
         → room ≤ length (D.Log.text l.journal.log) - l.journal.end };
@@ -117,8 +120,8 @@ impl<D: Log + Drop> LineLog for JournalLog<D> {
         }
     }
 
-    fn is_due(&self) -> bool {
-        self.journal.end > self.due_at
+    fn is_due(&self, work: u128) -> bool {
+        self.journal.end > self.due_at || work > self.journal.end as u128
     }
 
     ghost found = { λ l kept waiting has. has.only };

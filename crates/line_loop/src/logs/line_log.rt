@@ -15,6 +15,9 @@ pub trait LineLog {
     /// It has kept these lines, and those wait.
     ghost holds: { Self → List (List ℕ) → List (List ℕ) → Type 0 };
 
+    /// No line waits.
+    ghost settled: { Self → Type 0 };
+
     /// After a crash at this moment a start may find these lines; or damage.
     ghost may_find: { Self → Option (List (List ℕ)) → Type 0 };
 
@@ -26,6 +29,7 @@ pub trait LineLog {
         ensures ok { OnOk result ((kept waiting : List (List ℕ)) → holds self.old kept waiting
             → holds self.new kept waiting) }
         ensures room { IfOk result (λ mode. has_room self.new (room_of mode)) }
+        ensures settled { settled self.old → OnOk result (settled self.new) }
         ensures crash { (kept waiting : List (List ℕ)) → holds self.old kept waiting
             → FindsOnly kept (may_find self.new) }
         ensures error { IfErr result (EndsAnswering keeps) };
@@ -48,12 +52,14 @@ pub trait LineLog {
     fn commit(&mut self) -> Result<(), RunError>
         ensures ok { OnOk result ((kept waiting : List (List ℕ)) → holds self.old kept waiting
             → holds self.new (kept ++ waiting) []) }
+        ensures settled { OnOk result (settled self.new) }
         ensures crash { (kept waiting : List (List ℕ)) → holds self.old kept waiting
             → FindsEither kept (kept ++ waiting) (may_find self.new) }
         ensures error { IfErr result (EndsAnswering keeps) };
 
-    /// Returns whether a checkpoint is due, so that the run stops and the log is made shorter.
-    fn is_due(&self) -> bool
+    /// Returns whether a checkpoint is due, so that the run stops and the log is made shorter: the log
+    /// is long, or a start takes longer for this work than for the bytes of the log.
+    fn is_due(&self, work: u128) -> bool
         ensures { result ≡ true → IsTrue keeps };
 
     /// What it keeps is found whatever comes, and nothing else.

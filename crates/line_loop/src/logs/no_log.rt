@@ -13,6 +13,8 @@ impl LineLog for NoLog {
 
     ghost holds = { λ _ _ _. ⊤ };
 
+    ghost settled = { λ _. ⊤ };
+
     ghost may_find = { λ _ _. ⊥ };
 
     ghost has_room = { λ _ _. ⊤ };
@@ -33,7 +35,7 @@ impl LineLog for NoLog {
         Ok(())
     }
 
-    fn is_due(&self) -> bool {
+    fn is_due(&self, _work: u128) -> bool {
         false
     }
 

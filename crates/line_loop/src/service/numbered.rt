@@ -112,6 +112,10 @@ impl<S: Service + Drop> Service for Numbered<S> {
         })
     }
 
+    fn work(&self) -> u128 {
+        self.service.work()
+    }
+
     fn refuse(&mut self, line: &[u8]) -> Option<Self::ReplyText> {
         let number = self.count();
         let reply = self.service.refuse(line);

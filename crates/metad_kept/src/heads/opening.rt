@@ -5,7 +5,8 @@ ghost use Rattle.journal.specs.Crashes.{Only};
 use crate::finding::FIRST;
 use crate::heads::looking::unknown;
 use journal::{
-    Active, JournalError, JournalFile, Log, Notes, Paged, check, has_head, read_page, reads_page,
+    Active, JournalError, JournalFile, Log, Notes, Paged, check, has_head, hides_note, read_page,
+    reads_page,
 };
 use sqlite_disk::Disk;
 use std::alloc::Global;
@@ -18,7 +19,8 @@ pub struct Head<L: Log + Drop> {
     pub has_page: bool,
 }
 
-/// What the page of a file that counts says, if it has one.
+/// What the page of a file that counts says, if it has one. A file of format 1 in which a note
+/// stands where its text begins is damaged: it has a page, and its first line says otherwise.
 pub fn read_head<L: Log + Drop>(
     alloc: Global,
     log: L,
@@ -29,6 +31,8 @@ pub fn read_head<L: Log + Drop>(
     let mut log = log;
     let notes = if has_page {
         read_page(alloc, &mut log)?
+    } else if hides_note(alloc, &mut log)? {
+        return Err(JournalError::Damaged);
     } else {
         unknown().notes
     };

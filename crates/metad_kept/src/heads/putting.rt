@@ -33,6 +33,19 @@ pub fn new_card<R: RandomSource>(source: &R) -> io::Result<Note> {
     })
 }
 
+/// The card of a store's first file. If a witness stands beside it, as where a load was cut off, the
+/// store has that one's identity.
+pub fn card_beside<R: RandomSource>(source: &R, witness: Option<Note>) -> io::Result<Note> {
+    let card = new_card(source)?;
+    let Some(witness) = witness else {
+        return Ok(card);
+    };
+    let identity = witness.identity;
+    let card = Note { identity, ..card };
+    let sum = first_sum(card);
+    Ok(Note { sum, ..card })
+}
+
 /// Puts a witness into a file that doesn't count, and gives its disk back. A file of format 1 has no
 /// place for it.
 pub fn put_witness<D: Disk + Drop, C: Selector>(

@@ -2,7 +2,7 @@
 
 use crate::heads::{Other, unknown};
 use crate::plain_file::{PlainError, PlainFile, has_bytes};
-use journal::{JournalError, read_page};
+use journal::{JournalError, hides_note, read_page};
 
 // A file that doesn't count, whose head can't be read.
 fn unread() -> Other {
@@ -25,10 +25,14 @@ pub fn look(rt: &HostRuntime, path: &str) -> Result<Other, JournalError> {
     };
     let is_old = !file.has_page;
     if is_old {
-        return Ok(Other {
-            is_old,
-            ..unknown()
-        });
+        return match hides_note(rt.alloc(), &mut file) {
+            Ok(false) => Ok(Other {
+                is_old,
+                ..unknown()
+            }),
+            Err(JournalError::OutOfMemory) => Err(JournalError::OutOfMemory),
+            Ok(true) | Err(_) => Ok(unread()),
+        };
     }
     match read_page(rt.alloc(), &mut file) {
         Ok(notes) => Ok(Other { notes, ..unknown() }),

@@ -1,5 +1,6 @@
 //! The lines of a journal, as a script that `metad run` answers.
 
+use crate::finding::count_in;
 use journal::{JournalError, Log, Reader, Sound, cut_line, is_commit, read_lines};
 use std::alloc::Global;
 use std::io::Write;
@@ -18,19 +19,29 @@ impl From<JournalError> for ScriptError {
     }
 }
 
+/// Where the lines of a file begin and end, and where its checkpoint ends, or 0.
+#[derive(Clone, Copy)]
+pub struct Extent {
+    pub first: [u8; 64],
+    pub checkpoint: usize,
+    pub sound: Sound,
+}
+
+// Writes bytes.
+fn put<W: Write>(writer: &mut W, bytes: &[u8]) -> Result<(), ScriptError> {
+    match writer.write_all(bytes) {
+        Ok(()) => Ok(()),
+        Err(_) => Err(ScriptError::WriteFailed),
+    }
+}
+
 // Writes a line and its line feed, where it is no commit line.
 fn write_line<W: Write>(writer: &mut W, line: &[u8]) -> Result<(), ScriptError> {
     if is_commit(line) {
         return Ok(());
     }
-    match writer.write_all(line) {
-        Ok(()) => {}
-        Err(_) => return Err(ScriptError::WriteFailed),
-    }
-    match writer.write_all(b"\n") {
-        Ok(()) => Ok(()),
-        Err(_) => Err(ScriptError::WriteFailed),
-    }
+    put(writer, line)?;
+    put(writer, b"\n")
 }
 
 // Writes the lines of a block.
@@ -60,38 +71,72 @@ fn write_block<W: Write>(
     write_lines(writer, block)
 }
 
-// Whether a reader is where a journal was found to end.
-fn is_there(reader: &Reader, sound: &Sound) -> bool {
+/// Whether a reader is where a journal was found to end.
+pub fn is_there(reader: &Reader, sound: &Sound) -> bool {
     match reader.end() {
         Ok(end) => end.end == sound.end && end.last == sound.last,
         Err(_) => false,
     }
 }
 
-/// Writes the lines that stand before a place, by the first sum of the file and the last one that
-/// was found there.
-pub fn write_script<D: Log, W: Write>(
-    alloc: Global,
-    first: &[u8; 64],
+// Writes the lines from one place up to another, and answers how many they are.
+fn write_part<D: Log, W: Write>(
     log: &mut D,
-    sound: &Sound,
+    reader: &mut Reader,
+    from: usize,
+    till: usize,
+    block: &mut Vec<u8>,
     writer: &mut W,
-) -> Result<(), ScriptError> {
-    let mut block: Vec<u8> = Vec::new(alloc);
-    let mut reader = Reader::new(alloc, first);
-    let mut at = 0usize;
+) -> Result<u64, ScriptError> {
+    let mut count = 0u64;
+    let mut at = from;
     'writing: for _ in 0..u64::MAX {
-        if at >= sound.end {
+        if at >= till {
             break;
         }
-        let next = read_lines(log, at, sound.end, &mut block)?;
+        let next = read_lines(log, at, till, block)?;
         if next <= at {
             return Err(ScriptError::Renewed);
         }
-        write_block(writer, &mut reader, &block)?;
+        write_block(writer, reader, block)?;
+        count = count.saturating_add(count_in(block));
         at = next;
     }
-    if !is_there(&reader, sound) {
+    Ok(count)
+}
+
+// Writes the line that ends a checkpoint of so many lines.
+fn write_end<W: Write>(alloc: Global, writer: &mut W, count: u64) -> Result<(), ScriptError> {
+    match format!(in alloc; "end {count}\n") {
+        Ok(line) => put(writer, line.as_bytes()),
+        Err(_) => Err(ScriptError::Journal(JournalError::OutOfMemory)),
+    }
+}
+
+// Whether a file has a whole checkpoint.
+fn has_checkpoint(extent: &Extent) -> bool {
+    extent.checkpoint > 0 && extent.checkpoint <= extent.sound.end
+}
+
+/// Writes the lines of a file, by its first sum and the last one that was found there. A line `end N`
+/// stands behind those of its checkpoint.
+pub fn write_script<D: Log, W: Write>(
+    alloc: Global,
+    extent: &Extent,
+    log: &mut D,
+    writer: &mut W,
+) -> Result<(), ScriptError> {
+    let mut block: Vec<u8> = Vec::new(alloc);
+    let mut reader = Reader::new(alloc, &extent.first);
+    let end = extent.sound.end;
+    let mut from = 0usize;
+    if has_checkpoint(extent) {
+        from = extent.checkpoint;
+        let count = write_part(log, &mut reader, 0, from, &mut block, writer)?;
+        write_end(alloc, writer, count)?;
+    }
+    let _count = write_part(log, &mut reader, from, end, &mut block, writer)?;
+    if !is_there(&reader, &extent.sound) {
         return Err(ScriptError::Renewed);
     }
     match writer.flush() {

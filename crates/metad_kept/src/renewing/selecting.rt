@@ -5,16 +5,17 @@ use crate::files::{Counting, Spare, Text, telling};
 use crate::names::OwnNames;
 use crate::renewing::noting::with_note;
 use crate::renewing::writing::Written;
+use crate::starting::progress::Progress;
 use crate::telling_file::TellingFile;
 use journal::{Active, Journal, JournalError, JournalFile, Log, Paged, Standby, WITNESS, select};
-use kept_run::RunError;
+use line_loop::RunError;
 use sqlite_disk::Disk;
 
 // How a run ends that can't select a file.
 fn select_error(error: JournalError) -> RunError {
     match error {
         JournalError::OutOfMemory => RunError::OutOfMemory,
-        _ => RunError::JournalFailed,
+        _ => RunError::LogFailed,
     }
 }
 
@@ -37,6 +38,7 @@ fn watched<D: Disk + Drop>(
     rt: &HostRuntime,
     names: OwnNames,
     is_second: bool,
+    progress: Progress,
     journal: Journal<Text<D>>,
 ) -> Counting<D>
     requires { journal.pending.items ≡ [] }
@@ -44,7 +46,7 @@ fn watched<D: Disk + Drop>(
 {
     let last = journal.last;
     Journal {
-        log: telling(rt, names, is_second, journal.log),
+        log: telling(rt, names, is_second, progress, journal.log),
         last,
         end: journal.end,
         pending: journal.pending,
@@ -60,14 +62,22 @@ pub fn select_second<D: Disk + Drop>(
     requires { second.journal.pending.items ≡ [] }
     ensures { IfOk result (λ both. both.0.pending.items ≡ []) }
 {
-    let TellingFile { names, log, .. } = first.log;
+    let TellingFile {
+        names,
+        log,
+        progress,
+        ..
+    } = first.log;
     let mut disk = log.into_log().into_disk();
     match select(&mut disk, true) {
         Ok(()) => {}
         Err(error) => return Err(select_error(error)),
     }
     let journal = mark(rt, second)?;
-    Ok((watched(rt, names, true, journal), Spare::First(disk)))
+    Ok((
+        watched(rt, names, true, progress, journal),
+        Spare::First(disk),
+    ))
 }
 
 /// Lets the first file count, which has the checkpoint, in place of the second.
@@ -101,10 +111,11 @@ pub fn select_first<D: Disk + Drop>(
     let TellingFile {
         names,
         log: own,
+        progress,
         ..
     } = second.log;
     Ok((
-        watched(rt, names, false, journal),
+        watched(rt, names, false, progress, journal),
         Spare::Second(own.into_log().into_disk()),
     ))
 }

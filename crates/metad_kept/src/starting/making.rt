@@ -3,7 +3,7 @@ ghost use Rattle.std.specs.Prelude.{IfOk};
 
 use crate::ending::{not_fit, not_opened, not_read, not_started};
 use crate::heads::{
-    Head, NoHeads, Unfit, make_ready, new_card, open_head, put_card, put_witness, take_unmade,
+    Head, NoHeads, Unfit, card_beside, make_ready, open_head, put_card, put_witness, take_unmade,
     unknown,
 };
 use crate::names::{Names, make_private};
@@ -64,8 +64,8 @@ fn put_notes<D: Disk + Drop>(
     }
 }
 
-// A first file with a head, which is made where it has none.
-fn make_head<D: Disk + Drop>(
+/// A first file with a head, which is made where it has none.
+pub fn make_head<D: Disk + Drop>(
     rt: &HostRuntime,
     names: Names<'_>,
     disk: D,
@@ -98,12 +98,13 @@ fn make_first<D: Disk + Drop>(
             db: first,
         });
     }
+    let witness = head.notes.witness;
     let unmade = match take_unmade(rt.alloc(), head) {
         Ok(Some(log)) => log,
         Ok(None) => return Err(not_fit(rt, names, false, Unfit::NoCard)),
         Err(error) => return Err(not_read(rt, names.first, error)),
     };
-    let Ok(card) = new_card(rt) else {
+    let Ok(card) = card_beside(rt, witness) else {
         return Err(tell(rt, Fault::ReadFailed));
     };
     put_notes(rt, names, card, unmade, second)

@@ -4,8 +4,6 @@ use Rattle.kept_store.proofs.laws.restarts_join.Goals as goal
 -- what a start finds after the second call it finds of both
 pub returns : goal.returns
 returns g c = record {
-  joined = λ first first2 old from mid before contents contents2 begun piece unread left left2 log
-      last end file one other.
-      finds_both first old from mid before begun unread _ _ last end contents piece left one first2
-      contents2 left2 file other;
+  joined = λ start mid contents contents2 piece left left2 log found one other.
+      finds_both start mid contents piece left _ one contents2 left2 found other;
 }

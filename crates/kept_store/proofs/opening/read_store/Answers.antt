@@ -1,7 +1,7 @@
 use Rattle.std.proofs.Common.{◌∙◌, ap, ℕ, List, take, length}
 use Rattle.meta_types.specs.Rows.{State}
 use Rattle.journal.specs.Reading.{found}
-use Rattle.kept_run.specs.Runs.{lines_of}
+use Rattle.line_loop.specs.JournalLines.{lines_of}
 use Rattle.kept_store.specs.Replays.{store_after, requests_in}
 use Rattle.kept_store.proofs.Replayed.{requests_in-journal}
 use Rattle.kept_store.proofs.opening.read_store.Goals as goal

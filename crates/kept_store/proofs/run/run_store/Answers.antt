@@ -1,7 +1,12 @@
-use Rattle.kept_store.proofs.Restarts.{finds_again}
+use Rattle.kept_store.proofs.Restarts.{keeps_store}
+use Rattle.kept_store.proofs.Stopping.{where_well, where_unread}
 use Rattle.kept_store.proofs.run.run_store.Goals as goal
 
-pub returns-clause-finds : goal.returns-clause-finds
-returns-clause-finds g c first groups clean has replayed file left =
-    finds_again first groups c.args.store.now _ _ _ _ _ _ replayed
-    (c.run_kept.ensures.kept first groups clean has) file left
+pub returns-clause-kept : goal.returns-clause-kept
+returns-clause-kept g c kept has = keeps_store _ _ _ _ (c.run_lines.ensures.kept kept has)
+
+pub returns-clause-settled : goal.returns-clause-settled
+returns-clause-settled g c = where_well c.run_lines.result _ c.run_lines.ensures.settled
+
+pub returns-clause-unread : goal.returns-clause-unread
+returns-clause-unread g c = where_unread c.run_lines.result _ c.run_lines.ensures.settled

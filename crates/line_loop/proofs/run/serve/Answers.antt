@@ -9,6 +9,7 @@ serving-init g c = record {
   runs = λ kept has. runs_begun _ _ _ _ has c.requires.ready.replies_wait c.requires.ready.begun;
   answers = λ kept has. pauses_begun _ _ _ has c.requires.ready.begun;
   goes = ([], Consumes-none _);
+  settled = λ settled. settled;
   ready = c.requires.ready;
 }
 
@@ -93,6 +94,7 @@ serving-preserved g c = record {
     c.serving.invariant.goes.0 ++ take c.in_ok-count.count c.read_block.new.block.items,
     Consumes-append _ _ _ _ _ c.serving.invariant.goes.1 c.in_ok-count.ensures.bytes.0,
   );
+  settled = λ settled. c.in-Ok-feed.ensures.settled;
   ready = record {
     begun = c.in-Ok-feed.ensures.begun c.serving.invariant.ready.begun;
     replies_wait = c.in-Ok-feed.ensures.empty;
@@ -107,3 +109,24 @@ returns-clause-kept g c kept has =
 
 pub returns-clause-answers : goal.returns-clause-answers
 returns-clause-answers g c kept has = c.serving.invariant.answers kept has
+
+-- no line waits where it stops
+pub returns-in_err-count-clause-settled : goal.returns-in_err-count-clause-settled
+returns-in_err-count-clause-settled g c =
+    stopped_reading c.from_residual.result _ _ c.from_residual.ensures.1
+    c.in_err-count.ensures.error c.serving.invariant.settled
+
+pub returns-in-Err-clause-settled : goal.returns-in-Err-clause-settled
+returns-in-Err-clause-settled g c = not_stopped _ _ _ c.in-Err.ensures.error
+
+pub returns-in-Ok-clause-settled : goal.returns-in-Ok-clause-settled
+returns-in-Ok-clause-settled g c settled = c.in-Ok.ensures.settled
+
+pub returns-in-Err-feed-clause-settled : goal.returns-in-Err-feed-clause-settled
+returns-in-Err-feed-clause-settled g c = not_stopped _ _ _ c.in-Err-feed.ensures.error
+
+pub returns-then-is_due-clause-settled : goal.returns-then-is_due-clause-settled
+returns-then-is_due-clause-settled g c settled = c.in-Ok-feed.ensures.settled
+
+pub returns-clause-settled : goal.returns-clause-settled
+returns-clause-settled g c = c.serving.invariant.settled

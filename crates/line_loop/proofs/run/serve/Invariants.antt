@@ -22,6 +22,7 @@ invariant-serving g l = record {
       (g.R.Read.remaining l.reader) (g.L.LineLog.holds l.log);
   goes : (read : List ℕ)
       × Consumes (g.R.Read.remaining l.fn.reader) (g.R.Read.remaining l.reader) read;
+  settled : g.L.LineLog.settled l.fn.log → g.L.LineLog.settled l.log;
   ready : IsReady l.buffers.block.items l.buffers.waiting.line.items
       l.buffers.waiting.replies.items;
 }

@@ -1,7 +1,19 @@
+use Rattle.std.proofs.Common.{◌∙◌, sym, subst}
+use Rattle.meta_types.specs.Rows.{State}
+use Rattle.scripts.specs.ReplyTexts.{reply_bytes}
+use Rattle.kept_store.specs.Replays.{LineSteps}
 use Rattle.kept_store.proofs.Stepping.{answered_steps}
 use Rattle.kept_store.proofs.store.KeptStore.reply.Goals as goal
 
+-- the rows that were counted are no part of the store
 pub returns-clause-ok : goal.returns-clause-ok
 returns-clause-ok g c =
-    answered_steps c.args.self.now _ c.args.line.now c.in_ok-answered.answered.reply
-    c.in_ok-answered.answered.changes c.in_ok-answered.ensures.ok c.in_ok-answered.ensures.changes
+    let executed = c.in_ok-executed.executed in
+    subst (λ (s : State). LineSteps c.args.self.now c.args.line.now (reply_bytes executed.reply)
+    executed.changes s) (sym c.count_rows.ensures)
+    (answered_steps c.args.self.now _ c.args.line.now executed.reply executed.changes
+    c.in_ok-executed.ensures.ok c.in_ok-executed.ensures.changes)
+
+pub returns-clause-report : goal.returns-clause-report
+returns-clause-report g c report =
+    c.count_rows.ensures ∙ c.in_ok-executed.ensures.report report

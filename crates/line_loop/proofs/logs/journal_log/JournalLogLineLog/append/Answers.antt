@@ -9,7 +9,7 @@ returns-in-Ok-clause-ok g c kept waiting has =
     c.push.new.self.pending.items has.each has.waits told.0
     (told.1 ∙ append_assoc c.args.self.now.journal.pending.items c.args.line.now (10 ∷ [])) in
     rw (c.push.ensures.same.0, c.push.ensures.same.1, c.push.ensures.same.2)
-    (has_lines _ _ _ _ _ _ has.groups kept _ has.reads has.has has.is more.0 more.1)
+    (has_lines _ _ _ _ _ _ _ has.groups kept _ has.reads has.has has.is more.0 more.1)
 
 pub returns-in-Ok-clause-crash : goal.returns-in-Ok-clause-crash
 returns-in-Ok-clause-crash g c kept waiting has = rw c.push.ensures.same.0 has.only
