@@ -23,7 +23,7 @@ def calls_of(path):
         number, file, place, count, result = HEAD.unpack_from(text, at)
         at += HEAD.size
         kind = chr(number)
-        length = {"o": count, "O": count, "w": max(result, 0), "I": max(result, 0)}.get(kind, 0)
+        length = {"o": count, "O": count, "r": count}.get(kind, max(result, 0) if kind in "wI" else 0)
         data = text[at : at + length]
         at += length
         if kind == "o":
@@ -47,9 +47,10 @@ def cut(text, size):
 class Disk:
     """The files of a store as they are synced, and what was asked of them since."""
 
-    def __init__(self, files):
+    def __init__(self, files, names=NAMES):
+        self.names = names
         self.synced = dict(files)
-        self.waiting = {name: [] for name in NAMES}
+        self.waiting = {name: [] for name in names}
         self.replies = 0
 
     def takes(self, call):
@@ -83,7 +84,7 @@ class Disk:
         """The files that a crash leaves now, in one way."""
         return {
             name: text
-            for name in NAMES
+            for name in self.names
             for text in [self.left(name, parts(self.waiting[name], chance, way))]
             if text is not None
         }

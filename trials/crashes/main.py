@@ -10,6 +10,7 @@ from concurrent.futures import ThreadPoolExecutor
 TOP = os.path.dirname(os.path.dirname(os.path.dirname(os.path.abspath(__file__))))
 sys.path.insert(0, os.path.join(TOP, "trials", "kept"))
 
+import moves  # noqa: E402 (the path above)
 from images import Disk, WAYS, calls_of, files_of, write_files  # noqa: E402 (the path above)
 from stores import (  # noqa: E402
     JOURNAL, NO_MEMORY, TEXT, WHEN, Client, Model, Told, any_line, journal_of, line_of, long_line,
@@ -22,6 +23,8 @@ RECORDER = os.environ["RECORDER"]
 IMAGES = 300
 AGAIN = 8  # of so many images, one is of a recovery that is cut itself
 KILLED = -9
+# a small store (small.py) has neither word
+MOVES = () if os.environ["METAD_KEPT"].endswith("small.py") else (moves.Load, moves.Backup)
 # what a call may do, by the kind of call
 FAILURES = {
     "w": ("eio", "full", "short", "before", "half", "after"),
@@ -163,6 +166,9 @@ def image(works, number, seed):
     work, way = chance.choice(works), chance.choice(WAYS)
     with tempfile.TemporaryDirectory(prefix="metad-crashes-") as top:
         folder = os.path.join(top, "store")
+        if isinstance(work, moves.Moved):
+            work.image(folder, chance, way, "image %d of seed %d" % (number, seed))
+            return
         files, least = work.crash(chance, way)
         write_files(folder, files)
         if number % AGAIN == 0:
@@ -219,6 +225,26 @@ def count_of(work, kind, top):
     return count
 
 
+def fails_moved(work, kind, how, at):
+    """A load or a backup in which one call fails."""
+    with tempfile.TemporaryDirectory(prefix="metad-crashes-") as top:
+        work.fails_once(os.path.join(top, "moved"), kind, how, at)
+
+
+def failing_runs(pool, works, moved, top):
+    """Runs in each of which one call fails in one way."""
+    tasks = []
+    for work in works[:1] + works[3:4]:
+        for kind, ways in FAILURES.items():
+            for at in range(1, count_of(work, kind, top) + 1):
+                tasks += [pool.submit(fails_once, work, kind, how, at) for how in ways]
+    for work in moved:
+        for kind, ways in moves.FAILURES.items():
+            for at in range(1, work.count_of(kind, top) + 1):
+                tasks += [pool.submit(fails_moved, work, kind, how, at) for how in ways]
+    return tasks
+
+
 def main():
     """Judges the images; status 1 where anything was wrong."""
     images = int(sys.argv[1]) if len(sys.argv) > 1 else IMAGES
@@ -228,18 +254,15 @@ def main():
         names = ("first start", "mixed lines", "growth", "checkpoint", "checkpoint back")
         works = [Workload(os.path.join(top, "store%d" % at), name, seed)
                  for at, name in enumerate(names)]
+        lines = moves.lines_of(random.Random("moved %d" % seed), mixed)
+        moved = [of(top, lines, QUESTIONS).recorded(RECORDER) for of in MOVES]
         with ThreadPoolExecutor(os.cpu_count()) as pool:
-            tasks = [pool.submit(image, works, number, seed) for number in range(images)]
-            failing = 0
-            for work in works[:1] + works[3:4]:
-                for kind, ways in FAILURES.items():
-                    for at in range(1, count_of(work, kind, top) + 1):
-                        tasks += [pool.submit(fails_once, work, kind, how, at) for how in ways]
-                        failing += len(ways)
-            for task in tasks:
+            tasks = [pool.submit(image, works + moved, number, seed) for number in range(images)]
+            failing = failing_runs(pool, works, moved, top)
+            for task in tasks + failing:
                 task.result()
     print("crashes: %d images, %d runs with a failed call, %d tried, %d wrong, %.0f s"
-          % (images, failing, Told.tried, Told.wrong, time.monotonic() - began))
+          % (images, len(failing), Told.tried, Told.wrong, time.monotonic() - began))
     return 1 if Told.wrong else 0
 
 

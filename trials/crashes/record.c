@@ -1,9 +1,10 @@
 /* A recorder of calls: it is loaded before a program, and writes what the program asks of the files
-   that are named *.journal and *.journal-wal, and what it writes to its standard output, to the file
-   RECORD, in order: a head of five numbers of eight bytes (kind, file, place, count, result) and
-   the bytes. Kinds: 'o' a file was opened (its path follows), 'w' written, 's' synced, 'f' a sync
-   failed, 't' cut or grown, 'd' a folder was synced, 'I' bytes came from the standard input, 'O'
-   bytes go out; they are recorded before they go.
+   that are named *.journal, *.journal-wal, *.backup and *.backup.part, and what it writes to its
+   standard output, to the file RECORD, in order: a head of five numbers of eight bytes (kind, file,
+   place, count, result) and the bytes. Kinds: 'o' a file was opened (its path follows), 'w' written,
+   's' synced, 'f' a sync failed, 't' cut or grown, 'r' renamed (its new path follows), 'd' a folder
+   was synced, 'I' bytes came from the standard input, 'O' bytes go out; they are recorded before
+   they go.
    FAIL_AT=N lets the Nth call of a kind in FAIL_ON fail, counting from 1, in the way of FAIL_HOW:
    eio, full, short (half is written), lost (a sync that fails, after which all that was written
    since the last sync is gone), before, half or after (the program ends there).
@@ -25,7 +26,7 @@ extern long syscall(long number, ...);
 
 enum { READ = 0, WRITE = 1, SEEK = 8, PREAD = 17, PWRITE = 18, WRITEV = 20, GETPID = 39, FSYNC = 74,
        FDATASYNC = 75, FTRUNCATE = 77, READLINK = 89, KILL = 62, OPENAT = 257, CLOSE = 3,
-       FCNTL = 72 };
+       FCNTL = 72, RENAMEAT = 264 };
 enum { FROM_HERE = 1, FROM_END = 2, IN_FOLDER = -100, ADDED_NEW = 01 | 0100 | 01000 | 02000,
        CLOSED_BY_EXEC = 1030, NO_SPACE = 28, FAILED = 5, KILLED = 9 };
 enum { HIGH = 200 };
@@ -82,7 +83,8 @@ static int ends_with(const char *path, long length, const char *end) {
 }
 
 static int is_name(const char *path, long length) {
-    return ends_with(path, length, ".journal") || ends_with(path, length, ".journal-wal");
+    return ends_with(path, length, ".journal") || ends_with(path, length, ".journal-wal")
+        || ends_with(path, length, ".backup") || ends_with(path, length, ".backup.part");
 }
 
 static int is_journal(int file) {
@@ -252,3 +254,15 @@ int openat(int folder, const char *path, int flags, int mode) {
 int openat64(int folder, const char *path, int flags, int mode) {
     return open_by(folder, path, flags, mode);
 }
+
+int renameat(int folder, const char *path, int other, const char *to) {
+    begin();
+    if (fails('r') && (is("eio") || is("full"))) return (int)refused();
+    int done = (int)syscall(RENAMEAT, folder, path, other, to);
+    int error = *__errno_location();
+    note('r', 0, 0, (long)strlen(to), done, to, (long)strlen(to));
+    *__errno_location() = error;
+    return done;
+}
+
+int rename(const char *path, const char *to) { return renameat(IN_FOLDER, path, IN_FOLDER, to); }

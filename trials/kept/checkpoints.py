@@ -25,6 +25,7 @@ STORMS = 8  # scripts that are sent to their end through runs that are cut
 ROWS = 620000  # additions of content that take more than 64 MiB of a journal
 SPARES = 2000  # objects of each kind that no row has, as a checkpoint finds them
 TAKEN = b"a checkpoint of"
+BEGINS, ENDS = b"a checkpoint begins, of a journal of", b"clients waited"
 NOT_TAKEN = b"no checkpoint"
 
 
@@ -52,12 +53,15 @@ def alternate(folder):
         wants("a run behind a checkpoint", done.status == 0 and done.told.count(TAKEN) == 1, done)
         wants("it answers as the model does", done.out == store.answers_of(lines), number)
         names.append(counting(folder))
-        told = b"/%s: %s" % (names[-1].encode(), TAKEN)
-        wants("the file that counts is told", told in done.told, done.told)
+        told = [b"/%s: %s" % (names[-1].encode(), it) for it in (BEGINS, ENDS, TAKEN)]
+        places = [done.told.find(it) for it in told]
+        wants("the file that counts is told, and before and after it how long clients wait",
+              -1 not in places and places == sorted(places), done.told)
         found = check(folder)
         wants("the journal is sound", found.status == 0, found)
         kept, status = script_of(folder)
-        wants("a script has its lines", (status, len(kept)) == (0, lines_told(found.out)), status)
+        wants("a script has its lines, and an end of the checkpoint's",
+              (status, len(kept)) == (0, lines_told(found.out) + 1), status)
         wants("they make the store", told_of(Model().takes(kept)) == told_of(store), number)
         same_store(folder, store, "a start has the store", number)
     wants("both files count in turn", names == [SECOND, JOURNAL] * (ROUNDS // 2), names)
@@ -307,6 +311,8 @@ def refusals(folder):
     os.remove(os.path.join(folder, SECOND))
     done = serve(folder, b"", "--checkpoint")
     wants("it is removed", done.status == 0 and TAKEN in done.told, done)
+    wants("behind a start of some MiB it is told about how long clients wait",
+          b"all clients wait, some " in done.told, done)
     same_store(folder, store, "the store is there")
 
 
@@ -320,6 +326,10 @@ def due(folder):
     wants("a checkpoint was due", done.told.count(TAKEN) == 1, done.told)
     wants("it counts", counting(folder) == SECOND)
     wants("all rows are there", lines_told(check(folder).out) >= len(lines))
+    done = serve(folder)
+    told = [done.told.find(it) for it in (b": starting for ", b": started after ")]
+    wants("a long start tells how far it is, and how long it took",
+          -1 not in told and told == sorted(told), done.told)
 
 
 def spares(folder):

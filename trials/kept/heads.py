@@ -230,6 +230,24 @@ def newer(folder):
     wants("it is left alone", journal_of(store) == text)
 
 
+def changed_digit(folder):
+    """A 2 that was changed to the 1 of format 1 is damage, also if no witness tells the only group;
+    no byte of the file is changed."""
+    store = os.path.join(folder, "digit")
+    os.mkdir(store)
+    wants("a store", serve(store).status == 0)
+    second = journal_of(store, SECOND)
+    wants("a group", serve(store, b"".join(lines_of(0, 5))).status == 0)
+    text = journal_of(store).replace(b"journal 2\n", b"journal 1\n", 1)
+    for beside in (second, journal_of(store, SECOND)):
+        put(store, {JOURNAL: text, SECOND: beside})
+        for words in ([], ["--new"], ["--accept-loss"]):
+            done = run([KEPT, "serve", "--dir", store, *words], lines_of(5, 1)[0])
+            wants("it is told", (done.status, done.out) == (3, b"") and b"damage" in done.told,
+                  words, done)
+            wants("it is left alone", journal_of(store) == text, words)
+
+
 def modes(folder):
     """Both files are their owner's alone."""
     store = os.path.join(folder, "modes")
@@ -241,6 +259,7 @@ def modes(folder):
 
 
 def all_parts():
-    for part in (told_at_each_start, pairs, stale, less, half, format_1, newer, modes):
+    for part in (told_at_each_start, pairs, stale, less, half, format_1, newer,
+                 changed_digit, modes):
         with tempfile.TemporaryDirectory(prefix="metad-kept-") as folder:
             part(folder)

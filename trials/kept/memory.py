@@ -1,4 +1,4 @@
-"""Memory that is refused: in turn, each growth of a run; and a store that ran full."""
+"""Memory that is refused: in turn, each growth of a run; a store that ran full, and its reports."""
 import os
 import resource
 import tempfile
@@ -13,6 +13,8 @@ wants = Told.wants
 
 REFILLS = 6  # runs that are filled, one behind the other
 REFUSALS = 20  # refused additions after which a client stops
+REMOVED = 12000  # rows, without which a store that ran full takes additions again
+AT_ONCE = 100  # removals that are sent at once: a line also wants memory until its block is synced
 
 
 def limit_to(megabytes):
@@ -45,12 +47,37 @@ def full(megabytes):
     print("kept: a store of %d rows starts again at %d MiB" % (added, megabytes))
 
 
+def planned(megabytes):
+    """Reports that are longer than what memory is left end no run: they are written in blocks."""
+    with tempfile.TemporaryDirectory(prefix="metad-kept-") as folder:
+        count = 3000 * megabytes
+        lines = [line_of(op="ns.add", ns="x")]
+        lines += [line_of(op="content.add", ns="x", digest="sha256:%064x" % it)
+                  for it in range(count)]
+        asked = [line_of(op="gc.plan", at=WHEN), line_of(op="ns.list"),
+                 line_of(op="content.list", ns="x"), line_of(op="gc.plan", at=WHEN),
+                 line_of(op="gc.run", at=WHEN), line_of(op="ns.list")]
+        done = limited(folder, megabytes, b"".join(lines + asked))
+        replies = done.out.splitlines(keepends=True)
+        added = replies[:len(lines)].count(DONE) - 1
+        wants("a full store answers each question", done.status == 0
+              and len(replies) == len(lines) + len(asked), megabytes, done.status, done.told)
+        wants("additions are refused at last", 0 < added < count, megabytes, added)
+        plan, run = replies[len(lines)], replies[-2]
+        wants("its plan names each row", len(plan) > 70 * added and b'"ok":true' in plan[:20],
+              megabytes, len(plan))
+        wants("a collection does so", len(run) > 70 * added and b'"ok":true' in run[:20],
+              megabytes, len(run))
+    print("kept: reports of %d rows at %d MiB" % (added, megabytes))
+
+
 def lease(word, number):
     return line_of(op="lease." + word, ns="x", id="lease-%d" % number)
 
 
 def refilled(megabytes):
-    """It starts again whenever it was filled by a client that waits for each reply."""
+    """It starts again whenever it was filled by a client that waits for each reply. If a start leaves
+    too little memory for the next one, its run refuses additions; with fewer rows they are done."""
     with tempfile.TemporaryDirectory(prefix="metad-kept-") as folder:
         number = 6000 * megabytes
         script = [line_of(op="ns.add", ns="x")] + [lease("add", it) for it in range(number)]
@@ -64,6 +91,13 @@ def refilled(megabytes):
                 number += 1
                 refused += client.ask([lease("add", number)]) == [NO_MEMORY]
             wants("the run ends well", client.ends().status == 0, megabytes, turn)
+        client, removed = Client(folder, preexec_fn=limit_to(megabytes)), []
+        for first in range(REFILLS, REFILLS + REMOVED, AT_ONCE):
+            removed += client.ask([lease("remove", first + it) for it in range(AT_ONCE)])
+        wants("rows are removed", removed == [DONE] * REMOVED, megabytes, len(removed))
+        wants("that run ends well", client.ends().status == 0, megabytes)
+        done = limited(folder, megabytes, lease("add", number + 1))
+        wants("additions are done again", (done.status, done.out) == (0, DONE), megabytes, done)
     print("kept: it starts again at %d MiB, filled %d times by who waits" % (megabytes, REFILLS))
 
 
@@ -93,8 +127,9 @@ def refused(number):
                 wants("the others are answered as without the refused line",
                       reply == store.answer(line), number, reply)
                 kept += is_logged(line, reply)
-        wants("a run goes on, or says that memory is missing", done.status == 0
-              and len(replies) == len(SCRIPT) - 1 or b"fault 7" in done.told, number, done)
+        goes_on = done.status == 0 and len(replies) == len(SCRIPT) - 1
+        wants("a run goes on, or says at its start that memory is missing", goes_on
+              or lines_told(done.told) is None and b"fault 7" in done.told, number, done)
         lines, status = script_of(folder)
         wants("a line is done and kept, or neither", status == 0 and len(lines) == kept, number,
               len(lines), kept)
@@ -121,3 +156,4 @@ def all_parts():
     for megabytes in (24, 48):
         full(megabytes)
         refilled(megabytes)
+        planned(megabytes)

@@ -95,6 +95,19 @@ def script_of(folder):
     return done.out.splitlines(keepends=True), done.status
 
 
+def load(folder, text, *words, **more):
+    """A store of a text's lines, in a folder that is there."""
+    return run([KEPT, "load", "--dir", folder, *words], text, **more)
+
+
+def backup(folder, path):
+    return run([KEPT, "backup", "--dir", folder, path])
+
+
+def check_backup(path):
+    return run([KEPT, "check", path])
+
+
 def journal_of(folder, name=JOURNAL):
     with open(os.path.join(folder, name), "rb") as file:
         return file.read()
@@ -200,9 +213,11 @@ class Model:
 
     def takes(self, lines):
         """These lines of a journal, of which each changes the store, or says which number the next
-        object of a backend has at least; itself."""
-        for line in lines:
-            if line.startswith(b"number "):
+        object of a backend has at least, or that a checkpoint ends; itself."""
+        for place, line in enumerate(lines):
+            if line.startswith(b"end "):
+                Told.wants("an end tells the lines before it", line == b"end %d\n" % place, line)
+            elif line.startswith(b"number "):
                 self.store.used = max(self.store.used, int(line.split()[1]) - 1)
             else:
                 changes = is_logged(line, self.answer(line))

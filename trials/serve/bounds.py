@@ -155,8 +155,10 @@ def turns():
     turn = TURN // len(line % 0)
     wants("they are served in turn", most <= 2 * turn + 2, most, turn)
     longest, run = 0, 0
-    for at, one in enumerate(served[: 5 * count // 2]):
-        run = run + 1 if at and one == served[at - 1] else 1
+    # until each client's first line is there, another one may have two turns, one behind the other
+    begun = max(served.index(at) for at in range(5))
+    for at in range(begun, 5 * count // 2):
+        run = run + 1 if at > begun and served[at] == served[at - 1] else 1
         longest = max(longest, run)
     wants("a turn has its bytes", turn // 2 <= longest <= turn, longest, turn)
 
