@@ -311,5 +311,8 @@ func (sn *snapshotter) noteLost(ctx context.Context, owned, keys map[string]bool
 		log.G(ctx).WithField("snapshotter", sn.name).WithField("snapshot",
 			key).Warn("a snapshot has no row: it is in lost/")
 	}
-	return sn.cleanup(ctx)
+	if !ageKnown {
+		return sn.cleanup(ctx)
+	}
+	return sn.cleanupAtStart(ctx)
 }

@@ -6,6 +6,7 @@ import (
 	"fmt"
 	"os"
 	"path/filepath"
+	"strconv"
 	"strings"
 	"testing"
 	"time"
@@ -223,6 +224,55 @@ func TestBackendThatMakesNoSnapshotLeavesNoRow(t *testing.T) {
 		t.Fatalf("%v, want the disk's error", err)
 	}
 	w.snapshotRow(false, "never")
+}
+
+// Containerd's snapshotters make a folder before they commit its name.
+func TestFolderThatACrashLeftIsInNoSnapshotsWay(t *testing.T) {
+	w := newWorld(t)
+	for number, key := range []string{"first", "second"} {
+		w.must(os.MkdirAll(w.path("native", "snapshots", strconv.Itoa(number+1), "fs"), 0700))
+		_, err := w.s.Snapshotter("native").Prepare(w.ctx, key, "")
+		w.must(err)
+		w.snapshotRow(true, key)
+	}
+}
+
+// As the test before, of the first snapshot of all: overlayfs' clean-up finds no folder until there
+// has been one.
+func TestStartRemovesWhatACrashLeftOfTheFirstSnapshot(t *testing.T) {
+	w := newOverlayWorld(t)
+	w.do(metad.Line{"op": "ns.add", "ns": "one"},
+		metad.Line{"op": "snap.prepare", "ns": "one", "snapshotter": "overlayfs", "key": "never"})
+	for _, name := range []string{"1", "new-7"} {
+		w.must(os.MkdirAll(w.path("overlayfs", "snapshots", name, "fs"), 0700))
+	}
+	w.reopen()
+	w.hasOverlayFolders(0)
+	_, err := w.s.Snapshotter("overlayfs").Prepare(w.ctx, "first", "")
+	w.must(err)
+}
+
+// Folders of a snapshotter that has lost its database may have the files of rows.
+func TestStartRemovesNoFolderThatMayHaveARow(t *testing.T) {
+	w := newOverlayWorld(t)
+	sn, ctx := w.s.Snapshotter("overlayfs"), w.lease("holder")
+	_, err := sn.Prepare(ctx, "work", "")
+	w.must(err)
+	w.must(sn.Commit(ctx, "base", "work"))
+	w.end()
+	w.must(os.Remove(w.path("overlayfs", "metadata.db")))
+	w.mustOpen()
+	w.hasOverlayFolders(1)
+}
+
+// hasOverlayFolders fails if overlayfs has another number of folders of snapshots.
+func (w *world) hasOverlayFolders(count int) {
+	w.t.Helper()
+	found, err := os.ReadDir(w.path("overlayfs", "snapshots"))
+	w.must(err)
+	if len(found) != count {
+		w.t.Fatalf("%v: want %d folders", found, count)
+	}
 }
 
 // A client that leaves in the middle of a step doesn't keep the step from its second half.

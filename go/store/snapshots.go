@@ -2,7 +2,11 @@ package store
 
 import (
 	"context"
+	"errors"
 	"fmt"
+	"io/fs"
+	"os"
+	"path/filepath"
 	"strconv"
 
 	"github.com/containerd/containerd/errdefs"
@@ -220,9 +224,22 @@ func (sn *snapshotter) createBackend(ctx context.Context, ns string, row metad.R
 		r, err := sn.s.client.Call(ctx, sn.get(row.Parent).With("ns", ns))
 		return r.Row, err
 	}, func() (err error) {
-		mounts, err = makeBackend(ctx, backendKey(row.Number, "active"), parent, inherited(base.Labels))
+		mounts, err = twice(func() ([]mount.Mount, error) {
+			return makeBackend(ctx, backendKey(row.Number, "active"), parent, inherited(base.Labels))
+		})
 		return err
 	})
+	return mounts, err
+}
+
+// twice calls makeBackend again if a folder is in its way. Containerd's snapshotters make a folder
+// before they commit its name: a crash between leaves the folder, and the next snapshot gets the
+// same folder. The call that fails for it removes it.
+func twice(makeBackend func() ([]mount.Mount, error)) ([]mount.Mount, error) {
+	mounts, err := makeBackend()
+	if errors.Is(err, fs.ErrExist) {
+		mounts, err = makeBackend()
+	}
 	return mounts, err
 }
 
@@ -354,12 +371,55 @@ func (sn *snapshotter) remove(ctx context.Context, number uint32) error {
 // cleanup removes what the backend's removals left for later. A backend that never had a snapshot
 // finds nothing.
 func (sn *snapshotter) cleanup(ctx context.Context) error {
-	c, ok := sn.Snapshotter.(snapshots.Cleaner)
-	if !ok {
-		return nil
-	}
-	if err := c.Cleanup(ctx); !errdefs.IsNotImplemented(err) && !errdefs.IsNotFound(err) {
+	if err := sn.cleanBackend(ctx); !errdefs.IsNotImplemented(err) && !errdefs.IsNotFound(err) {
 		return err
 	}
 	return nil
+}
+
+func (sn *snapshotter) cleanBackend(ctx context.Context) error {
+	c, ok := sn.Snapshotter.(snapshots.Cleaner)
+	if !ok {
+		return errdefs.ErrNotImplemented
+	}
+	return c.Cleanup(ctx)
+}
+
+// firstSnapshot names a snapshot that is made and removed at once.
+const firstSnapshot = "metad-first"
+
+// cleanupAtStart is a cleanup that also removes what a crash left of the first snapshot of all.
+// Until the backend has had a snapshot, its clean-up finds none of its folders, so it gets one for a
+// moment. If the store has a row of the backend, the backend has lost its own database, and its
+// folders stay.
+func (sn *snapshotter) cleanupAtStart(ctx context.Context) error {
+	folder := sn.s.folders.Snapshotters[sn.name]
+	if folder == "" || !errdefs.IsNotFound(sn.cleanBackend(ctx)) {
+		return sn.cleanup(ctx)
+	}
+	left, err := os.ReadDir(filepath.Join(folder, "snapshots"))
+	if err != nil || len(left) == 0 { // another layout, or nothing to remove
+		return nil
+	}
+	rows, err := sn.allRows(ctx)
+	if err != nil {
+		return err
+	}
+	for _, all := range rows {
+		if len(all) > 0 {
+			return nil
+		}
+	}
+	_, err = twice(func() ([]mount.Mount, error) {
+		return sn.Snapshotter.Prepare(ctx, firstSnapshot, "")
+	})
+	if err == nil {
+		err = sn.Snapshotter.Remove(ctx, firstSnapshot)
+	}
+	if err != nil {
+		log.G(ctx).WithError(err).WithField("snapshotter",
+			sn.name).Warn("folders that a crash left aren't removed")
+		return nil
+	}
+	return sn.cleanup(ctx)
 }

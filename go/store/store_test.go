@@ -18,6 +18,8 @@ import (
 	"github.com/containerd/containerd/namespaces"
 	"github.com/containerd/containerd/snapshots"
 	"github.com/containerd/containerd/snapshots/native"
+	"github.com/containerd/containerd/snapshots/overlay"
+	"github.com/containerd/containerd/snapshots/overlay/overlayutils"
 	"github.com/opencontainers/go-digest"
 	ocispec "github.com/opencontainers/image-spec/specs-go/v1"
 
@@ -55,15 +57,29 @@ type world struct {
 	files  *failingContent
 	native *failingSnapshotter
 	s      *Store
+
+	hasOverlay bool // whether the store has overlayfs too
+	overlay    snapshots.Snapshotter
 }
 
 func newWorld(t *testing.T) *world { return newWorldIn(t, t.TempDir()) }
 
 func newWorldIn(t *testing.T, folder string) *world {
-	w := &world{t: t, folder: folder, ctx: namespaces.WithNamespace(context.Background(), "one"),
-		now: time.Now()}
+	return begin(&world{t: t, folder: folder})
+}
+
+// newOverlayWorld is a world with overlayfs, if that is there.
+func newOverlayWorld(t *testing.T) *world {
+	if err := overlayutils.Supported(t.TempDir()); err != nil {
+		t.Skipf("overlayfs: %v", err)
+	}
+	return begin(&world{t: t, folder: t.TempDir(), hasOverlay: true})
+}
+
+func begin(w *world) *world {
+	w.ctx, w.now = namespaces.WithNamespace(context.Background(), "one"), time.Now()
 	w.mustOpen()
-	t.Cleanup(w.end)
+	w.t.Cleanup(w.end)
 	return w
 }
 
@@ -96,11 +112,16 @@ func (w *world) open(options ...Option) error {
 	}
 	w.files = &failingContent{Store: cs}
 	w.native = &failingSnapshotter{Snapshotter: sn}
+	named, folders := map[string]snapshots.Snapshotter{"native": w.native},
+		map[string]string{"native": w.path("native")}
+	if w.hasOverlay {
+		w.overlay, err = overlay.NewSnapshotter(w.path("overlayfs"))
+		w.must(err)
+		named["overlayfs"], folders["overlayfs"] = w.overlay, w.path("overlayfs")
+	}
 	options = append([]Option{func(s *Store) { s.moment = func() time.Time { return w.now } },
-		WithFolders(Folders{Content: w.path("content"),
-			Snapshotters: map[string]string{"native": w.path("native")}})}, options...)
-	w.s, err = Open(w.ctx, w.client, w.files, map[string]snapshots.Snapshotter{"native": w.native},
-		options...)
+		WithFolders(Folders{Content: w.path("content"), Snapshotters: folders})}, options...)
+	w.s, err = Open(w.ctx, w.client, w.files, named, options...)
 	if err != nil {
 		w.end()
 	}
@@ -121,6 +142,9 @@ func (w *world) end() {
 	}
 	w.client.Close()
 	w.native.Close()
+	if w.overlay != nil {
+		w.overlay.Close()
+	}
 	if w.s != nil {
 		w.s.Close()
 	}

@@ -127,8 +127,6 @@ def all_goes(daemon: Daemon, registry: Registry, snapshotters: Sequence[str],
         for tag in ('v1', 'v2', 'v3', 'v4'):
             for name in snapshotters:
                 status, text = daemon.pull(registry.ref(tag), name, ns=ns)
-                if name == 'native' and 'file exists' in text:  # a crash left a folder of its own
-                    status, text = daemon.pull(registry.ref(tag), name, ns=ns)
                 check(status == 0, 'pull at the end: ' + text[-200:])
     wrong = agree(daemon, snapshotters, NAMESPACES)
     check(not wrong, 'after all pulls: ' + wrong)
