@@ -1,5 +1,5 @@
 //! The backends of a store: shards of snapshots, blobs and ingests.
-ghost use Rattle.std.specs.Prelude.{◌≡◌, ◌+◌, [], map, IfOk, OnOk, OnErr, None, true, option_map};
+ghost use Rattle.std.specs.Prelude.{◌≡◌, ◌+◌, [], map, length, IfOk, OnOk, OnErr, None, true, option_map};
 ghost use Rattle.std.specs.List.{list_any};
 ghost use Rattle.std.specs.Option.{option_map_or};
 ghost use Rattle.meta_types.specs.Backends.{is_named};
@@ -110,6 +110,13 @@ impl<S: SnapBackend, B: BlobBackend, I: IngestBackend> Backends<S, B, I> {
             ≡ record self.old { shards = map (shown S.contents S.fails) shards.items } }
     {
         self.shards.put(shards);
+    }
+
+    /// The number of shards, those without a snapshot among them.
+    pub fn count_shards(&self) -> usize
+        ensures { result ≡ length self.now.shards }
+    {
+        self.shards.count()
     }
 
     /// The blobs.

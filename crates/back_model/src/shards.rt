@@ -1,5 +1,5 @@
 //! The snapshots of all snapshotters, a shard each.
-ghost use Rattle.std.specs.Prelude.{◌≡◌, ◌≢◌, ◌+◌, [], map, IfOk, OnOk, OnErr, None, option_map};
+ghost use Rattle.std.specs.Prelude.{◌≡◌, ◌≢◌, ◌+◌, [], map, length, IfOk, OnOk, OnErr, None, option_map};
 ghost use Rattle.meta_types.specs.Faults.{Refuses};
 ghost use Rattle.meta_types.specs.Text.{text_cmp};
 ghost use Rattle.meta_types.specs.Keys.{put_in_order};
@@ -138,6 +138,12 @@ impl<S: SnapBackend> Shards<S> {
             return Err(MakeFault::Memory);
         }
         self.make_there(alloc, snapshotter, number, parent)
+    }
+
+    pub(crate) fn count(&self) -> usize
+        ensures { result ≡ length self.now }
+    {
+        self.shards.len()
     }
 
     pub(crate) fn snaps(&self, alloc: Global) -> Result<Vec<(ShortName, u64, Option<u64>)>, Fault>

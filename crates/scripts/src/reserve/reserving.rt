@@ -18,6 +18,7 @@ pub(crate) fn stored_in<L: Ledger, K: HistoryMode>(locked: &MemLocked<L, K>) -> 
         leases: &records.leases,
         next: records.next,
         blobs: locked.count_blobs(),
+        shards: locked.count_shards(),
     }
 }
 

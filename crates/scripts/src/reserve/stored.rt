@@ -33,6 +33,8 @@ const BLOB: usize = 144;
 
 const OBJECT: usize = 176;
 
+const SHARD: usize = 1344;
+
 const LABEL: usize = 16;
 
 const RESOURCE: usize = 24;
@@ -48,17 +50,19 @@ fn bytes_for(count: u128, each: usize) -> usize {
     (count as usize).saturating_mul(each)
 }
 
-/// What a collection goes over: rows, the next backend number, and the number of blobs.
+/// What a collection goes over: rows, the next backend number, and how many blobs and shards there
+/// are.
 #[derive(Clone, Copy)]
 pub struct Stored<'a> {
     pub tables: &'a Tables,
     pub leases: &'a Leases,
     pub next: u64,
     pub blobs: usize,
+    pub shards: usize,
 }
 
-/// The bytes that a collection takes at most of these rows with one more, of these objects, and of
-/// labels and resources beside them.
+/// The bytes that a collection takes at most of these rows with one more, of these objects and
+/// shards, and of labels and resources beside them.
 pub(crate) fn bytes_of(stored: &Stored<'_>, objects: usize, beside: &Weight) -> usize {
     let counts = stored.tables.counts();
     LEAST
@@ -70,6 +74,7 @@ pub(crate) fn bytes_of(stored: &Stored<'_>, objects: usize, beside: &Weight) -> 
         .saturating_add(bytes_for(counts.snapshots, SNAPSHOT))
         .saturating_add(bytes_for(stored.leases.len(), LEASE))
         .saturating_add(stored.blobs.saturating_mul(BLOB))
+        .saturating_add(stored.shards.saturating_mul(SHARD))
         .saturating_add(objects.saturating_mul(OBJECT))
         .saturating_add(beside.labels.saturating_mul(LABEL))
         .saturating_add(beside.resources.saturating_mul(RESOURCE))

@@ -1,4 +1,4 @@
-//! The records of a store, and how many blobs it holds.
+//! The records of a store, and how many blobs and shards its backends hold.
 ghost use Rattle.std.specs.Prelude.{◌≡◌};
 
 use crate::history_mode::HistoryMode;
@@ -27,5 +27,10 @@ impl<L: Ledger, S: SnapBackend, B: BlobBackend, I: IngestBackend, K: HistoryMode
     /// How many blobs the backend holds.
     pub fn count_blobs(&self) -> usize {
         self.state.backends.blobs().digests().len()
+    }
+
+    /// The number of shards of the backend: each has the snapshots of one snapshotter.
+    pub fn count_shards(&self) -> usize {
+        self.state.backends.count_shards()
     }
 }
