@@ -1,12 +1,12 @@
 -- Which lines a store does in the mode of a run. Ours.
-use Rattle.std.specs.Prelude.{ℕ, ◌==◌, List, length, Bool, true, false, not}
+use Rattle.std.specs.Prelude.{ℕ, List, Bool, true, false, not}
 use Rattle.std.specs.Option.{option_map_or}
-use Rattle.meta_types.specs.declared.raw.RawLabel.{RawLabel}
 use Rattle.meta_types.specs.declared.request.Request.{Request}
 use Rattle.meta_types.specs.declared.request.Request.TheVariants as Q
 use Rattle.request_line.specs.Lines.{command_in}
 use Rattle.request_line.specs.declared.command.Command.{Command}
 use Rattle.request_line.specs.declared.command.Command.TheVariants as A
+use Rattle.scripts.specs.Additions.{adds_nothing}
 use Rattle.line_loop.specs.declared.mode.Mode.{Mode}
 use Rattle.line_loop.specs.declared.mode.Mode.TheVariants.{AllLines, NoAdditions, ReadOnly}
 
@@ -59,60 +59,6 @@ only_asks (Q.LeaseHold asked) = false
 only_asks (Q.LeaseDrop asked) = false
 only_asks (Q.LeaseResources lease) = true
 only_asks (Q.Profile v) = false
-
--- a label without a value is taken away
-abbrev pub takes_away : RawLabel → Bool
-takes_away label = length label.value == 0
-
--- the store is no larger after the request
-abbrev pub adds_nothing : Request → Bool
-adds_nothing (Q.NsAdd ns) = false
-adds_nothing (Q.NsRemove ns) = true
-adds_nothing Q.NsList = true
-adds_nothing (Q.ImageAdd asked) = false
-adds_nothing (Q.ImageTarget asked) = false
-adds_nothing (Q.ImageSet asked) = false
-adds_nothing (Q.ImageRemove image) = true
-adds_nothing (Q.ImageGet image) = true
-adds_nothing (Q.ImageList ns) = true
-adds_nothing (Q.ImageLabel image label) = takes_away label
-adds_nothing (Q.ContainerAdd asked) = false
-adds_nothing (Q.ContainerSet asked) = false
-adds_nothing (Q.ContainerRemove container) = true
-adds_nothing (Q.ContainerGet container) = true
-adds_nothing (Q.ContainerList ns) = true
-adds_nothing (Q.ContainerLabel container label) = takes_away label
-adds_nothing (Q.ContentAdd asked) = false
-adds_nothing (Q.ContentSet content update) = false
-adds_nothing (Q.ContentRemove content dropped_by) = true
-adds_nothing (Q.ContentGet content) = true
-adds_nothing (Q.ContentLabel content label) = takes_away label
-adds_nothing (Q.ContentList ns) = true
-adds_nothing (Q.IngestBegin asked) = false
-adds_nothing (Q.IngestOpen asked) = false
-adds_nothing (Q.IngestCommit asked) = false
-adds_nothing (Q.IngestAbort ingest dropped_by) = true
-adds_nothing (Q.IngestGet ingest) = true
-adds_nothing (Q.IngestList ns) = true
-adds_nothing (Q.SnapPrepare asked) = false
-adds_nothing (Q.SnapView asked) = false
-adds_nothing (Q.SnapCommit asked) = false
-adds_nothing (Q.SnapSet snapshot update) = false
-adds_nothing (Q.SnapRemove snapshot dropped_by) = true
-adds_nothing (Q.SnapGet snapshot) = true
-adds_nothing (Q.SnapLabel snapshot label) = takes_away label
-adds_nothing (Q.SnapList ns snapshotter) = true
-adds_nothing (Q.SnapSnapshotters ns) = true
-adds_nothing (Q.LeaseAdd asked) = false
-adds_nothing (Q.LeaseSet lease update) = false
-adds_nothing (Q.LeaseRemove lease) = true
-adds_nothing (Q.LeaseGet lease) = true
-adds_nothing (Q.LeaseLabel lease label) = takes_away label
-adds_nothing (Q.LeaseList ns) = true
-adds_nothing (Q.LeaseHold asked) = false
-adds_nothing (Q.LeaseDrop asked) = true
-adds_nothing (Q.LeaseResources lease) = true
-adds_nothing (Q.Profile v) = true
 
 -- what a line asks for never changes the store: a request that only asks, a
 -- question, or a dry run

@@ -14,13 +14,13 @@ mod doing;
 
 use crate::due::rows::rows_logged;
 use crate::due::work_of;
-use crate::replies::{refusal, refuse_line, write_error, write_said};
+use crate::replies::{refusal, refuse_line, write_error};
 use crate::store::doing::{lets_line, logs};
 use back_model::{MemBackend, MemBlobs, MemIngests};
 use line_loop::{Answered, Mode, RunError, Service};
 use meta_types::{Fault, Workers};
 use request_core::State;
-use scripts::{Answered as Executed, Fresh, LineMemory, ReplyText, execute_line};
+use scripts::{Answered as Executed, Fresh, LineMemory, ReplyText, execute_line, write_reply_text};
 use std::alloc::{AllocError, Global};
 use std::io::Write;
 use std::marker::Model;
@@ -250,7 +250,7 @@ impl<L: Ledger> Service for KeptStore<L> {
     }
 
     fn write<W: Write>(&mut self, writer: &mut W, reply: &Self::ReplyText) -> Result<(), RunError> {
-        match write_said(writer, self.alloc, &mut self.memory.block, reply) {
+        match write_reply_text(writer, self.alloc, &mut self.memory.block, reply) {
             Ok(()) => Ok(()),
             Err(fault) => Err(write_error(fault)),
         }

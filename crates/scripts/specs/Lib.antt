@@ -4,6 +4,7 @@ pub mod EventLaws
 pub mod LineSteps
 pub mod LineAnswers
 pub mod ReplyTexts
+pub mod Additions
 pub mod Changes
 pub mod Served
 pub mod Showing

@@ -22,7 +22,9 @@ mod writing;
 
 pub use answering::{answer_line, execute_line};
 pub use line_memory::LineMemory;
+pub use line_room::adds_nothing;
 pub use reply_text::{Answered, ReplyText};
 pub use reserve::{Reserve, Stored, is_listing};
 pub use script::{run_script, run_script_with};
 pub use script_store::Fresh;
+pub use writing::write_reply_text;

@@ -1,6 +1,7 @@
 //! Memory that additions leave to the lines after them.
-ghost use Rattle.std.specs.Prelude.{None};
+ghost use Rattle.std.specs.Prelude.{◌≡◌, None};
 ghost use Rattle.meta_types.specs.Faults.{Refuses};
+ghost use Rattle.scripts.specs.Additions.{takes_away, adds_nothing};
 
 use crate::reserve::{Reserve, Stored};
 use meta_types::{Fault, RawLabel, Request};
@@ -10,13 +11,16 @@ use std::alloc::Global;
 const LINE_ROOM: usize = 4096;
 
 // A label without a value is taken away.
-fn takes_away(label: &RawLabel) -> bool {
+fn takes_away(label: &RawLabel) -> bool
+    ensures { result ≡ takes_away label.now }
+{
     label.value.text().is_empty()
 }
 
-// Whether the store is no larger after a request. Of a request that isn't named here it is taken
-// that it adds.
-fn adds_nothing(request: &Request) -> bool {
+/// Whether the store is no larger after a request.
+pub fn adds_nothing(request: &Request) -> bool
+    ensures { result ≡ adds_nothing request.now }
+{
     match request {
         Request::NsRemove { .. }
         | Request::NsList
@@ -47,7 +51,24 @@ fn adds_nothing(request: &Request) -> bool {
         Request::ContentLabel(_, label) => takes_away(label),
         Request::SnapLabel(_, label) => takes_away(label),
         Request::LeaseLabel(_, label) => takes_away(label),
-        _ => false,
+        Request::NsAdd { .. }
+        | Request::ImageAdd(..)
+        | Request::ImageTarget(..)
+        | Request::ImageSet(..)
+        | Request::ContainerAdd(..)
+        | Request::ContainerSet(..)
+        | Request::ContentAdd(..)
+        | Request::ContentSet(..)
+        | Request::IngestBegin(..)
+        | Request::IngestOpen(..)
+        | Request::IngestCommit(..)
+        | Request::SnapPrepare(..)
+        | Request::SnapView(..)
+        | Request::SnapCommit(..)
+        | Request::SnapSet(..)
+        | Request::LeaseAdd(..)
+        | Request::LeaseSet(..)
+        | Request::LeaseHold(..) => false,
     }
 }
 

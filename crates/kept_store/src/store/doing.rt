@@ -1,12 +1,13 @@
 //! Which lines a store does in the mode of a run: where the log's room is short, those that add are
 //! refused, and where there is none, all that may change the store.
 ghost use Rattle.std.specs.Prelude.{◌≡◌, true};
-ghost use Rattle.kept_store.specs.Doing.{only_asks, takes_away, adds_nothing, never_changes, command_adds, lets, lets_line, logs};
+ghost use Rattle.kept_store.specs.Doing.{only_asks, never_changes, command_adds, lets, lets_line, logs};
 
 use json::Scratch;
 use line_loop::Mode;
-use meta_types::{Fault, RawLabel, Request};
+use meta_types::{Fault, Request};
 use request_line::{Command, read_line};
+use scripts::adds_nothing;
 use std::alloc::Global;
 use std::mem::drop;
 
@@ -62,68 +63,6 @@ fn only_asks(request: &Request) -> bool
         | Request::LeaseHold(..)
         | Request::LeaseDrop(..)
         | Request::Profile { .. } => false,
-    }
-}
-
-// A label without a value is taken away.
-fn takes_away(label: &RawLabel) -> bool
-    ensures { result ≡ takes_away label.now }
-{
-    label.value.text().is_empty()
-}
-
-// Whether the store is no larger after a request.
-fn adds_nothing(request: &Request) -> bool
-    ensures { result ≡ adds_nothing request.now }
-{
-    match request {
-        Request::NsRemove { .. }
-        | Request::NsList
-        | Request::ImageRemove(..)
-        | Request::ImageGet(..)
-        | Request::ImageList { .. }
-        | Request::ContainerRemove(..)
-        | Request::ContainerGet(..)
-        | Request::ContainerList { .. }
-        | Request::ContentRemove(..)
-        | Request::ContentGet(..)
-        | Request::ContentList { .. }
-        | Request::IngestAbort(..)
-        | Request::IngestGet(..)
-        | Request::IngestList { .. }
-        | Request::SnapRemove(..)
-        | Request::SnapGet(..)
-        | Request::SnapList { .. }
-        | Request::SnapSnapshotters { .. }
-        | Request::LeaseRemove(..)
-        | Request::LeaseGet(..)
-        | Request::LeaseList { .. }
-        | Request::LeaseDrop(..)
-        | Request::LeaseResources(..)
-        | Request::Profile { .. } => true,
-        Request::ImageLabel(_, label) => takes_away(label),
-        Request::ContainerLabel(_, label) => takes_away(label),
-        Request::ContentLabel(_, label) => takes_away(label),
-        Request::SnapLabel(_, label) => takes_away(label),
-        Request::LeaseLabel(_, label) => takes_away(label),
-        Request::NsAdd { .. }
-        | Request::ImageAdd(..)
-        | Request::ImageTarget(..)
-        | Request::ImageSet(..)
-        | Request::ContainerAdd(..)
-        | Request::ContainerSet(..)
-        | Request::ContentAdd(..)
-        | Request::ContentSet(..)
-        | Request::IngestBegin(..)
-        | Request::IngestOpen(..)
-        | Request::IngestCommit(..)
-        | Request::SnapPrepare(..)
-        | Request::SnapView(..)
-        | Request::SnapCommit(..)
-        | Request::SnapSet(..)
-        | Request::LeaseAdd(..)
-        | Request::LeaseSet(..)
-        | Request::LeaseHold(..) => false,
     }
 }
 
