@@ -47,6 +47,8 @@ mod Texts
 mod ThreeBytes
 mod Told
 mod Witnesses
+mod WorkedFiles
+mod WorkedSums
 mod Writing
 mod Zeroing
 mod Zeros

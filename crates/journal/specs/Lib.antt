@@ -10,3 +10,4 @@ pub mod Reading
 pub mod Reads
 pub mod Selector
 pub mod Text
+pub mod WorkedFiles

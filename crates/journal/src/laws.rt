@@ -2,6 +2,7 @@
 ghost use Rattle.journal.specs.Laws.{WhatIsWrittenIsRead, ATornGroupIsNotThere, NothingIsSkipped, AZeroIsTold, AChangeIsTold, NoiseIsTold, TheLastSumTellsAll};
 ghost use Rattle.journal.specs.Growth.{ZerosChangeNothing};
 ghost use Rattle.journal.specs.Bonds.{WhatACrashLeavesFits, AWitnessLeavesThemOne, ACardLeavesThemOne, LostNotesLeaveThemOne, AChoiceTurnsThem, WhatIsWitnessedIsFound};
+ghost use Rattle.journal.specs.WorkedFiles.{AFileHasItsGroups, TornGroupsAreLeftOut, ACrashTearsAGroup, ChangedBytesAreDamage, AChangedFileHasNoGroups, ACheckpointIsRead};
 
 /// A journal is read as it was written. If a crash lost bytes of the last group, the journal is
 /// read without that group; if the group is whole, it is read too. Neither is found as damage.
@@ -48,4 +49,16 @@ pub fn files_of_a_store_fit()
 /// a file for it that no disk damaged.
 pub fn a_witness_is_found()
     ensures found { WhatIsWitnessedIsFound }
+{}
+
+/// Small files and what is found in them, byte for byte: two groups, and a third one behind them
+/// that is whole or torn; two groups of which a byte was changed or lost; and a checkpoint with a
+/// group behind it.
+pub fn worked_files_are_read()
+    ensures groups { AFileHasItsGroups }
+    ensures torn { TornGroupsAreLeftOut }
+    ensures crash { ACrashTearsAGroup }
+    ensures changed { ChangedBytesAreDamage }
+    ensures none { AChangedFileHasNoGroups }
+    ensures checkpoint { ACheckpointIsRead }
 {}
