@@ -1,5 +1,5 @@
 //! Shards beside their plans: what the workers sweep at once.
-ghost use Rattle.std.specs.Prelude.{◌≡◌, ◌≤◌, [], length, map, filter, None, IfOk, OnOk, OnErr};
+ghost use Rattle.std.specs.Prelude.{◌≡◌, ◌<◌, ◌≤◌, [], length, map, filter, None, IfOk, OnOk, OnErr};
 ghost use Rattle.std.specs.Vec.{vec_capacity};
 ghost use Rattle.meta_types.specs.Faults.{Refuses};
 ghost use Rattle.back_model.specs.Shown.{AreApart, shown};
@@ -13,6 +13,7 @@ use crate::outcomes::Outcomes;
 use crate::parts::part_of;
 use crate::shard_plans::{ShardPlan, set_snapshots, shard_plans_of, sweep_shard_plan};
 use back_model::{Backends, BlobBackend, IngestBackend, SnapBackend};
+use gc_graph::thread_count;
 use meta_types::{Fault, ShortName};
 use std::alloc::Global;
 use std::marker::Model;
@@ -149,8 +150,20 @@ fn sweep_jobs_in_turn<S: SnapBackend>(jobs: &mut [ShardJob<S>])
     }
 }
 
+// The number of threads that sweep the shards, for this number of removals. A device may be slow, so
+// with a device each removal is worth a thread. A backend that never fails is in memory.
+fn sweeper_count<S: SnapBackend>(removals: usize, workers: usize) -> usize
+    ensures { 0 < result }
+{
+    if removals == 0 || S::never_fails() {
+        return thread_count(removals, workers);
+    }
+    workers.max(1)
+}
+
 fn sweep_jobs<R: Threads + Sync, S: SnapBackend, H: SweepGate>(
     crew: &SweepCrew<R, H>,
+    removals: usize,
     jobs: &mut [ShardJob<S>],
 )
     requires { AreReady S.contents S.fails jobs.old }
@@ -160,7 +173,7 @@ fn sweep_jobs<R: Threads + Sync, S: SnapBackend, H: SweepGate>(
     thread::for_each_mut(
         crew.rt,
         jobs,
-        crew.workers.count,
+        sweeper_count::<S>(removals, crew.workers.count),
         &|_, job: &mut ShardJob<S>|
             requires { IsReady (shown S.contents S.fails job.old.entry) job.old.shard_plan }
         { sweep_job(job, gate) },
@@ -239,13 +252,17 @@ impl<S: SnapBackend> ShardTask<S> {
         sweep_jobs_in_turn(&mut self.jobs);
     }
 
-    /// Sweeps each shard by its plan, as many at once as there are workers. Threads alone take
-    /// memory.
-    pub(crate) fn sweep<R: Threads + Sync, H: SweepGate>(&mut self, crew: &SweepCrew<R, H>)
+    /// Sweeps each shard by its plan. There are at most as many shards at once as workers, and as
+    /// this number of removals is worth. Threads alone take memory.
+    pub(crate) fn sweep<R: Threads + Sync, H: SweepGate>(
+        &mut self,
+        crew: &SweepCrew<R, H>,
+        removals: usize,
+    )
         requires { AreReady S.contents S.fails self.old }
         ensures { SweepsJobs S.contents S.fails self.old self.new }
     {
-        sweep_jobs(crew, &mut self.jobs);
+        sweep_jobs(crew, removals, &mut self.jobs);
     }
 
     /// Puts the shards back that are left, and copies each snapshot's outcome from its shard's plan.

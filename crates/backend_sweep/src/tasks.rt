@@ -151,13 +151,14 @@ fn sweep_at_once<
     let workers = crew.workers.count;
     let at_once = is_beside(plan, count, workers);
     let split = is_split(plan, if at_once { count } else { 0 }, workers);
+    let removals = plan.report.backend.snapshots.len();
     run_both(
         rt,
         at_once,
         &mut ||
             requires { IsSync R.row × IsSync H.row × AreReady S.contents S.fails task.now }
             ensures { SweepsJobs S.contents S.fails task.entry.now task.exit.now }
-        { task.sweep(crew) },
+        { task.sweep(crew, removals) },
         &mut ||
             requires { IsSync R.row × IsSend F.row × F.pre beside.now
                 × MaySweepBlobs plan.now (B.contents backend.now) (B.arrived backend.now)
@@ -172,7 +173,8 @@ fn sweep_at_once<
 }
 
 /// Sweeps each shard by its plan, blobs and ingests, and runs the task. As many shards as there are
-/// workers are swept at once, blobs and the task beside them where workers are left. Ingests are
+/// workers are swept at once, if enough snapshots go, blobs and the task beside them where workers
+/// are left. Ingests are
 /// few: the calling thread sweeps them last. No clause speaks of threads.
 pub(crate) fn sweep_tasks<
     R: Threads + Sync,

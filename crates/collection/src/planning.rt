@@ -17,9 +17,9 @@ ghost use Rattle.backend_sweep.specs.Planned.{IsPlanOf};
 
 use crate::crew::CollectionCrew;
 use backend_sweep::SweepGate;
-use gc_graph::{ListedRows, StoreRows, build};
+use gc_graph::{ListedRows, StoreRows, build, thread_count};
 use mark_core::{Graph, Marks, mark_plain};
-use meta_types::{Fault, Instant};
+use meta_types::{Fault, Instant, Workers};
 use request_core::Records;
 use std::mem::drop;
 use std::sync::Wait;
@@ -37,7 +37,8 @@ pub(crate) fn check(records: &Records) -> Result<(), Fault>
     Ok(())
 }
 
-// The marks of the reached numbers. One worker is the calling thread, and needs no deque.
+// The marks of the reached numbers, by as many workers as the nodes are worth. One worker is the
+// calling thread, and needs no deque.
 fn marks_of<R: Threads + Wait + Sync, G: Gate, H: SweepGate>(
     crew: &CollectionCrew<'_, R, G, H>,
     graph: &Graph,
@@ -47,12 +48,13 @@ fn marks_of<R: Threads + Wait + Sync, G: Gate, H: SweepGate>(
     ensures marks { IfOk result (λ m. (n : ℕ) → (bit_of m n ≡ 1) ↔ Reached graph.now n) }
 {
     let alloc = crew.alloc;
-    let workers = crew.workers.count;
-    if workers == 1 {
+    let count = thread_count(graph.edges.len(), crew.workers.count);
+    let workers = Workers::new(count).unwrap_or(Workers::ONE);
+    if workers.count == 1 {
         let marks = mark_plain(alloc, graph)?;
         return Ok(marks);
     }
-    let (marks, lists) = mark_workers(crew.rt, alloc, graph, workers, crew.gate)?;
+    let (marks, lists) = mark_workers(crew.rt, alloc, graph, workers.count, crew.gate)?;
     // For the prover: dropped by a call, not in place.
     drop(lists);
     Ok(marks)

@@ -165,9 +165,8 @@ fn ignored_of(alloc: Global, rows: &StoreRows<'_>) -> Result<Ignored, Fault>
 
 /// Numbers each ingest, and each row of content and of snapshots in both modes; and makes the graph
 /// of their references. Images, containers and leases give roots. Refused where there are more than
-/// 16,777,216 nodes. Labels of content and of snapshots are read by at most `workers` threads; with
-/// one worker, or of fewer than 2,048 rows in a slice, by the calling thread alone. No clause says
-/// by which.
+/// 16,777,216 nodes. Labels of content and of snapshots are read by at most `workers` threads, and
+/// by no more than a slice of rows is worth (`thread_count`). No clause says by which.
 pub fn build<'a>(
     rt: &(impl Threads + Sync),
     alloc: Global,

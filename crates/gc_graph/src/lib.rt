@@ -21,5 +21,6 @@ pub use build_graph::{Starts, build, find_starts};
 pub use ends::{image_stays, lease_stays};
 pub use ignored::Ignored;
 pub use node::Node;
+pub use parallel::thread_count;
 pub use roots::lease_mode;
 pub use rows::{ListedRows, RowPlaces, StoreRows};

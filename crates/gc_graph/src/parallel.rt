@@ -1,15 +1,28 @@
-//! Rows of the graph, read one by one or by several threads.
-ghost use Rattle.std.specs.Prelude.{◌≡◌, ◌<◌, ◌++◌, ℕ, List, map, None, IfOk, OnOk};
+//! Rows of the graph, read one by one or by several threads, and how many threads are worth their
+//! start.
+ghost use Rattle.std.specs.Prelude.{◌≡◌, ◌⊎◌, ◌<◌, ◌≤◌, ◌*◌, ◌++◌, ℕ, List, map, max, None, IfOk, OnOk};
 ghost use Rattle.std.specs.List.{flat_map};
 ghost use Rattle.meta_types.specs.Faults.{Refuses};
 
 use mark_core::TargetLists;
 use meta_types::Fault;
-use rayon::iter::plumbing::LEAST_PIECE;
 use rayon::prelude::*;
 use row_tables::Slices;
 use std::alloc::Global;
 use std::thread::Threads;
+
+// With 4,000 rows or nodes a thread pays for its start.
+const EACH: usize = 4_000;
+
+/// The number of threads that share this number of rows or nodes, the calling one among them: the
+/// number of workers, or less, if each thread wouldn't have enough for its start.
+pub fn thread_count(things: usize, workers: usize) -> usize
+    ensures some { 0 < result }
+    ensures bound { result ≤ max workers 1 }
+    ensures worth { (result ≡ 1) ⊎ (result * 4000 ≤ things) }
+{
+    (things / EACH).min(workers).max(1)
+}
 
 /// A reader of what rows reference in both modes.
 pub(crate) trait RowReader<T>: Sync {
@@ -98,13 +111,6 @@ fn join_flat(parts: &[(TargetLists, TargetLists)], edges: &mut TargetLists) -> R
     Ok(())
 }
 
-// How many rows a part has: there are no more parts than workers, but for a few rows left over.
-fn part_size(count: usize, workers: usize) -> usize
-    ensures { 0 < result }
-{
-    (count / workers.max(1)).max(LEAST_PIECE)
-}
-
 /// What reads rows, and how many threads may read one slice of them.
 #[derive(Drop)]
 struct Reading<'r, R> {
@@ -113,9 +119,9 @@ struct Reading<'r, R> {
     workers: usize,
 }
 
-// Adds the targets of each row of one slice, in full and in flat. The rows are read in parts by at
-// most `workers` threads, and the parts joined in order. One worker is the calling thread, and so
-// are several where there are fewer than 2,048 rows.
+// Adds the targets of each row of one slice, in full and in flat. If the slice is worth several
+// threads, they read it in parts, and the parts are joined in order; else the calling thread reads
+// it.
 fn read_slice<T: Sync, R: RowReader<T>>(
     rt: &(impl Threads + Sync),
     reading: &Reading<'_, R>,
@@ -131,11 +137,12 @@ fn read_slice<T: Sync, R: RowReader<T>>(
 {
     let alloc = reading.alloc;
     let reader = reading.reader;
-    let size = part_size(rows.len(), reading.workers);
-    if rows.len() / 2 < size {
+    let threads = thread_count(rows.len(), reading.workers);
+    if threads == 1 {
         reader.read(alloc, rows, full, flat)?;
         return Ok(());
     }
+    let size = rows.len().div_ceil(threads).max(1);
     let parts = read_parts(rt, alloc, reader, rows, size)?;
     join_full(&parts, full)?;
     join_flat(&parts, flat)?;
@@ -162,8 +169,8 @@ fn read_slices<T: Sync, R: RowReader<T>>(
     Ok(())
 }
 
-/// Adds the targets of each row in full, and then those of each in flat, slice by slice. At most
-/// `workers` threads read a slice; fewer than 2,048 rows of one the calling thread reads alone.
+/// Adds the targets of each row in full, and then those of each in flat, slice by slice. Each slice
+/// is read by as many threads as it is worth, and at most by `workers`.
 pub(crate) fn read_rows<T: Sync, R: RowReader<T>>(
     rt: &(impl Threads + Sync),
     alloc: Global,

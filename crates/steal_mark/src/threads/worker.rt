@@ -2,15 +2,17 @@
 ghost use Rattle.steal_mark.specs.Hinting.{IsHintSeat};
 ghost use Rattle.steal_mark.specs.Team.{IsKept, IsReady};
 
-use crate::shared::hints::{HintSeat, Hints, enter, is_over, leave, stop};
+use crate::shared::hints::{
+    FIRST_REST, HintSeat, Hints, enter, is_over, leave, longer, rest, stop,
+};
 use crate::turn::marker::Marker;
 use crate::turn::turn::{Gate, Turn};
 use mark_core::Graph;
 use std::sync::Wait;
-use std::thread;
 
 // Takes turns until no worker is busy, or one was refused. It counts as busy from before its start
-// until it finds nothing, and again once it finds a node.
+// until it finds nothing, and again once it finds a node. After a turn that finds nothing it rests,
+// each time longer.
 pub fn work<R: Wait, G: Gate>(
     rt: &R,
     mut marker: Marker,
@@ -24,9 +26,11 @@ pub fn work<R: Wait, G: Gate>(
     ensures kept { IsKept marker result }
 {
     let mut busy = true;
+    let mut micros = FIRST_REST;
     for _ in rt.forever() {
         match marker.turn(graph, gate) {
             Ok(Turn::Scanned(_)) => {
+                micros = FIRST_REST;
                 if !busy {
                     busy = true;
                     enter(hints, &mut seat);
@@ -38,9 +42,11 @@ pub fn work<R: Wait, G: Gate>(
                     leave(hints, &mut seat);
                 }
                 if is_over(hints, &mut seat) {
+                    stop(hints, &mut seat);
                     break;
                 }
-                thread::yield_now();
+                rest(rt, hints, &seat, micros);
+                micros = longer(micros);
             }
             Err(_) => {
                 stop(hints, &mut seat);
