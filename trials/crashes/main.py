@@ -105,6 +105,11 @@ class Workload:
                 break
         return client.ends().status, replies
 
+    def run_counted(self, folder, kind, counter):
+        """A whole run, whose calls of a kind are counted."""
+        write_files(folder, self.files)
+        self.send(folder, FAIL_ON=kind, FAIL_HOW="eio", FAIL_AT="0", COUNT=counter)
+
     def crash(self, chance, way):
         """The files that a crash leaves at any call, and how many lines were answered."""
         disk = Disk(self.files)
@@ -215,8 +220,7 @@ def count_of(work, kind, top):
     """How many calls of a kind a whole run has."""
     folder, counter = os.path.join(top, "counted"), os.path.join(top, "count")
     shutil.rmtree(folder, ignore_errors=True)
-    write_files(folder, work.files)
-    work.send(folder, FAIL_ON=kind, FAIL_HOW="eio", FAIL_AT="0", COUNT=counter)
+    work.run_counted(folder, kind, counter)
     if not os.path.exists(counter):
         return 0
     with open(counter) as file:
@@ -240,7 +244,7 @@ def failing_runs(pool, works, moved, top):
                 tasks += [pool.submit(fails_once, work, kind, how, at) for how in ways]
     for work in moved:
         for kind, ways in moves.FAILURES.items():
-            for at in range(1, work.count_of(kind, top) + 1):
+            for at in range(1, count_of(work, kind, top) + 1):
                 tasks += [pool.submit(fails_moved, work, kind, how, at) for how in ways]
     return tasks
 

@@ -1,7 +1,6 @@
 """Crashes of what moves a store: of `load`, which leaves no store or all of it; and of `backup`, which
 leaves no file of its name, or the whole one."""
 import os
-import shutil
 
 from images import Disk, calls_of, write_files
 from stores import (
@@ -49,18 +48,10 @@ class Moved:
         wants("its calls are seen", any(it.kind == "s" for it in self.calls), self.name)
         return self
 
-    def count_of(self, kind, top):
-        """How many calls of a kind a whole run has."""
-        folder, counter = os.path.join(top, "counted"), os.path.join(top, "count")
-        shutil.rmtree(folder, ignore_errors=True)
+    def run_counted(self, folder, kind, counter):
+        """A whole run, whose calls of a kind are counted."""
         os.mkdir(folder)
         self.moves(folder, self.failing(kind, "eio", 0, COUNT=counter))
-        if not os.path.exists(counter):
-            return 0
-        with open(counter) as file:
-            count = int(file.read() or 0)
-        os.remove(counter)
-        return count
 
     def failing(self, kind, how, at, **more):
         return {"LD_PRELOAD": self.recorder, "FAIL_ON": kind, "FAIL_HOW": how,
