@@ -289,6 +289,7 @@ pub(crate) fn dry_less<R: Threads + Sync>(
     }) at.0 report) }
 {
     if row.has_number() {
+        // For the prover: the result is opened, not passed on.
         let report = dry_copied(rt, alloc, records, back, row, at)?;
         return Ok(report);
     }

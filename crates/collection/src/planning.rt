@@ -51,6 +51,7 @@ fn marks_of<R: Threads + Wait + Sync, G: Gate, H: SweepGate>(
     let count = thread_count(graph.edges.len(), crew.workers.count);
     let workers = Workers::new(count).unwrap_or(Workers::ONE);
     if workers.count == 1 {
+        // For the prover: the result is opened, not passed on.
         let marks = mark_plain(alloc, graph)?;
         return Ok(marks);
     }
@@ -79,7 +80,7 @@ fn plan_rows<R: Threads + Wait + Sync, G: Gate, H: SweepGate>(
     let alloc = crew.alloc;
     let (book, graph, ignored) = build(crew.rt, alloc, rows, at, crew.workers.count)?;
     let marks = marks_of(crew, &graph)?;
-    // For the prover: dropped by a call, not in place.
+    // Frees the graph before the plan takes memory.
     drop(graph);
     let team = Team {
         rt: crew.rt,

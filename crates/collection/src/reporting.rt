@@ -60,6 +60,7 @@ fn split_into<T: Drop>(
         match outcome {
             Outcome::Removed => removed.push_reserved(name),
             Outcome::Failed => failed.push_reserved(name),
+            // For the prover: dropped by a call, not in place at the end of the round.
             Outcome::Kept => drop(name),
         }
     }

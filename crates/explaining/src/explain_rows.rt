@@ -74,6 +74,7 @@ fn last_path<'a>(
     let middle = ends.len() / 2;
     let path = first_path(alloc, rows, book, graph, question, Instant(ends[middle]))?;
     if has_none(&path) {
+        // For the prover: the result is opened, not passed on.
         let earlier = last_path(alloc, rows, book, graph, question, &ends[..middle])?;
         return Ok(earlier);
     }

@@ -46,6 +46,7 @@ impl<'a> NodeBook<'a> {
         requires lent { AreLent rows }
         ensures { result ≡ nodes_of (records_of rows.entry) }
     {
+        // For the prover: this tells that all texts are allowed, as the invariant says.
         tell_rows(&rows);
         NodeBook { rows }
     }

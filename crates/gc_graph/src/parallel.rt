@@ -76,6 +76,7 @@ fn read_parts<T: Sync, R: RowReader<T>>(
     ensures flat { IfOk result (λ parts. flat_map (λ part. part.1) parts.items
         ≡ map (R.flat_of reader.now) rows.now) }
 {
+    // For the prover: what is collected gets a name, and is then returned.
     let made = rows
         .par_chunks(size)
         .map(

@@ -78,7 +78,7 @@ fn tell_snapshots(slices: &[&[SnapRow]])
     }
 }
 
-// Tells a proof that the texts of all nodes are allowed.
+// For proofs alone: the texts of all nodes are allowed.
 pub(crate) fn tell_rows(rows: &StoreRows<'_>)
     ensures { AreAllowed (nodes_of (records_of rows.now)) }
 {

@@ -98,6 +98,7 @@ pub fn read_lines<D: Log>(
     'trying: while count < left {
         let cut = read_some(log, at, count, block)?;
         if cut > 0 {
+            // For the prover: the result is opened, not passed on.
             let next = place_of(at, cut)?;
             return Ok(next);
         }
@@ -105,6 +106,7 @@ pub fn read_lines<D: Log>(
     }
     let cut = read_some(log, at, left, block)?;
     if cut > 0 {
+        // For the prover: the result is opened, not passed on.
         let next = place_of(at, cut)?;
         return Ok(next);
     }

@@ -76,6 +76,7 @@ pub fn end_line<T: Threads + Wait + Sync, S: Service, L: LineLog>(
     ensures error { IfErr result (EndsAnswering L.keeps) }
 {
     if waiting.line.is_empty() {
+        // For the prover: the result is opened, not passed on.
         let reply = take_line(rt, service, log, waiting.mode, cut_long(piece))?;
         return Ok(reply);
     }

@@ -62,6 +62,7 @@ fn serve<T: Threads + Wait + Sync, S: Service, L: LineLog, R: Read, W: Write>(
     ensures ready { IsReady buffers.new.block.items buffers.new.waiting.line.items
         buffers.new.waiting.replies.items }
 {
+    // For the prover: a run takes in fewer blocks.
     'serving: for _ in 1..BLOCK_LIMIT {
         let count = read_block(reader, &mut buffers.block)?;
         if count == 0 {

@@ -182,7 +182,7 @@ impl<S: SnapBackend, B: BlobBackend, I: IngestBackend> State<S, B, I> {
         ensures ok { IfOk result (λ shown. TellsDone self.now.state request.now there.now shown) }
     {
         if there.is_none() {
-            let shown = self.show(alloc, request)?;
+            let shown = self.show(alloc, request)?; // for the prover: opened
             return Ok(shown);
         }
         let found = self.show_there(alloc, request)?;

@@ -251,7 +251,7 @@ fn run_named<L: Ledger, T: Threads + Wait + Sync, R: Read, W: Write>(
         kept,
     };
     let mut store = ScriptStore::<L>::open(alloc, fresh, workers)?;
-    'reads: for _ in 1..READ_LIMIT {
+    'reads: for _ in 1..READ_LIMIT { // for the prover: a run makes fewer reads
         match take_block(rt, alloc, &mut store, &mut input, reader, writer) {
             Ok(Run::GoesOn) => {}
             Ok(Run::HasEnded) => {

@@ -195,6 +195,7 @@ fn unowned(alloc: Global, blobs: &[Digest], owned: &[bool]) -> Result<Vec<Digest
 {
     let digests = Vec::with_capacity(alloc, count_removed(owned))?;
     let Ok(near) = near_unowned(alloc, blobs, owned) else {
+        // For the prover: the result is opened, not passed on.
         let digests = unowned_as_arrived(digests, blobs, owned)?;
         return Ok(digests);
     };

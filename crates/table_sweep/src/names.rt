@@ -185,7 +185,7 @@ fn content_names(
 {
     let names = Vec::with_capacity(alloc, count_removed(mask))?;
     let Ok(near) = sorted_by_prefix(alloc, rows, mask) else {
-        let names = content_as_arrived(names, rows, mask)?;
+        let names = content_as_arrived(names, rows, mask)?; // for the prover: opened
         return Ok(names);
     };
     let names = content_as_listed(names, &near)?; // for the prover: opened
@@ -303,7 +303,7 @@ fn snapshot_names(
 {
     let names = Vec::with_capacity(alloc, count_removed(mask))?;
     let Ok(near) = sorted_by_prefix(alloc, rows, mask) else {
-        let names = snapshots_as_arrived(names, rows, mask)?;
+        let names = snapshots_as_arrived(names, rows, mask)?; // for the prover: opened
         return Ok(names);
     };
     let names = snapshots_as_listed(names, &near)?; // for the prover: opened

@@ -16,7 +16,7 @@ use mark_core::Graph;
 use std::alloc::{AllocError, Global};
 use std::marker::Brand;
 
-// Shows the seat that has every part what all have claimed.
+// For proofs alone: shows the seat that has every part what all have claimed.
 pub fn learn<J: Naming>(claim_table: &ClaimTable, seat: &mut ClaimSeat)
     requires graph { J.graph ≡ Some claim_table.now.shared.key }
     requires seat { IsSeatOf claim_table.now.shared.key claim_table.now.shared.table_id seat.old }
@@ -24,16 +24,18 @@ pub fn learn<J: Naming>(claim_table: &ClaimTable, seat: &mut ClaimSeat)
     ensures same { (seat.new.table_id ≡ seat.old.table_id) × (seat.new.me ≡ seat.old.me) }
     ensures knows { Knows claim_table.now.shared.key seat.old.me.0 }
 {
+    // For the prover: a load tells the seat of all claims. The loaded word isn't needed.
     claim_table.shared.load::<Learn<J>>(seat, 0);
 }
 
-// Shows the pass that has every part that no more was taken than was pushed.
+// For proofs alone: shows the pass that has every part that no more was taken than was pushed.
 pub fn count(deque: &mut Deque)
     requires whole { (worker_view deque.old).parts ≡ 1024 }
     ensures same { worker_view deque.new ≡ worker_view deque.old }
     ensures less { (n : ℕ) → times n (worker_view deque.old).taken ≤ times n
         (worker_view deque.old).pushed }
 {
+    // For the prover: asking for the length tells the pass. The length isn't needed.
     deque.len_as::<Total>();
 }
 
@@ -71,6 +73,7 @@ pub fn drain(
         scan(claim_table, seat, deque, &mut ahead, targets)?;
         list.push_reserved(node);
     }
+    // For the prover: these two tell that no more nodes were taken than the graph has.
     learn::<Brand>(claim_table, seat);
     self::count(deque);
     unreachable!()

@@ -54,6 +54,7 @@ pub fn conclude(
     ensures lists { HoldsEachOnce graph.now (listing lists.now) }
     ensures marks { IfOk result (λ m. (n : ℕ) → (bit_of m n ≡ 1) ↔ Reached graph.now n) }
 {
+    // For the prover: this tells that each claimed node is reached, and was claimed once.
     learn::<Brand>(claim_table, seat);
     marks_of(alloc, graph, lists)
 }

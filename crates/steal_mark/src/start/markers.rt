@@ -110,6 +110,7 @@ pub fn marking(alloc: Global, graph: &Graph, workers: usize) -> Result<(Rest, Ve
         deques.as_mut_slice(),
         graph.roots.as_slice(),
     )?;
+    // For the prover: this tells the seat, which has every part, that no node was claimed twice.
     learn::<Brand>(&claim_table, &mut seat);
     let mut rows = new_rows(alloc, workers)?;
     let opened = spread_all(alloc, deques, rows.as_mut_slice(), graph)?;

@@ -29,6 +29,7 @@ fn new_deque<J: Naming>(alloc: Global, _graph: &Graph) -> Result<Deque, AllocErr
     ensures pass_view { IfOk result (λ d. worker_view d ≡ pass_view 1024 J.graph [] []) }
 {
     let mut deque = Deque::fifo_as(alloc, 64)?;
+    // For the prover: this split tells the deque's pass its graph. The new pass isn't needed.
     drop(deque.another::<Names<J>>());
     Ok(deque)
 }
