@@ -51,14 +51,20 @@ type call struct {
 }
 
 // StartService starts a metad program that keeps a store. The command is the program and its word
-// serve. If serve has the word --numbered it is given too, and each reply begins with its line's
-// number: a reply to another line than the one that waits ends the client.
-func StartService(ctx context.Context, command []string, words ...string) (*Client, error) {
-	numbered := knows.Word(ctx, command, "--numbered")
-	if numbered {
-		words = append(words[:len(words):len(words)], "--numbered")
+// serve. Two words are given if serve has them. By --numbered each reply begins with its line's
+// number: a reply to another line than the one that waits ends the client. By --clock a line whose
+// moment is more than so many seconds from the program's clock is refused, where clock isn't 0.
+func StartService(ctx context.Context, command []string, clock int, words ...string) (*Client, error) {
+	known := knows.Words(ctx, command)
+	args := append(command[1:len(command):len(command)], words...)
+	if clock > 0 && known["--clock"] {
+		args = append(args, "--clock", strconv.Itoa(clock))
 	}
-	return start(numbered, command[0], append(command[1:len(command):len(command)], words...))
+	numbered := known["--numbered"]
+	if numbered {
+		args = append(args, "--numbered")
+	}
+	return start(numbered, command[0], args)
 }
 
 // Start runs a program that answers each line of its input by a line. Signals of the terminal don't

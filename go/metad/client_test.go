@@ -221,7 +221,7 @@ func TestQuestionsAloneAreSentOn(t *testing.T) {
 		`{"op":"lease.resources"}`, `{"op":"image.remove","op":"image.get"}`}
 	others := []string{`{"op":"gc.run"}`, `{"op":"image.set","answer":"row"}`, `{"op":"image.remove"}`,
 		`{"op":"image.get","op":"image.remove"}`,
-		`{"op":"image.get","Op":"gc.run","x":1`, `{"Op":"image.get","op":"ns.remove"}`, `no line`, ` `,
+		`{"op":"image.get","Op":"gc.run","x":1`, `{"Op":"image.get","op":"ns.remove"}`, `no line`, ` `, "\r",
 		`{"op":7}`}
 	for i, line := range append(append([]string{}, questions...), others...) {
 		fmt.Fprintln(conn, line)
@@ -298,7 +298,7 @@ const answersEach = `printf '%s{"names":["%s"],"ok":true}\n' "${is:+$n }" "$n"`
 func TestNumbersOfRepliesAreTakenOff(t *testing.T) {
 	for usage, name := range map[string]string{"--dir DIR [--numbered]": "numbered", "--dir DIR": "plain"} {
 		path := program(t, usage, answersEach)
-		c, err := StartService(background, []string{path, "serve"}, "--dir", "d")
+		c, err := StartService(background, []string{path, "serve"}, 0, "--dir", "d")
 		if err != nil {
 			t.Fatal(err)
 		}
@@ -320,7 +320,8 @@ func TestAReplyToAnotherLineEndsTheClient(t *testing.T) {
 	for _, answer := range []string{`echo "3 {\"ok\":true}"`, `echo "{\"ok\":true}"`,
 		`echo "1 {\"ok\":true}"; echo "1 {\"ok\":true}"`, `echo "01 {\"ok\":true}"`, `echo "1{\"ok\":true}"`,
 		`echo " {\"ok\":true}"`, `echo`, `echo "0 {\"ok\":true}"`} {
-		c, err := StartService(background, []string{program(t, "--numbered", answer), "serve"}, "--dir", "d")
+		c, err := StartService(background, []string{program(t, "--numbered", answer), "serve"}, 0,
+			"--dir", "d")
 		if err != nil {
 			t.Fatal(err)
 		}

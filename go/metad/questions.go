@@ -2,6 +2,7 @@ package metad
 
 import (
 	"bufio"
+	"bytes"
 	"encoding/json"
 	"errors"
 	"io"
@@ -55,6 +56,7 @@ func (c *Client) answer(conn net.Conn) {
 	defer conn.Close()
 	lines := bufio.NewScanner(conn)
 	lines.Buffer(nil, longestLine+1)
+	lines.Split(wholeLines)
 	for lines.Scan() {
 		if len(lines.Bytes()) == 0 {
 			continue // metad doesn't answer it either
@@ -72,6 +74,18 @@ func (c *Client) answer(conn net.Conn) {
 			return
 		}
 	}
+}
+
+// wholeLines splits as bufio.ScanLines does, but leaves a carriage return: metad answers a line that
+// has nothing else.
+func wholeLines(data []byte, atEOF bool) (advance int, line []byte, err error) {
+	if end := bytes.IndexByte(data, '\n'); end >= 0 {
+		return end + 1, data[:end], nil
+	}
+	if atEOF && len(data) > 0 {
+		return len(data), data, nil
+	}
+	return 0, nil, nil
 }
 
 // isQuestion says whether a line asks for rows, or for what a collection would do. A member that

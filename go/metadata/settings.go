@@ -31,14 +31,24 @@ type Config struct {
 	Folder string `toml:"folder"`
 	// Workers is how many threads mark and sweep, 1 to 16.
 	Workers int `toml:"workers"`
+	// Clock is how many seconds the moment of a line may be from the clock of the program, where that
+	// has the word --clock. 0 allows each moment.
+	Clock int `toml:"clock"`
 	// Questions is the socket on which metad-why asks, else "metad.sock" in containerd's root.
 	Questions string `toml:"questions"`
 	// Forget removes at this start what is in lost/.
 	Forget bool `toml:"-"`
 }
 
+// day is the seconds for which the store keeps an ingest that no lease holds, and containerd's client
+// the lease of a pull. A wrong moment that is nearer ends only what had less than a day left. Each
+// line of the daemon has its own clock's moment, which is that of the program's machine: so its
+// lines are refused only where the clock is moved by a day, or the machine sleeps for a day, while
+// they wait for their replies.
+const day = 24 * 60 * 60
+
 // Settings are those of this process. They are read before containerd opens its store.
-var Settings = Config{Command: []string{"metad", "serve"}, Workers: 1}
+var Settings = Config{Command: []string{"metad", "serve"}, Workers: 1, Clock: day}
 
 // Containerd prints these settings with those of its plugins. The plugin itself does nothing.
 func init() {
@@ -96,7 +106,8 @@ func (c Config) start(ctx context.Context, root string,
 			return nil, err
 		}
 	}
-	return metad.StartService(ctx, c.Command, "--dir", folder, "--workers", strconv.Itoa(c.Workers))
+	return metad.StartService(ctx, c.Command, c.Clock,
+		"--dir", folder, "--workers", strconv.Itoa(c.Workers))
 }
 
 // hasStore says whether a folder has a file of a store.

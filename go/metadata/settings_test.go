@@ -135,6 +135,26 @@ func TestRepliesAreNumberedWhereTheProgramCan(t *testing.T) {
 	wants(t, calls, err, asks, serves+" --numbered")
 }
 
+func TestTheClockIsAWordWhereTheProgramCan(t *testing.T) {
+	for _, it := range []struct {
+		knows string
+		clock int
+		want  string
+	}{
+		{"--dir DIR [--clock SECONDS]", Settings.Clock, " --clock 86400"},
+		{"--dir DIR [--clock SECONDS] [--numbered]", 60, " --clock 60 --numbered"},
+		{"--dir DIR [--clock SECONDS]", 0, ""}, {"--dir DIR", Settings.Clock, ""},
+	} {
+		t.Setenv("KNOWS", it.knows)
+		w := newWorld(t, "exit 0")
+		w.c.Clock = it.clock
+		w.write("content", "metad.id")
+		w.write("metad", "metad.journal")
+		calls, err := w.start()
+		wants(t, calls, err, asks, serves+it.want)
+	}
+}
+
 func TestStoreThatIsGoneIsNotMadeAgain(t *testing.T) {
 	w := newWorld(t, "exit 0")
 	w.write("content", "metad.id")

@@ -40,14 +40,21 @@ def until(holds):
     return True
 
 
+def knows(program, word):
+    """Whether the serve of a program has this word, by its usage."""
+    done = subprocess.run([program, "serve"], capture_output=True, text=True, timeout=WAIT)
+    return word in done.stderr.partition(" | ")[0].replace("[", " ").replace("]", " ").split()
+
+
 class Front:
-    """A front in a folder of its own, over a service."""
+    """A front in a folder of its own, over a service: a command, or the one that its words name."""
 
     def __init__(self, command=STAND_IN, folder=None, words=(), **more):
         self.own = folder is None
         self.folder = folder or tempfile.mkdtemp(prefix="metad-serve-")
         self.path = os.path.join(self.folder, "socket")
-        self.command = [TOOL, "--socket", self.path, *words, "--", *command]
+        self.command = [TOOL, "--socket", self.path, *words]
+        self.command += ["--", *command] if command else []
         self.told = open(os.path.join(self.folder, "told"), "w+b")
         self.run = subprocess.Popen(self.command, stderr=self.told, **more)
 

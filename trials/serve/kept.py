@@ -76,12 +76,12 @@ class Round:
         wants("nothing else is found", len(after) == count, self.ns)
 
 
-def kills(command):
+def kills(words):
     """Rounds on one store: a kill at a moment, or at a reply. How many lines were answered."""
     began, rounds, last, lines = time.monotonic(), 0, None, 0
     while rounds < ROUNDS and time.monotonic() - began < SECONDS:
         chance = random.Random(rounds)
-        with Front(command) as front:
+        with Front(None, words=words) as front:
             if last:
                 last.compare(front)
             last = Round(front, rounds, chance.randint(1, MOST) if rounds % 2 else None)
@@ -92,19 +92,19 @@ def kills(command):
             last.join()
         rounds += 1
         lines += sum(last.answered)
-    with Front(command) as front:
+    with Front(None, words=words) as front:
         last.compare(front)
-        with Front(command) as second:
+        with Front(None, words=words) as second:
             wants("a store that is in use is refused", second.ends() == 4)
         wants("it ends with 0 over a store", front.ends(15) == 0)
     print("serve: %d kills of the service, %d lines answered before" % (rounds, lines))
 
 
-def copies(program, command, folder):
+def copies(program, words, folder):
     """Copies under a load: each one is reported as damaged, or has the first lines."""
     texts, statuses = [], []
     other = folder + "-copy"
-    with Front(command) as front:
+    with Front(None, words=words) as front:
         load = Round(front, ROUNDS, pause=0.05)
         for _ in range(COPIES):
             shutil.copytree(folder, other)
@@ -127,7 +127,7 @@ def run(program):
     """Kills, and copies."""
     folder = tempfile.mkdtemp(prefix="metad-serve-")
     wants("a store is made", subprocess.run([program, "new", "--dir", folder]).returncode == 0)
-    command = [program, "serve", "--dir", folder]
-    kills(command)
-    copies(program, command, folder)
+    words = ["--program", program, "--dir", folder]  # so replies are numbered if the program can
+    kills(words)
+    copies(program, words, folder)
     shutil.rmtree(folder)

@@ -9,23 +9,25 @@ import edges
 import ends
 import kept
 import load
+import moments
 import order
 import units
 import watched
 import whose
 from fronts import Front, Told
 
-# each part, and which program it needs; it tries less without one that ends in a question mark
+# each part, and which programs it needs; it tries less without one that ends in a question mark
 PARTS = {
-    "units": (units, None),
-    "edges": (edges, None),
-    "ends": (ends, None),
-    "bounds": (bounds, None),
-    "whose": (whose, "METAD?"),
-    "watched": (watched, "METAD_KEPT?"),
-    "order": (order, "METAD"),
-    "load": (load, "METAD"),
-    "kept": (kept, "METAD_KEPT"),
+    "units": (units, ()),
+    "edges": (edges, ()),
+    "ends": (ends, ()),
+    "bounds": (bounds, ()),
+    "whose": (whose, ("METAD?", "METAD_KEPT?")),
+    "watched": (watched, ("METAD_KEPT?",)),
+    "moments": (moments, ("METAD_KEPT?",)),
+    "order": (order, ("METAD",)),
+    "load": (load, ("METAD",)),
+    "kept": (kept, ("METAD_KEPT",)),
 }
 PROGRAMS = {"METAD": "metad", "METAD_KEPT": "metad_kept"}
 
@@ -51,14 +53,15 @@ def main():
         if function:
             run_one(part, function)
             continue
-        program = os.environ.get((needed or "").rstrip("?"))
-        if needed and not program:
-            how = "tries less" if needed.endswith("?") else "is left out"
-            print("serve: %s %s: %s isn't built" % (name, how, PROGRAMS[needed.rstrip("?")]))
-            if not needed.endswith("?"):
-                continue
+        programs = [os.environ.get(it.rstrip("?")) for it in needed]
+        missing = [it for it, program in zip(needed, programs) if not program]
+        for it in missing:
+            how = "tries less" if it.endswith("?") else "is left out"
+            print("serve: %s %s: %s isn't built" % (name, how, PROGRAMS[it.rstrip("?")]))
+        if not all(it.endswith("?") for it in missing):
+            continue
         began, tried, wrong = time.monotonic(), Told.tried, Told.wrong
-        part.run(*[program] if program else [])
+        part.run(*programs)
         told = (name, Told.tried - tried, Told.wrong - wrong, time.monotonic() - began)
         print("serve: %s: %d tried, %d wrong, %.0f s" % told, flush=True)
     return 1 if Told.wrong else 0

@@ -210,7 +210,7 @@ def words():
             wants("it ends with 0", run.wait(60) == 0)
         with open(noted) as file:
             wants("metad is given its words", file.read().split("\n") ==
-                  ["serve"] * (1 + bool(clock)) +
+                  ["serve"] +
                   [" ".join(["serve --dir a b --workers 3 --checkpoint --new --accept-loss",
                              *(clock or [knows] * bool(knows))]), ""])
         with open(noted + ".lines") as file:
@@ -226,37 +226,6 @@ def words():
                            "--clock", "60"], env=env, capture_output=True, timeout=60)
     wants("a word that metad doesn't know is refused", done.returncode == 2 and
           b"doesn't know this word" in done.stderr and not os.path.exists(path), done)
-
-
-def moment(program=None):
-    """With --moment a line that wants a moment gets the front's, whatever answers; another stays."""
-    stays = (b'{"op":"gc.run","at":"2024-03-01T00:00:00Z"}', b'{"op":"gc.run","at":""}', b'{"op":"gc.run"',
-             b'{"op":"image.remove","ns":"x","name":"y"}', b'{"op":"image.list","ns":"x"}', b"?")
-    wants_one = (b'{"op":"gc.run"}', b'{"ns":"x","op":"ingest.open","ref":"r"}')
-    with Front(["/bin/cat"], words=["--moment"]) as front, front.connect() as client:
-        for line in wants_one:
-            got = ask(client, line)
-            found = re.fullmatch(re.escape(line[:-1]) +
-                                 rb',"at":"(\d{4}-\d\d-\d\dT[0-9:]{8})(\.\d+)?Z"}\n', got)
-            if wants("a line gets the front's moment", found, got):
-                when = calendar.timegm(time.strptime(found[1].decode(), "%Y-%m-%dT%H:%M:%S"))
-                wants("which is now", abs(time.time() - when) < 60, got)
-        for line in stays:
-            wants("a line stays as it is", ask(client, line) == line + b"\n", line)
-        wants("it ends with 0", front.ends(TERM) == 0)
-    with Front(["/bin/cat"]) as front, front.connect() as client:
-        for line in wants_one + stays:
-            wants("without the word each line stays as it is", ask(client, line) == line + b"\n", line)
-        wants("it ends with 0", front.ends(TERM) == 0)
-    if not program:
-        return
-    command = [program, "serve", "--new", "--dir", tempfile.mkdtemp(prefix="metad-serve-")]
-    with Front(command, words=["--moment"]) as front, front.connect() as client:
-        got = ask(client, b'{"op":"gc.run"}')
-        wants("a store is collected at the front's moment", b'"ok":true' in got, got)
-        got = ask(client, b'{"op":"gc.run","at":""}')
-        wants("a moment that is none is refused", got.startswith(b'{"fault":1,'), got)
-        wants("it ends with 0", front.ends(TERM) == 0)
 
 
 def closed():
@@ -283,6 +252,5 @@ def closed():
 def run(program=None):
     """All of them."""
     metrics(program)
-    moment(program)
     for trial in (ready, early, hung_up, killed, group, words, closed):
         trial()

@@ -1,10 +1,13 @@
 """Whose reply is whose: each client asks for a secret of its own, among lines of all kinds that are
 empty or broken, and gets every reply that it is owed, and no other."""
 import random
+import shlex
 import socket
+import subprocess
+import tempfile
 import threading
 
-from fronts import STAND_IN, Front, Told, all_of, ask
+from fronts import STAND_IN, Front, Told, all_of, ask, knows
 
 LINE = 65536
 CLIENTS = 6
@@ -12,13 +15,16 @@ ROUNDS = 30
 DIGEST = "sha256:" + "5" * 64
 BAD, LONG, DONE = b'{"fault":5,"name":"BadLine"}', b'{"fault":6,"name":"TooLong"}', b'{"ok":true}'
 EMPTY = (b"", b"\n", b"\n\n", b"\n\n\n\n\n")  # what may stand before, between and behind lines
+AT = 40  # the reply that a filter takes away, doubles, or puts behind the next
+FILTERS = ("%dd" % AT, "%dp" % AT, "%d{h;d};%dG" % (AT, AT + 1))
 wants = Told.wants
 
 
 class OfStandIn:
     """Lines that the stand-in answers, each with its reply."""
 
-    command = STAND_IN
+    command, words = STAND_IN, ()
+    numbered = STAND_IN + ["--numbered"]
 
     def __init__(self, program=None):
         pass
@@ -48,10 +54,12 @@ class OfProgram(OfStandIn):
 
     @staticmethod
     def begin(front, secrets):
+        """Each secret is an image's name and label."""
         with front.connect() as client:
             ask(client, b'{"op":"ns.add","ns":"x"}')
             for secret in secrets:
-                line = b'{"op":"image.add","ns":"x","name":"%s","target":"%s","labels":{"its":"%s"}}'
+                line = (b'{"op":"image.add","ns":"x","name":"%s","target":"%s",'
+                        b'"labels":{"its":"%s"}}')
                 ask(client, line % (secret, DIGEST.encode(), secret))
 
     @staticmethod
@@ -70,8 +78,19 @@ class OfProgram(OfStandIn):
         return chance.choice((b"\r", b" ", b"\t\r", b"\0", b"{", b"\xff" * 9, b"x" * LINE)), BAD
 
 
-def talk(front, lines, secret, seed, wrong):
-    """Sends lines, empty ones between them, cut anywhere; compares all that comes."""
+class OfStore(OfProgram):
+    """Lines that the program of serve answers over a new store. The front starts it, and has it
+    number its replies if it can."""
+
+    def __init__(self, program):
+        store = tempfile.mkdtemp(prefix="metad-serve-")
+        subprocess.run([program, "new", "--dir", store], check=True)
+        self.command, self.words = None, ["--program", program, "--dir", store]
+        self.numbered = [program, "serve", "--numbered", "--dir", store]
+
+
+def exchange(front, lines, secret, seed):
+    """Sends lines, empty ones between them, cut anywhere. All that comes, and what should."""
     chance = random.Random(seed)
     pairs = [lines.line(chance, secret) for _ in range(chance.randrange(1, 40))]
     text = chance.choice(EMPTY)
@@ -82,17 +101,26 @@ def talk(front, lines, secret, seed, wrong):
 
     def send(client):
         at = 0
-        while at < len(text):
-            count = chance.choice((1, 2, 30, 3000, 100000))
-            client.sendall(text[at : at + count])
-            at += count
-        client.shutdown(socket.SHUT_WR)
+        try:
+            while at < len(text):
+                count = chance.choice((1, 2, 30, 3000, 100000))
+                client.sendall(text[at : at + count])
+                at += count
+            client.shutdown(socket.SHUT_WR)
+        except OSError:
+            pass  # the front has ended: what came tells
 
     with front.connect() as client:
         sender = threading.Thread(target=send, args=(client,))
         sender.start()
         got = all_of(client)
         sender.join()
+    return got, wanted
+
+
+def talk(front, lines, secret, seed, wrong):
+    """An exchange, whose replies have to be all that are owed, and no other."""
+    got, wanted = exchange(front, lines, secret, seed)
     if got != wanted:
         wrong.append((seed, len(got), len(wanted)))
 
@@ -104,10 +132,15 @@ def leave(front, seed):
         client.sendall(b"\n" * chance.randrange(3) + b"=gone\n" * chance.randrange(300) + b"=hal")
 
 
+def secrets_of_clients():
+    """A secret for each client."""
+    return [b"secret-%d-of-%d" % (number * 7919, number) for number in range(CLIENTS)]
+
+
 def compare(lines):
     """Rounds of clients at once, on one front: a reply too many or too few stays in it."""
-    secrets = [b"secret-%d-of-%d" % (number * 7919, number) for number in range(CLIENTS)]
-    with Front(lines.command) as front:
+    secrets = secrets_of_clients()
+    with Front(lines.command, words=lines.words) as front:
         lines.begin(front, secrets)
         for turn in range(ROUNDS):
             wrong = []
@@ -168,17 +201,67 @@ def numbered():
             wants("all are cut off", all_of(client) == b"")
             wants("a number of another line ends the front with 1", front.ends() == 1)
             wants("it says why", front.says(b"came where that to line"))
-    with Front(STAND_IN, words=words) as front:
-        wants("replies without a number end it with 1", front.ends() == 1)
+    for command in (STAND_IN, ["/bin/sh", "-c", "cat | " + shlex.join(STAND_IN)]):
+        with Front(command, words=words) as front:
+            wants("replies without a number end it with 1", front.ends() == 1, command)
     with Front(STAND_IN + words) as front, front.connect() as client:
         wants("who doesn't ask for numbers gets the reply as it is",
               ask(client, b"=x") == b"2 =x\n")
 
 
-def run(program=None):
-    """All of them, over the stand-in and over the program."""
+def shifted(lines):
+    """A reply of a service that numbers is lost, doubled or late on its way to the front: then the
+    front ends, and each client has got the first of its own replies, and no other."""
+    secrets = secrets_of_clients()
+    for text in FILTERS:
+        command = "%s | sed -u %s" % (shlex.join(lines.numbered), shlex.quote(text))
+        got = [(b"", b"?")] * CLIENTS
+
+        def talks(at, front):
+            got[at] = exchange(front, lines, secrets[at], 100 + at)
+
+        with Front(["/bin/sh", "-c", command], words=["--numbered"]) as front:
+            lines.begin(front, secrets)
+            threads = [threading.Thread(target=talks, args=(at, front)) for at in range(CLIENTS)]
+            for thread in threads:
+                thread.start()
+            for thread in threads:
+                thread.join()
+            wants("a client gets replies of its own alone",
+                  all(wanted.startswith(text) for text, wanted in got), text)
+            wants("not all of them", any(text != wanted for text, wanted in got), text)
+            wants("a reply in another's place ends the front with 1", front.ends() == 1, text)
+            wants("it says why", front.says(b"came where that to line") or
+                  front.says(b"a reply came that no line asked for"), text)
+
+
+def shifted_stand_in():
+    """A reply of the stand-in in another's place."""
+    shifted(OfStandIn())
+
+
+def compare_store(program):
+    """Rounds over the program of serve, which numbers its replies if it can."""
+    lines = OfStore(program)
+    compare(lines)
+    if not knows(program, "--numbered"):
+        print("not run: trials/serve: numbers of the replies of the program, since its serve has "
+              "no word --numbered")
+        return
+    shifted(lines)
+    with Front(None, words=lines.words) as front:
+        with open("/proc/%d/cmdline" % front.service(), "rb") as file:
+            wants("the program is told to number", b"--numbered" in file.read().split(b"\0"))
+        wants("it ends with 0", front.ends(15) == 0)
+
+
+def run(program=None, of_store=None):
+    """All of them, over the stand-in and over the programs."""
     one_behind_another()
     numbered()
     compare_stand_in()
+    shifted_stand_in()
     if program:
         compare(OfProgram(program))
+    if of_store:
+        compare_store(of_store)

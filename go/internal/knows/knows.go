@@ -12,18 +12,18 @@ import (
 // askMost is how long the program may take to tell its words.
 const askMost = 10 * time.Second
 
-// Word tells whether a command, which is a program and its word serve, has another word. Given no
-// other words it prints its usage.
-func Word(ctx context.Context, command []string, word string) bool {
+// Words returns the words that a command has, which is a program and its word serve. Given no other
+// words it prints its usage. A program that can't be asked has none.
+func Words(ctx context.Context, command []string) map[string]bool {
 	ctx, stop := context.WithTimeout(ctx, askMost)
 	defer stop()
 	usage, _ := exec.CommandContext(ctx, command[0], command[1:]...).CombinedOutput()
-	return has(string(usage), word)
+	return wordsIn(string(usage))
 }
 
-// has tells whether a usage has a word among those of serve. The words of other commands stand
-// behind a bar.
-func has(usage, word string) bool {
+// wordsIn returns the words of serve in a usage. The words of other commands stand behind a bar.
+func wordsIn(usage string) map[string]bool {
+	words := map[string]bool{}
 	for _, line := range strings.Split(usage, "\n") {
 		at := strings.Index(line, "serve ")
 		if at < 0 {
@@ -31,10 +31,10 @@ func has(usage, word string) bool {
 		}
 		ofServe, _, _ := strings.Cut(line[at:], " | ")
 		for _, found := range strings.Fields(ofServe) {
-			if strings.Trim(found, "[]") == word {
-				return true
+			if word := strings.Trim(found, "[]"); strings.HasPrefix(word, "--") {
+				words[word] = true
 			}
 		}
 	}
-	return false
+	return words
 }

@@ -18,10 +18,10 @@ func TestWhichWordsAUsageHas(t *testing.T) {
 		{today, "--new", true}, {today, "--dir", true}, {today, "--numbered", false},
 		{today, "--clock", false}, {today, "--ne", false}, {today, "new", false},
 		{later, "--numbered", true}, {later, "--clock", true}, {"", "--numbered", false},
-		{"a line\n" + later, "--clock", true}, {"serve", "serve", false},
+		{"a line\n" + later, "--clock", true}, {later, "SECONDS", false}, {"serve", "serve", false},
 		{"numbered: --numbered\n", "--numbered", false},
 	} {
-		if got := has(it.usage, it.word); got != it.want {
+		if got := wordsIn(it.usage)[it.word]; got != it.want {
 			t.Errorf("%q has %s: %v", it.usage, it.word, got)
 		}
 	}
@@ -34,15 +34,17 @@ func TestAProgramIsAsked(t *testing.T) {
 		t.Fatal(err)
 	}
 	ctx := context.Background()
-	if !Word(ctx, []string{program, "serve"}, "--numbered") ||
-		Word(ctx, []string{program, "serve"}, "--clock") ||
-		Word(ctx, []string{program, "other"}, "--numbered") ||
-		Word(ctx, []string{program + ".gone", "serve"}, "--numbered") {
-		t.Error("it isn't told what the program knows")
+	if words := Words(ctx, []string{program, "serve"}); !words["--numbered"] || len(words) != 1 {
+		t.Errorf("%v, want --numbered", words)
+	}
+	for _, command := range [][]string{{program, "other"}, {program + ".gone", "serve"}} {
+		if words := Words(ctx, command); len(words) != 0 {
+			t.Errorf("%v has %v", command, words)
+		}
 	}
 	ended, end := context.WithCancel(ctx)
 	end()
-	if Word(ended, []string{program, "serve"}, "--numbered") {
-		t.Error("a program is asked though the context has ended")
+	if words := Words(ended, []string{program, "serve"}); len(words) != 0 {
+		t.Errorf("a program is asked though the context has ended: %v", words)
 	}
 }

@@ -35,6 +35,8 @@ type client struct {
 	text    []byte     // whole lines that aren't handed on
 	from    int        // where the first of them begins
 	runs    queue[run] // of these lines
+	handed  int        // bytes of lines that are handed on
+	moments queue[int] // behind how many bytes of all its lines there is room for a moment
 	owed    int        // lines that are handed on and not answered
 	weight  int64      // the bytes that their replies may have
 	isAlone bool       // the one that is handed on may have a long reply
@@ -72,14 +74,14 @@ type writeResult struct {
 // buffers are what a read and its lines are put into: only while a client has something to read.
 type buffers struct {
 	block [1 << 16]byte
-	text  []byte
-	runs  []run
+	lines cutLines
 }
 
 var bufferPool = sync.Pool{New: func() any { return new(buffers) }}
 
 func newClient(front *Front, file *os.File, raw syscall.RawConn) *client {
-	c := &client{front: front, file: file, raw: raw, cutter: cutter{clock: front.options.Clock}}
+	c := &client{front: front, file: file, raw: raw}
+	c.cutter.moments = front.options.Clock != nil
 	c.room = sync.NewCond(&front.mu)
 	c.try, c.put = c.tryRead, c.tryPut
 	return c
@@ -94,8 +96,9 @@ func (c *client) serve() {
 			return
 		}
 		bufs := c.got.buffers
-		bufs.text, bufs.runs = c.cutter.cut(bufs.block[:c.got.count], bufs.text[:0], bufs.runs[:0])
-		c.takes(bufs.text, bufs.runs)
+		bufs.lines.clear()
+		c.cutter.cut(bufs.block[:c.got.count], &bufs.lines)
+		c.takes(bufs.lines)
 		bufferPool.Put(bufs)
 	}
 }
@@ -134,7 +137,7 @@ func (c *client) waitForRoom() bool {
 }
 
 // takes adds lines to those that aren't handed on.
-func (c *client) takes(text []byte, runs []run) {
+func (c *client) takes(lines cutLines) {
 	front := c.front
 	front.mu.Lock()
 	defer front.mu.Unlock()
@@ -142,8 +145,12 @@ func (c *client) takes(text []byte, runs []run) {
 	if c.gone || front.over {
 		return
 	}
-	c.text = append(c.text, text...)
-	c.runs.push(runs...)
+	before := c.handed + len(c.text) - c.from
+	for _, at := range lines.moments {
+		c.moments.push(before + at)
+	}
+	c.text = append(c.text, lines.text...)
+	c.runs.push(lines.runs...)
 	front.wantsTurn(c)
 }
 
@@ -187,15 +194,29 @@ func (c *client) handOn(batch []byte) ([]byte, run) {
 		c.runs.pop()
 	}
 	batch = append(batch, c.text[c.from:c.from+turn.size]...)
+	c.putMoments(batch[len(batch)-turn.size:])
 	if c.from += turn.size; c.from == len(c.text) {
 		if c.text, c.from = c.text[:0], 0; cap(c.text) > textKept {
 			c.text = nil
 		}
 	}
+	c.handed += turn.size
 	c.owed += turn.lines
 	c.weight += turn.weight
 	c.isAlone = turn.alone()
 	return batch, turn
+}
+
+// putMoments writes the moment of now where lines that are handed on have room for it: they may
+// have waited, and with --clock the service refuses moments that are long ago.
+func (c *client) putMoments(lines []byte) {
+	if c.moments.len() == 0 {
+		return
+	}
+	now := c.front.options.Clock()
+	for c.moments.len() > 0 && *c.moments.first() < c.handed+len(lines) {
+		putMoment(lines[c.moments.pop()-c.handed:], now)
+	}
 }
 
 // answered takes lines off what it is owed, and the weight of a run once that is answered.
@@ -322,6 +343,7 @@ func (c *client) close() {
 	}
 	c.gone = true
 	c.runs.clear()
+	c.moments.clear()
 	c.text, c.from = nil, 0
 	c.unread.clear()
 	_ = c.file.Close()

@@ -169,6 +169,7 @@ func (f *Front) fails(fault error) {
 	defer f.mu.Unlock()
 	f.failed, f.over = true, true
 	if f.service != nil {
+		f.service.end() // a command of many processes ends when its input does
 		f.service.terminate()
 	}
 	for c := range f.clients {

@@ -1,9 +1,6 @@
 package serve
 
-import (
-	"bytes"
-	"time"
-)
+import "bytes"
 
 const (
 	// lineMost is the bytes of the longest line. Of a longer one so many and one more are handed
@@ -29,13 +26,37 @@ func (r run) alone() bool { return r.weight >= unbounded }
 
 // A cutter cuts what a client sends into lines.
 type cutter struct {
-	part  []byte           // the beginning of a line whose line feed hasn't arrived
-	clock func() time.Time // tells the moment that lines without one get; nil: none do
+	part    []byte // the beginning of a line whose line feed hasn't arrived
+	moments bool   // a line that wants a moment and has none gets room for one
 }
 
-// cut appends the whole lines to text, and their runs to runs. An empty line has no reply, so it is
-// passed over.
-func (c *cutter) cut(block, text []byte, runs []run) ([]byte, []run) {
+// cutLines are whole lines, their runs, and where in the text there is room for moments.
+type cutLines struct {
+	text    []byte
+	runs    []run
+	moments []int
+}
+
+// clear takes the lines out, and keeps their room.
+func (l *cutLines) clear() { l.text, l.runs, l.moments = l.text[:0], l.runs[:0], l.moments[:0] }
+
+// add adds a line, with room for a moment if it may get one.
+func (l *cutLines) add(line []byte, moments bool) {
+	asked, start, at := requestOf(line), len(l.text), -1
+	if moments {
+		l.text, at = withRoom(l.text, line, asked)
+	} else {
+		l.text = append(l.text, line...)
+	}
+	if at >= 0 {
+		l.moments = append(l.moments, at)
+	}
+	l.text = append(l.text, '\n')
+	l.runs = withLine(l.runs, len(l.text)-start, asked)
+}
+
+// cut adds the whole lines to others. An empty line has no reply, so it is passed over.
+func (c *cutter) cut(block []byte, to *cutLines) {
 	for len(block) > 0 {
 		end := bytes.IndexByte(block, '\n')
 		if end < 0 {
@@ -52,20 +73,12 @@ func (c *cutter) cut(block, text []byte, runs []run) ([]byte, []run) {
 			line = line[:lineMost+1]
 		}
 		if len(line) > 0 {
-			asked, start := requestOf(line), len(text)
-			if c.clock != nil {
-				text = withMoment(text, line, asked, c.clock())
-			} else {
-				text = append(text, line...)
-			}
-			text = append(text, '\n')
-			runs = withLine(runs, len(text)-start, asked)
+			to.add(line, c.moments)
 		}
 		if c.part = c.part[:0]; cap(c.part) > partKept {
 			c.part = nil
 		}
 	}
-	return text, runs
 }
 
 // keep adds to the line that has begun, as much as is handed on of it.

@@ -28,16 +28,16 @@ func someLines(chance *rand.Rand) [][]byte {
 }
 
 // cutAnywhere cuts a text in blocks of random lengths, and joins what a cutter makes of them.
-func cutAnywhere(chance *rand.Rand, c *cutter, text []byte) (joined []byte, all []run) {
+func cutAnywhere(chance *rand.Rand, c *cutter, text []byte) (all cutLines) {
 	for len(text) > 0 {
 		count := 1 + chance.Intn(1<<uint(chance.Intn(17)))
 		if count > len(text) {
 			count = len(text)
 		}
-		joined, all = c.cut(text[:count], joined, all)
+		c.cut(text[:count], &all)
 		text = text[count:]
 	}
-	return joined, all
+	return all
 }
 
 func TestLinesAreCutAndEmptyOnesPassedOver(t *testing.T) {
@@ -54,7 +54,8 @@ func TestLinesAreCutAndEmptyOnesPassedOver(t *testing.T) {
 			}
 		}
 		var c cutter
-		text, runs := cutAnywhere(chance, &c, sent)
+		all := cutAnywhere(chance, &c, sent)
+		text, runs := all.text, all.runs
 		if !bytes.Equal(text, wanted) {
 			t.Fatalf("seed %d: %d bytes of %d", seed, len(text), len(wanted))
 		}
@@ -83,9 +84,10 @@ func TestARunHasAsManyBytesAsATurn(t *testing.T) {
 	for _, more := range []int{0, 1} {
 		text := bytes.Repeat(line, 7)
 		text = append(append(text, bytes.Repeat([]byte("y"), 1023+more)...), '\n')
-		_, runs := new(cutter).cut(text, nil, nil)
-		if len(runs) != 1+more {
-			t.Errorf("%d bytes are %d runs", len(text), len(runs))
+		var all cutLines
+		new(cutter).cut(text, &all)
+		if len(all.runs) != 1+more {
+			t.Errorf("%d bytes are %d runs", len(text), len(all.runs))
 		}
 	}
 }
@@ -102,9 +104,10 @@ func TestAClientIsOwedNoMoreThanItsBounds(t *testing.T) {
 				block = append(append(block, lines[chance.Intn(len(lines))]...), '\n')
 				sent++
 			}
-			var runs []run
-			c.text, runs = c.cutter.cut(block, c.text, nil)
-			c.runs.push(runs...)
+			all := cutLines{text: c.text}
+			c.cutter.cut(block, &all)
+			c.text = all.text
+			c.runs.push(all.runs...)
 			c.unread.size = int64(chance.Intn(2)) * chance.Int63n(unreadMost)
 			var turns []run
 			for c.mayHandOn() {
@@ -134,16 +137,17 @@ func TestAClientIsOwedNoMoreThanItsBounds(t *testing.T) {
 
 func TestAnEndlessLineTakesLittleRoom(t *testing.T) {
 	var c cutter
+	var all cutLines
 	block := bytes.Repeat([]byte("x"), 50000)
 	for turn := 0; turn < 100; turn++ {
-		if text, runs := c.cut(block, nil, nil); len(text)+len(runs) > 0 {
+		if c.cut(block, &all); len(all.text)+len(all.runs) > 0 {
 			t.Fatal("a line without its end was handed on")
 		}
 	}
 	if cap(c.part) > 1<<18 {
 		t.Errorf("%d bytes are kept of it", cap(c.part))
 	}
-	if text, _ := c.cut([]byte("\n"), nil, nil); len(text) != 65538 {
-		t.Errorf("%d bytes are handed on of it", len(text))
+	if c.cut([]byte("\n"), &all); len(all.text) != 65538 {
+		t.Errorf("%d bytes are handed on of it", len(all.text))
 	}
 }

@@ -9,6 +9,7 @@ import (
 func TestWhichLinesGetAMoment(t *testing.T) {
 	now := time.Date(2024, 3, 1, 13, 0, 0, 5, time.FixedZone("", 3600))
 	at := `,"at":"2024-03-01T12:00:00.000000005Z"`
+	longest := `{"op":"gc.run","x":"` + strings.Repeat("y", lineMost-60) + `"`
 	long := `{"op":"gc.run","x":"` + strings.Repeat("y", lineMost-59) + `"}`
 	for line, wanted := range map[string]string{
 		`{"op":"gc.run"}`:                    `{"op":"gc.run"` + at + `}`,
@@ -28,6 +29,7 @@ func TestWhichLinesGetAMoment(t *testing.T) {
 		`["gc.run"]`:                         "",
 		`{}`:                                 "",
 		`x`:                                  "",
+		longest + "}":                        longest + at + "}",
 		long:                                 "",
 		`{"op":"gc.run","x":"` + `y` + `"}`:  `{"op":"gc.run","x":"y"` + at + `}`,
 		long + strings.Repeat(" ", lineMost): "",
@@ -35,18 +37,55 @@ func TestWhichLinesGetAMoment(t *testing.T) {
 		if wanted == "" {
 			wanted = line
 		}
-		if got := withMoment([]byte("before"), []byte(line), requestOf([]byte(line)), now); string(got) !=
-			"before"+wanted {
+		got, room := withRoom([]byte("before"), []byte(line), requestOf([]byte(line)))
+		if room >= 0 {
+			putMoment(got[room:], now)
+		}
+		if string(got) != "before"+wanted || (room >= 0) != (wanted != line) {
 			t.Errorf("%.80q becomes %.120q", line, got)
 		}
 	}
 }
 
 func TestRunsHaveTheSizesOfLinesWithAMoment(t *testing.T) {
-	c := cutter{clock: func() time.Time { return time.Unix(0, 0) }}
-	text, runs := c.cut([]byte("\n{\"op\":\"gc.run\"}\nx\n"), nil, nil)
-	wanted := `{"op":"gc.run","at":"1970-01-01T00:00:00Z"}` + "\n"
-	if string(text) != wanted+"x\n" || len(runs) != 2 || runs[0].size != len(wanted) {
-		t.Errorf("%q, %+v", text, runs)
+	var all cutLines
+	c := cutter{moments: true}
+	c.cut([]byte("\n{\"op\":\"gc.run\"}\nx\n"), &all)
+	wanted := `{"op":"gc.run","at":"` + noMoment + `"}` + "\n"
+	if string(all.text) != wanted+"x\n" || len(all.runs) != 2 || all.runs[0].size != len(wanted) ||
+		len(all.moments) != 1 || all.text[all.moments[0]-1] != '"' {
+		t.Errorf("%q, %+v, %v", all.text, all.runs, all.moments)
+	}
+}
+
+// Lines come on one day, and are handed on later: each gets the moment of its turn.
+func TestALineGetsTheMomentAtWhichItIsHandedOn(t *testing.T) {
+	day := 1
+	today := func() time.Time { return time.Date(2024, 3, day, 0, 0, 0, 0, time.UTC) }
+	front := newFront(Options{Clock: today}, nil)
+	c := newClient(front, nil, nil)
+	const begin, run = `{"op":"ingest.begin","ref":"a"`, `{"op":"gc.run"`
+	for _, text := range []string{begin + "}\n" + run + "}\n" + begin + "}\nx\n" + begin,
+		`,"at":"its"}` + "\n\n" + begin + "}\n"} {
+		var lines cutLines
+		c.cutter.cut([]byte(text), &lines)
+		c.takes(lines)
+	}
+	for _, lines := range [][]string{
+		{begin + `,"at":"NOW"}`},
+		{run + `,"at":"NOW"}`}, // its reply may be long, so it goes alone
+		{begin + `,"at":"NOW"}`, "x", begin + `,"at":"its"}`, begin + `,"at":"NOW"}`},
+		nil,
+	} {
+		day++
+		want := ""
+		for _, line := range lines {
+			want += strings.ReplaceAll(line, "NOW", today().Format(momentForm)) + "\n"
+		}
+		if got := string(front.takeTurns(nil)); got != want {
+			t.Errorf("handed on %q, want %q", got, want)
+		}
+		c.answered(c.owed, c.weight)
+		front.wantsTurn(c)
 	}
 }

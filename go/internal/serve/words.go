@@ -207,14 +207,14 @@ func (it asked) options() (Options, error) {
 	if it.acceptsLoss {
 		options.Command = append(options.Command, "--accept-loss")
 	}
+	known := knows.Words(context.Background(), options.Command[:2])
 	if it.clock != "" {
-		if !knows.Word(context.Background(), options.Command[:2], "--clock") {
+		if !known["--clock"] {
 			return options, refused("--clock: %s serve doesn't know this word", program)
 		}
 		options.Command = append(options.Command, "--clock", it.clock)
 	}
-	options.Numbered = knows.Word(context.Background(), options.Command[:2], "--numbered")
-	if options.Numbered {
+	if options.Numbered = known["--numbered"]; options.Numbered {
 		options.Command = append(options.Command, "--numbered")
 	}
 	return options, nil
