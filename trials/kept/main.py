@@ -9,6 +9,7 @@ import crashes
 import damage
 import disk
 import ends
+import fronts
 import heads
 import kills
 import loads
@@ -18,7 +19,7 @@ from stores import Told
 
 PARTS = {"ends": ends, "heads": heads, "damage": damage, "crashes": crashes, "kills": kills,
          "disk": disk, "memory": memory, "checkpoints": checkpoints, "loads": loads,
-         "starts": starts}
+         "starts": starts, "fronts": fronts}
 # those that are run only if they are named
 BY_HAND = {"long": starts.long_start}
 

@@ -1,6 +1,7 @@
 """Memory that is refused: in turn, each growth of a run; a store that ran full, and its reports."""
 import os
 import resource
+import shutil
 import tempfile
 from concurrent.futures import ThreadPoolExecutor
 
@@ -17,9 +18,9 @@ REMOVED = 12000  # rows, without which a store that ran full takes additions aga
 AT_ONCE = 100  # removals that are sent at once: a line also wants memory until its block is synced
 
 
-def limit_to(megabytes):
-    """What a run does at its start that has so much memory."""
-    size = megabytes << 20
+def limit_to(megabytes, more=0):
+    """What a run does at its start that has so many MiB, and so many bytes more."""
+    size = (megabytes << 20) + more
     return lambda: resource.setrlimit(resource.RLIMIT_AS, (size, size))
 
 
@@ -75,6 +76,19 @@ def lease(word, number):
     return line_of(op="lease." + word, ns="x", id="lease-%d" % number)
 
 
+def tell_again(folder, megabytes):
+    """How starts of a store end of which one has failed, also with more memory: what ends well with
+    some pages more took memory that no call asks for, such as a page of the stack."""
+    for more in (0, 4096, 16384, 65536, 262144, 1048576):
+        statuses = []
+        for _ in range(10):
+            with tempfile.TemporaryDirectory(prefix="metad-kept-") as copy:
+                shutil.copytree(folder, copy, dirs_exist_ok=True)
+                done = serve(copy, lease("remove", 0), preexec_fn=limit_to(megabytes, more))
+                statuses.append(done.status)
+        print("kept: with %d bytes more, ten starts of it end with %s" % (more, statuses))
+
+
 def refilled(megabytes):
     """It starts again whenever it was filled by a client that waits for each reply. If a start leaves
     too little memory for the next one, its run refuses additions; with fewer rows they are done."""
@@ -85,6 +99,7 @@ def refilled(megabytes):
         for turn in range(REFILLS):
             done = limited(folder, megabytes, lease("remove", turn))
             if not wants("it starts", (done.status, done.out) == (0, DONE), megabytes, turn, done):
+                tell_again(folder, megabytes)
                 return
             client, refused = Client(folder, preexec_fn=limit_to(megabytes)), 0
             while refused < REFUSALS:
@@ -99,6 +114,49 @@ def refilled(megabytes):
         done = limited(folder, megabytes, lease("add", number + 1))
         wants("additions are done again", (done.status, done.out) == (0, DONE), megabytes, done)
     print("kept: it starts again at %d MiB, filled %d times by who waits" % (megabytes, REFILLS))
+
+
+def asked_of_each_kind():
+    """Lines whose answers take more of the stack than additions do."""
+    digest = "sha256:" + "c" * 64
+    return [
+        line_of(op="lease.remove", ns="x", id="lease-1"),
+        line_of(op="content.add", ns="x", digest=digest, labels={"a": "b"}),
+        line_of(op="gc.explain", ns="x", type="content", resource=digest, at=WHEN),
+        line_of(op="gc.impact", ns="x", type="content", resource=digest, at=WHEN),
+        line_of(op="lease.list", ns="x"), line_of(op="gc.plan", at=WHEN),
+        line_of(op="gc.run", at=WHEN), b"no line\n",
+        line_of(op="lease.remove", ns="x", id="lease-2", sync=WHEN),
+    ]
+
+
+def is_cramped(folder, pages):
+    """A start with so many pages of memory answers each line, or is refused for memory, as told."""
+    asked = asked_of_each_kind()
+    with tempfile.TemporaryDirectory(prefix="metad-kept-") as copy:
+        shutil.copytree(folder, copy, dirs_exist_ok=True)
+        done = serve(copy, b"".join(asked), preexec_fn=limit_to(0, pages * 4096))
+    replies = done.out.splitlines()
+    is_refused = done.status == 1 and not replies and b"fault 7" in done.told
+    wants("a start in little memory answers each line, or is refused",
+          is_refused or (done.status == 0 and len(replies) == len(asked)), pages, done)
+    return is_refused
+
+
+def stacks():
+    """A start to which memory is left to the last page wants no page more for its stack, which no
+    call asks for: the system would end it."""
+    with tempfile.TemporaryDirectory(prefix="metad-kept-") as folder:
+        lines = [line_of(op="ns.add", ns="x")] + [lease("add", it) for it in range(12000)]
+        limited(folder, 32, b"".join(lines))
+        refused, done = 1024, 8192  # pages: a start with so many is refused, and isn't
+        while done - refused > 1:
+            pages = (refused + done) // 2
+            refused, done = (pages, done) if is_cramped(folder, pages) else (refused, pages)
+        # the C library takes memory by 33 pages, so it leaves none at some of a hundred limits
+        with ThreadPoolExecutor(os.cpu_count()) as pool:
+            list(pool.map(lambda it: is_cramped(folder, it), range(done, done + 100)))
+    print("kept: 100 starts in little memory, from %d pages on" % done)
 
 
 SCRIPT = [
@@ -153,6 +211,7 @@ def growths():
 
 def all_parts():
     growths()
+    stacks()
     for megabytes in (24, 48):
         full(megabytes)
         refilled(megabytes)

@@ -11,7 +11,7 @@ use Rattle.journal.proofs.Groups.{lines_are_whole}
 use Rattle.store_front.specs.NextNumber.{raised}
 use Rattle.kept_store.specs.Numbers.{number_in}
 use Rattle.scripts.specs.Changes.{after_line}
-use Rattle.kept_store.specs.Replays.{after_kept_line, store_after, requests_among, requests_in, LineSteps}
+use Rattle.kept_store.specs.Replays.{after_kept_line, store_after, requests_among, requests_in, StepsOf, KeepsLines}
 use Rattle.line_loop.specs.JournalLines.{lines_of, lines_found}
 use Rattle.line_loop.specs.Runs.{Entry, accepted, Trace}
 
@@ -68,16 +68,21 @@ raises state line number some =
     (after_line state line)) (sym some)
 
 -- the store after a run is the one after its accepted lines
-pub runs_replay : (from to : State) (entries : List Entry) → Trace LineSteps from entries to
-    → to ≡ store_after from (accepted entries)
-runs_replay from to [] goes = sym goes
-runs_replay from to (entry ∷ entries) goes = elim (cases_Bool entry.changes) [
-  | inl has ↦ rw has (runs_replay goes.0 to entries goes.2
-      ∙ ap (λ (s : State). store_after s (accepted entries))
-      (unraised from goes.0 entry.line (goes.1.1 has).0 (goes.1.1 has).1))
-  | inr other ↦ rw other (runs_replay goes.0 to entries goes.2
-      ∙ ap (λ (s : State). store_after s (accepted entries)) (goes.1.2 other))
-]
+module _ {S : Type 0} (steps : StepsOf S) (store_of : S → State)
+    (keeps : KeepsLines steps store_of) where
+  -- the store after a run is the one after its logged lines
+  pub runs_replay : (from to : S) (entries : List Entry) → Trace steps from entries to
+      → store_of to ≡ store_after (store_of from) (accepted entries)
+  runs_replay from to [] goes = ap store_of (sym goes)
+  runs_replay from to (entry ∷ entries) goes =
+      let kept = keeps from goes.0 entry.line entry.reply entry.changes goes.1 in
+      elim (cases_Bool entry.changes) [
+        | inl has ↦ rw has (runs_replay goes.0 to entries goes.2
+            ∙ ap (λ (s : State). store_after s (accepted entries))
+            (unraised (store_of from) (store_of goes.0) entry.line (kept.0 has).0 (kept.0 has).1))
+        | inr other ↦ rw other (runs_replay goes.0 to entries goes.2
+            ∙ ap (λ (s : State). store_after s (accepted entries)) (kept.1 other))
+      ]
 
 -- ---- replaying
 

@@ -7,3 +7,5 @@ pub mod Starts
 pub mod Checkpoints
 pub mod Loads
 pub mod Work
+pub mod Clocked
+pub mod KeptLines

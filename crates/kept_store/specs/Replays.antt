@@ -40,6 +40,22 @@ LineSteps state line reply changes new =
     × (changes ≡ true → (number_in line ≡ None) × (new ≡ after_line state line))
     × (changes ≡ false → new ≡ state)
 
+-- A line has its effect where it is logged, and none where it isn't.
+abbrev pub KeepsLine : State → List ℕ → Bool → State → Type 0
+KeepsLine state line changes new =
+    (changes ≡ true → (number_in line ≡ None) × (new ≡ after_line state line))
+    × (changes ≡ false → new ≡ state)
+
+-- How a service answers lines: from one state a line is replied so, may have changed it, and leads
+-- there.
+abbrev pub StepsOf : Type 0 → Type 1
+StepsOf S = S → List ℕ → List ℕ → Bool → S → Type 0
+
+-- each step of a service keeps the store that it answers from
+abbrev pub KeepsLines : {S : Type 0} → StepsOf S → (S → State) → Type 0
+KeepsLines {S} steps store_of = (old new : S) (line reply : List ℕ) (changes : Bool)
+    → steps old line reply changes new → KeepsLine (store_of old) line changes (store_of new)
+
 -- what is written for a reply
 abbrev pub said_bytes : ReplyText → List ℕ
 said_bytes said = with_line_feed (reply_text_bytes said)

@@ -2,6 +2,7 @@
 ghost use Rattle.kept_store.specs.Laws.{JournalsReplay, RestartsJoin, RunsReplay, NumbersAskNothing};
 ghost use Rattle.kept_store.specs.Loads.{ScriptsLoad, GroupsLoad, EndsAskNothing};
 
+use crate::StoreService;
 use line_loop::LineLog;
 
 /// A journal's lines are those of its groups, so a replay of one is a replay of the other.
@@ -10,8 +11,8 @@ pub fn journals_replay()
 {}
 
 /// Whatever a run was refused, its logged lines give the store that it left.
-pub fn runs_replay()
-    ensures runs { RunsReplay }
+pub fn runs_replay<S: StoreService>()
+    ensures runs { RunsReplay S.steps S.store_of }
 {}
 
 /// A line that raises the next backend number is no request.
@@ -20,8 +21,8 @@ pub fn numbers_ask_nothing()
 {}
 
 /// After a run that stopped and went on, a start finds the same as after one run that didn't stop.
-pub fn restarts_join<L: LineLog>()
-    ensures joined { RestartsJoin L.holds }
+pub fn restarts_join<S: StoreService, L: LineLog>()
+    ensures joined { RestartsJoin S.steps S.store_of L.holds }
 {}
 
 /// A script of a journal, and the groups of a backup, load as the journal's lines. A line that ends a

@@ -21,6 +21,8 @@ pub use error::{CheckpointError, NotTaken, StartError};
 pub use keeping::{BlankFile, keep};
 pub use loading::{LoadError, Loaded, NotLoaded, load};
 pub use opening::{Opened, open};
+pub use run::clocked::{Clock, ClockLimit, Clocked, ClockedReply};
 pub use run::run_store;
+pub use run::service::StoreService;
 pub use store::KeptStore;
 pub use taking::take_checkpoint;

@@ -80,6 +80,7 @@ fn read_store<L: Ledger, D: Log, T: Threads + Wait + Sync>(
     let lines = match replay(&mut store, rt, alloc, log, end) {
         Ok(lines) => lines,
         Err(error) => {
+            // For the prover: an exit that drops the store in place takes minutes.
             drop(store);
             return Err(error);
         }
@@ -141,6 +142,7 @@ pub fn open<L: Ledger, D: Log, T: Threads + Wait + Sync>(
     let sound = match end_of_groups(alloc, first, log) {
         Ok(sound) => sound,
         Err(error) => {
+            // For the prover: an exit that drops the store in place takes minutes.
             drop(replayed);
             return Err(error);
         }

@@ -2,23 +2,26 @@
 ghost use Rattle.std.specs.Prelude.{◌≡◌, ◌<◌, [], List, ℕ, length, IsTrue, IfErr, IfOk, IfSome, IsErrOf, OnOk};
 ghost use Rattle.std.specs.Io.KnownBytes.{Consumes, IsAtEnd};
 ghost use Rattle.line_loop.specs.Runs.{EndsRun, stopped_at_end, from, Answers};
-ghost use Rattle.kept_store.specs.Replays.{LineSteps};
 ghost use Rattle.kept_store.specs.Restarts.{KeepsStore};
 
-use crate::store::KeptStore;
+pub mod clocked;
+mod moments;
+pub mod service;
+
+use crate::StoreService;
 use line_loop::{LineLog, RunBuffers, RunError, Stop, run_lines};
 use std::io::{Read, Write};
 use std::sync::Wait;
-use std::sync::ledger::Ledger;
 use std::thread::Threads;
 
 /// The headline: whatever is read and whatever fails, at each moment a crash leaves a log in which a
 /// start finds the lines that were there, and those logged among the first lines of what was read,
-/// in order; and whatever was written are replies to these. Each reply is that of `line_step`, and a
-/// line that isn't logged changes nothing. Where the log has no room, questions are still answered.
-pub fn run_store<L: Ledger, T: Threads + Wait + Sync, G: LineLog, R: Read, W: Write>(
+/// in order; and whatever was written are replies to these. Each line is a step of the service: of a
+/// store itself the one of `line_step`. A line that isn't logged changes nothing. Where the log has no
+/// room, questions are still answered.
+pub fn run_store<S: StoreService, T: Threads + Wait + Sync, G: LineLog, R: Read, W: Write>(
     rt: &T,
-    store: &mut KeptStore<L>,
+    service: &mut S,
     log: &mut G,
     buffers: &mut RunBuffers,
     reader: &mut R,
@@ -28,11 +31,11 @@ pub fn run_store<L: Ledger, T: Threads + Wait + Sync, G: LineLog, R: Read, W: Wr
         × (buffers.new ≡ [])) }
     ensures answers { IfSome (stopped_at_end result) (λ at_end. (kept : List (List ℕ))
         → G.holds log.old kept []
-        → Answers LineSteps (from store.old kept (W.contents writer.old) buffers.old
-        (R.remaining reader.old)) at_end store.new (W.contents writer.new) buffers.new
+        → Answers S.steps (from service.old kept (W.contents writer.old) buffers.old
+        (R.remaining reader.old)) at_end service.new (W.contents writer.new) buffers.new
         (R.remaining reader.new) (G.holds log.new)) }
     ensures kept { (kept : List (List ℕ)) → G.holds log.old kept []
-        → KeepsStore (from store.old kept (W.contents writer.old) buffers.old
+        → KeepsStore S.steps S.store_of (from service.old kept (W.contents writer.old) buffers.old
         (R.remaining reader.old)) (W.contents writer.new) (R.remaining reader.new)
         (G.may_find log.new) }
     ensures gets_on { IfOk result (λ stop. stop ≡ Stop.CheckpointDue → IsTrue G.keeps
@@ -45,5 +48,5 @@ pub fn run_store<L: Ledger, T: Threads + Wait + Sync, G: LineLog, R: Read, W: Wr
     // After another failure what was read of a block may be lost, and the line with it.
     ensures lost { IfErr result (λ error. (error ≡ RunError.ReadFailed → ⊥) → buffers.new ≡ []) }
 {
-    run_lines(rt, store, log, buffers, reader, writer)
+    run_lines(rt, service, log, buffers, reader, writer)
 }

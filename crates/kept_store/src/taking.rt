@@ -102,6 +102,7 @@ fn made_again<N: Ledger, E: Log + Drop, T: Threads + Wait + Sync>(
         return Err(CheckpointError::OutOfMemory);
     };
     if let Err(error) = replay_journal(&mut store, rt, alloc, journal) {
+        // For the prover: an exit that drops the store in place takes minutes.
         drop(store);
         return Err(error);
     }
@@ -133,9 +134,11 @@ pub(crate) fn compare<L: Ledger, N: Ledger, E: Log + Drop, T: Threads + Wait + S
     };
     let other = made_again::<N, E, T>(rt, alloc, fresh, journal)?;
     if let Err(error) = are_same(alloc, store, &other) {
+        // For the prover: an exit that drops the store in place takes minutes.
         drop(other);
         return Err(error);
     }
+    // For the prover: an exit that drops the store in place takes minutes.
     drop(other);
     Ok(())
 }

@@ -11,6 +11,7 @@ ghost use Rattle.metad.specs.Runs.{ExchangesFrom};
 
 mod args;
 mod blocks;
+mod stack;
 #[cfg(test)]
 mod tests;
 #[cfg(test)]
@@ -20,6 +21,7 @@ mod tests_flush;
 
 use crate::args::{ArgFault, parse_args};
 use crate::blocks::Blocks;
+use crate::stack::take_stack;
 use meta_types::{Fault, Workers};
 use scripts::run_script_with;
 use std::alloc::Global;
@@ -127,6 +129,9 @@ fn main(rt: HostRuntime) -> ExitCode {
             };
         }
     };
+    if take_stack(&rt).is_err() {
+        return ended(&rt, Fault::ReadFailed);
+    }
     let Ok(mut writer) = Blocks::new(alloc, io::writer(&rt)) else {
         return ended(&rt, Fault::OutOfMemory);
     };

@@ -38,6 +38,7 @@ fn sound_so_far(reader: &Reader, sound: Sound) -> Sound {
 // Reads a block line by line. Answers how far the groups go, and whether there is no damage.
 fn read_block(reader: &mut Reader, block: &[u8], sound: &mut Sound) -> Result<bool, JournalError> {
     let mut rest = block;
+    // For the prover: a text has fewer lines.
     'lines: for _ in 0..u64::MAX {
         let Some((line, later)) = cut_line(rest) else {
             break;
@@ -65,6 +66,7 @@ fn find_sound<D: Log>(
     };
     let mut block: Vec<u8> = Vec::new(alloc);
     let mut at = 0usize;
+    // For the prover: a file has fewer blocks.
     'reading: for _ in 0..u64::MAX {
         if at >= size {
             break;
@@ -86,6 +88,7 @@ fn find_sound<D: Log>(
 pub fn count_in(text: &[u8]) -> u64 {
     let mut count = 0u64;
     let mut rest = text;
+    // For the prover: a text has fewer lines.
     'lines: for _ in 0..u64::MAX {
         let Some((line, later)) = cut_line(rest) else {
             break;
@@ -103,6 +106,7 @@ fn count_lines<D: Log>(alloc: Global, log: &mut D, end: usize) -> Result<u64, Jo
     let mut block: Vec<u8> = Vec::new(alloc);
     let mut count = 0u64;
     let mut at = 0usize;
+    // For the prover: a file has fewer blocks.
     'counting: for _ in 0..u64::MAX {
         if at >= end {
             break;
@@ -137,6 +141,7 @@ fn find_once<D: Log>(
 /// behind the same byte is damage.
 pub fn find<D: Log>(alloc: Global, first: &[u8; 64], log: &mut D) -> Result<Finding, JournalError> {
     let mut found = find_once(alloc, first, log)?;
+    // For the prover: after fewer readings two find the same damage, or one finds none.
     'again: for _ in 0..u64::MAX {
         if !found.is_damaged {
             break;

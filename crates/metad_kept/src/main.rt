@@ -22,6 +22,7 @@ use crate::reading::{check, script};
 use crate::serving::serve;
 use crate::starting::loading::load;
 use crate::starting::making::make;
+use crate::starting::stack::take_stack;
 use crate::telling::tell;
 use crate::words::{Command, Words, read_words};
 use meta_types::Fault;
@@ -33,8 +34,8 @@ use std::sync::Wait;
 use std::thread::Threads;
 
 // The words of a run.
-const SERVING: &str =
-    "metad serve --dir DIR [--new] [--workers 1..16] [--checkpoint] [--accept-loss]";
+const SERVING: &str = "metad serve --dir DIR [--new] [--workers 1..16] [--checkpoint] \
+    [--accept-loss] [--numbered] [--clock SECONDS]";
 
 // The other words, without a lock: those that only read.
 const READING: &str = "check --dir DIR | check FILE | script --dir DIR | backup --dir DIR FILE";
@@ -82,6 +83,9 @@ fn answer<T: Threads + Wait + Sync>(rt: &HostRuntime, threads: &T, words: Words<
 }
 
 fn main(rt: HostRuntime) -> ExitCode {
+    if take_stack(&rt).is_err() {
+        return tell(&rt, Fault::ReadFailed);
+    }
     let alloc = rt.alloc();
     let args = match env::args(&rt) {
         Ok(args) => args,

@@ -146,14 +146,12 @@ impl OwnNames {
 
 /// The first file of a folder.
 pub fn first_name(alloc: Global, dir: &str) -> Result<String, AllocError> {
-    let name = format!(in alloc; "{dir}/metad.journal")?;
-    Ok(name)
+    format!(in alloc; "{dir}/metad.journal")
 }
 
 /// The second file beside the first.
 pub fn second_name(alloc: Global, first: &str) -> Result<String, AllocError> {
-    let name = format!(in alloc; "{first}-wal")?;
-    Ok(name)
+    format!(in alloc; "{first}-wal")
 }
 
 /// Where the second file is: beside the first one, wherever a link leads to that.

@@ -218,6 +218,7 @@ fn read_twice(rt: &HostRuntime, names: Names<'_>) -> Result<Reading, Unread> {
 // What the file that counts holds. Where another one counts by then, that is read.
 fn read(rt: &HostRuntime, names: Names<'_>) -> Result<Reading, Unread> {
     let mut reading = read_twice(rt, names)?;
+    // For the prover: after fewer readings the file that was read still counts.
     'again: for _ in 0..u64::MAX {
         let now = open_counting(rt, names)?;
         if now.is_second == reading.is_second {

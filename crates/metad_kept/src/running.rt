@@ -1,58 +1,22 @@
 //! Answers lines, and takes a checkpoint where one is due.
 ghost use Rattle.std.specs.Prelude.{◌≡◌, [], IfOk, IfSome, OnOk};
 
+pub mod host_clock;
+pub mod teller;
+
 use crate::files::{CountingFile, CountingLog, Files, Text};
 use crate::heads::Unfit;
-use crate::renewing::{Why, keep_length, leave_witness, next_size, renew};
+use crate::renewing::{keep_length, leave_witness, next_size, renew};
+use crate::running::teller::Teller;
 use crate::starting::beginning::{Cause, NotStarted};
-use crate::telling::{
-    tell_checkpoint, tell_found, tell_identity, tell_no_checkpoint, tell_unwitnessed,
-};
 use crate::telling_file::TellingFile;
-use journal::{JournalError, Log, Note, Paged, STEP, Sound};
-use kept_store::{KeptStore, StartError, due_at, run_store};
-use line_loop::{RunBuffers, RunError, Service, Stop};
+use journal::{JournalError, Log, Paged, STEP};
+use kept_store::{StartError, StoreService, due_at, run_store};
+use line_loop::{RunBuffers, RunError, Stop};
 use sqlite_disk::Disk;
 use std::io::{Read, Write};
 use std::sync::Wait;
-use std::sync::ledger::Ledger;
 use std::thread::Threads;
-
-/// What a service tells beside its replies.
-pub trait Teller {
-    /// How many lines a start found, how far they go, and of which store and generation they are.
-    fn found(&mut self, path: &str, lines: u64, sound: &Sound, card: Note);
-
-    /// That a file has no witness of the one that counts.
-    fn unwitnessed(&mut self, path: &str);
-
-    /// That a file has a checkpoint, which goes this far; or why it has none.
-    fn renewed(&mut self, path: &str, end: usize, why: Option<Why>);
-}
-
-/// Tells it on standard error.
-#[derive(Drop)]
-pub struct Errors<'a> {
-    pub rt: &'a HostRuntime,
-}
-
-impl Teller for Errors<'_> {
-    fn found(&mut self, path: &str, lines: u64, sound: &Sound, card: Note) {
-        tell_found(self.rt, path, lines, sound);
-        tell_identity(self.rt, path, card);
-    }
-
-    fn unwitnessed(&mut self, path: &str) {
-        tell_unwitnessed(self.rt, path);
-    }
-
-    fn renewed(&mut self, path: &str, end: usize, why: Option<Why>) {
-        match why {
-            None => tell_checkpoint(self.rt, path, end),
-            Some(why) => tell_no_checkpoint(self.rt, path, why),
-        }
-    }
-}
 
 /// Where lines come from, where replies go, and who tells the rest.
 #[derive(Drop)]
@@ -99,9 +63,9 @@ pub fn failure_of<'a, D: Disk + Drop>(
 
 // Tries a checkpoint, and tells what became of it. The next one is due by its size; where there is
 // none, as if there were one now.
-fn try_checkpoint<'a, L: Ledger, T: Threads + Wait + Sync, D: Disk + Drop, N: Teller>(
+fn try_checkpoint<'a, S: StoreService, T: Threads + Wait + Sync, D: Disk + Drop, N: Teller>(
     threads: &T,
-    store: &mut KeptStore<L>,
+    service: &mut S,
     pauses: &mut Pauses,
     files: Files<'a, D, CountingFile<D>>,
     teller: &mut N,
@@ -110,7 +74,7 @@ fn try_checkpoint<'a, L: Ledger, T: Threads + Wait + Sync, D: Disk + Drop, N: Te
     ensures { IfOk result (λ files. files.log.journal.pending.items ≡ []) }
 {
     let names = files.names;
-    let renewed = match renew(threads, store, files) {
+    let renewed = match renew(threads, service.store(), files) {
         Ok(renewed) => renewed,
         Err(error) => return Err(Failure::Run(names.first, error)),
     };
@@ -120,7 +84,7 @@ fn try_checkpoint<'a, L: Ledger, T: Threads + Wait + Sync, D: Disk + Drop, N: Te
     let end = renewed.files.log.journal.end;
     teller.renewed(path, end, renewed.why);
     pauses.checkpoint = due_at(next_size(end));
-    store.count_rows_anew();
+    service.forget_rows();
     Ok(renewed.files)
 }
 
@@ -144,9 +108,9 @@ fn leave<'a, D: Disk + Drop, N: Teller>(
 }
 
 // Takes a checkpoint where one is due, and leaves a witness.
-fn pause<'a, L: Ledger, T: Threads + Wait + Sync, D: Disk + Drop, N: Teller>(
+fn pause<'a, S: StoreService, T: Threads + Wait + Sync, D: Disk + Drop, N: Teller>(
     threads: &T,
-    store: &mut KeptStore<L>,
+    service: &mut S,
     pauses: &mut Pauses,
     files: Files<'a, D, CountingFile<D>>,
     teller: &mut N,
@@ -155,16 +119,16 @@ fn pause<'a, L: Ledger, T: Threads + Wait + Sync, D: Disk + Drop, N: Teller>(
     ensures { IfOk result (λ files. files.log.journal.pending.items ≡ []) }
 {
     let end = files.log.journal.end;
-    if end <= pauses.checkpoint && store.work() <= end as u128 {
+    if end <= pauses.checkpoint && service.work() <= end as u128 {
         return Ok(leave(pauses, files, teller));
     }
-    let files = try_checkpoint(threads, store, pauses, files, teller)?;
+    let files = try_checkpoint(threads, service, pauses, files, teller)?;
     Ok(leave(pauses, files, teller))
 }
 
 // Answers lines until the input ends, or until the log is due. No line waits then.
 fn run_on<
-    L: Ledger,
+    S: StoreService,
     T: Threads + Wait + Sync,
     D: Disk + Drop,
     R: Read + Drop,
@@ -172,7 +136,7 @@ fn run_on<
     N: Teller + Drop,
 >(
     threads: &T,
-    store: &mut KeptStore<L>,
+    service: &mut S,
     log: &mut CountingLog<D>,
     streams: &mut Streams<R, W, N>,
 ) -> Result<Stop, RunError>
@@ -182,7 +146,7 @@ fn run_on<
     // For the prover: the result is opened, not passed on.
     let stop = run_store(
         threads,
-        store,
+        service,
         log,
         &mut streams.buffers,
         &mut streams.reader,
@@ -194,7 +158,7 @@ fn run_on<
 // Answers lines until the input ends, or until a witness or a checkpoint is due, and does that.
 fn go_on<
     'a,
-    L: Ledger,
+    S: StoreService,
     T: Threads + Wait + Sync,
     D: Disk + Drop,
     R: Read + Drop,
@@ -202,7 +166,7 @@ fn go_on<
     N: Teller + Drop,
 >(
     threads: &T,
-    store: &mut KeptStore<L>,
+    service: &mut S,
     pauses: &mut Pauses,
     files: Files<'a, D, CountingFile<D>>,
     streams: &mut Streams<R, W, N>,
@@ -213,13 +177,13 @@ fn go_on<
     let mut files = files;
     let path = files.names.of(!files.spare.is_second());
     files.log.due_at = pauses.checkpoint.min(pauses.witness);
-    match run_on(threads, store, &mut files.log, streams) {
+    match run_on(threads, service, &mut files.log, streams) {
         Ok(Stop::End) => {
             let _ended = leave(pauses, files, &mut streams.teller);
             Ok(None)
         }
         Ok(Stop::CheckpointDue) => {
-            let next = pause(threads, store, pauses, files, &mut streams.teller)?;
+            let next = pause(threads, service, pauses, files, &mut streams.teller)?;
             Ok(Some(next))
         }
         Err(error) => Err(Failure::Run(path, error)),
@@ -229,7 +193,7 @@ fn go_on<
 // Answers lines until the input ends.
 fn answer_all<
     'a,
-    L: Ledger,
+    S: StoreService,
     T: Threads + Wait + Sync,
     D: Disk + Drop,
     R: Read + Drop,
@@ -237,7 +201,7 @@ fn answer_all<
     N: Teller + Drop,
 >(
     threads: &T,
-    store: &mut KeptStore<L>,
+    service: &mut S,
     pauses: &mut Pauses,
     files: Files<'a, D, CountingFile<D>>,
     streams: &mut Streams<R, W, N>,
@@ -246,8 +210,9 @@ fn answer_all<
 {
     let first = files.names.first;
     let mut files = files;
+    // For the prover: a run makes fewer pauses.
     'serving: for _ in 0..u64::MAX {
-        match go_on(threads, store, pauses, files, streams)? {
+        match go_on(threads, service, pauses, files, streams)? {
             Some(next) => files = next,
             None => return Ok(()),
         }
@@ -255,11 +220,11 @@ fn answer_all<
     Err(Failure::Run(first, RunError::ReadFailed))
 }
 
-/// Goes on with a store that was opened, until the input ends; first with a checkpoint, where one
+/// Goes on with the service of a store that was opened, until the input ends; first with a checkpoint, where one
 /// is wanted.
 pub fn run<
     'a,
-    L: Ledger,
+    S: StoreService,
     T: Threads + Wait + Sync,
     D: Disk + Drop,
     R: Read + Drop,
@@ -267,7 +232,7 @@ pub fn run<
     N: Teller + Drop,
 >(
     threads: &T,
-    store: &mut KeptStore<L>,
+    service: &mut S,
     has_checkpoint: bool,
     files: Files<'a, D, CountingFile<D>>,
     streams: &mut Streams<R, W, N>,
@@ -281,9 +246,9 @@ pub fn run<
     let files = leave(&mut pauses, files, &mut streams.teller);
     let (files, _has_more) = keep_length(files);
     if has_checkpoint {
-        let files = try_checkpoint(threads, store, &mut pauses, files, &mut streams.teller)?;
+        let files = try_checkpoint(threads, service, &mut pauses, files, &mut streams.teller)?;
         let files = leave(&mut pauses, files, &mut streams.teller);
-        return answer_all(threads, store, &mut pauses, files, streams);
+        return answer_all(threads, service, &mut pauses, files, streams);
     }
-    answer_all(threads, store, &mut pauses, files, streams)
+    answer_all(threads, service, &mut pauses, files, streams)
 }

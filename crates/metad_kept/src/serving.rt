@@ -1,13 +1,16 @@
 //! Serves a store whose journal is in one of two files.
 ghost use Rattle.std.specs.Prelude.{◌≡◌, []};
 
+mod answering;
 mod opened;
 
 use crate::ending::{not_ended, not_fit, not_opened, not_read, not_started, not_there};
 use crate::files::{CountingFile, Files, log_of, telling};
 use crate::heads::{NoHeads, open_ready};
 use crate::names::{Names, OwnNames, is_missing, make_private};
-use crate::running::{Errors, Failure, Streams, Teller, failure_of, run};
+use crate::running::teller::{Errors, Teller};
+use crate::running::{Failure, Streams, failure_of};
+use crate::serving::answering::serve_store;
 use crate::serving::opened::{Disks, disks_of};
 use crate::starting::beginning::{begin, wanted_lines};
 use crate::starting::making::make_store;
@@ -15,84 +18,19 @@ use crate::starting::progress::Progress;
 use crate::starting::selecting::{Selection, select_file};
 use crate::telling::{tell, tell_missing, tell_no_store, tell_taken};
 use crate::words::Serving;
-use journal::{JournalError, Sound};
-use kept_store::KeptStore;
+use journal::JournalError;
 use line_loop::RunBuffers;
 use meta_types::Fault;
 use scripts::Fresh;
 use sqlite_disk::Disk;
 use sqlite_std_file::Start;
-use std::alloc::Global;
 use std::io::{self, Read, Write};
 use std::marker::Brand;
-use std::mem::ManuallyDrop;
 use std::process::ExitCode;
 use std::sync::Wait;
 use std::sync::ledger::{Blank, Ledger};
 use std::thread::Threads;
 use table_seed::Seed;
-
-// A run keeps so many bytes free, so that a store which ran full starts again. The start takes a
-// block of 64 KiB beside the store. The C library takes memory by 132 KiB, and may do so at another
-// row than in the run before.
-const SPARE: usize = 655_360;
-
-// A run keeps so many bytes free, if its start leaves no more.
-const LESS_SPARE: usize = 458_752;
-
-// If fewer are free, additions are refused: the next start would find too little.
-const LEAST_SPARE: usize = 262_144;
-
-// Room of so many bytes, where it can be had.
-fn room_of(alloc: Global, bytes: usize) -> Option<Vec<u8>> {
-    Vec::<u8>::with_capacity(alloc, bytes).ok()
-}
-
-// What a run keeps free; none where too little is.
-fn spare_room(alloc: Global) -> Option<Vec<u8>> {
-    if let Some(spare) = room_of(alloc, SPARE) {
-        return Some(spare);
-    }
-    if let Some(spare) = room_of(alloc, LESS_SPARE) {
-        return Some(spare);
-    }
-    room_of(alloc, LEAST_SPARE)
-}
-
-// Tells what a start found, and answers lines.
-fn answer_lines<
-    'a,
-    L: Ledger,
-    T: Threads + Wait + Sync,
-    D: Disk + Drop,
-    R: Read + Drop,
-    W: Write + Drop,
-    N: Teller + Drop,
->(
-    threads: &T,
-    store: &mut KeptStore<L>,
-    lines: u64,
-    has_checkpoint: bool,
-    files: Files<'a, D, CountingFile<D>>,
-    streams: &mut Streams<R, W, N>,
-) -> Result<(), Failure<'a, CountingFile<D>>>
-    requires { files.log.journal.pending.items ≡ [] }
-{
-    let path = files.names.of(!files.spare.is_second());
-    let last = files.log.journal.last;
-    let sound = Sound {
-        end: files.log.journal.end,
-        last,
-    };
-    streams.teller.found(path, lines, &sound, files.card);
-    let spare = spare_room(files.rt.alloc());
-    if spare.is_none() {
-        store.refuse_additions();
-    }
-    let result = run(threads, store, has_checkpoint, files, streams);
-    drop(spare);
-    result
-}
 
 // Opens the store of the file that counts, and serves it. The blank has 65,536 parts.
 fn serve_named<
@@ -148,19 +86,14 @@ fn serve_named<
         log: log_of(first, started.journal),
         spare,
     };
-    let mut store = started.store;
-    let has_checkpoint = serving.has_checkpoint;
-    let result = answer_lines(
+    serve_store(
         threads,
-        &mut store,
+        started.store,
         started.lines,
-        has_checkpoint,
+        serving,
         files,
         streams,
-    );
-    // The store's memory isn't freed: it goes with the process.
-    let _store = ManuallyDrop::new(store);
-    result
+    )
 }
 
 // Opens the store of the file that counts, and serves it.

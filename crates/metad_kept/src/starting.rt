@@ -6,3 +6,4 @@ pub mod loading;
 pub mod making;
 pub mod progress;
 pub mod selecting;
+pub mod stack;

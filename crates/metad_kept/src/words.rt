@@ -13,6 +13,10 @@ pub struct Serving {
     pub is_new: bool,
     /// It serves a journal that has less than it had.
     pub takes_less: bool,
+    /// Each reply begins with its line's number.
+    pub is_numbered: bool,
+    /// How many nanoseconds a line's moment may be from the clock, where it may not be any.
+    pub clock: Option<u64>,
 }
 
 /// What the words ask for, in a folder.
@@ -52,6 +56,22 @@ struct Options<'a> {
     is_new: bool,
     takes_less: bool,
     takes_part: bool,
+    is_numbered: bool,
+    clock: Option<u64>,
+}
+
+// The most seconds that a line's moment may be from the clock.
+const MOST_SECONDS: u64 = 1_000_000_000;
+
+// The nanoseconds of the whole seconds that a text is.
+fn nanoseconds(text: &str) -> Option<u64> {
+    let Ok(seconds) = text.parse::<u64>() else {
+        return None;
+    };
+    if seconds > MOST_SECONDS {
+        return None;
+    }
+    Some(seconds * 1_000_000_000)
 }
 
 // The number of workers that a text is.
@@ -71,6 +91,10 @@ fn with_option<'a>(options: Options<'a>, name: &str, value: &'a str) -> Option<O
         }),
         "--workers" if options.workers.is_none() => Some(Options {
             workers: Some(number(value)?),
+            ..options
+        }),
+        "--clock" if options.clock.is_none() => Some(Options {
+            clock: Some(nanoseconds(value)?),
             ..options
         }),
         _ => None,
@@ -96,6 +120,10 @@ fn with_switch<'a>(options: Options<'a>, name: &str) -> Option<Options<'a>> {
             takes_part: true,
             ..options
         }),
+        "--numbered" if !options.is_numbered => Some(Options {
+            is_numbered: true,
+            ..options
+        }),
         _ => None,
     }
 }
@@ -114,7 +142,7 @@ fn with_file<'a>(options: Options<'a>, name: &'a str) -> Option<Options<'a>> {
 // Whether a word is an option that has no value.
 fn is_switch(word: &str) -> bool {
     match word {
-        "--checkpoint" | "--new" | "--accept-loss" | "--part" => true,
+        "--checkpoint" | "--new" | "--accept-loss" | "--part" | "--numbered" => true,
         _ => false,
     }
 }
@@ -129,8 +157,11 @@ fn read_options<'a>(words: &[&'a str]) -> Option<Options<'a>> {
         is_new: false,
         takes_less: false,
         takes_part: false,
+        is_numbered: false,
+        clock: None,
     };
     let mut at = 0usize;
+    // For the prover: a command has fewer words.
     'reading: for _ in 0..u64::MAX {
         let Some(word) = words.get(at) else {
             return Some(options);
@@ -165,12 +196,19 @@ fn serving_of(options: Options<'_>) -> Option<Command> {
         has_checkpoint: options.has_checkpoint,
         is_new: options.is_new,
         takes_less: options.takes_less,
+        is_numbered: options.is_numbered,
+        clock: options.clock,
     }))
 }
 
 // Whether options are there that only a run has.
 fn are_of_a_run(options: Options<'_>) -> bool {
-    options.workers.is_some() || options.has_checkpoint || options.is_new || options.takes_less
+    options.workers.is_some()
+        || options.has_checkpoint
+        || options.is_new
+        || options.takes_less
+        || options.is_numbered
+        || options.clock.is_some()
 }
 
 // What a word asks for that is no run, by the folder and the file that it is given.

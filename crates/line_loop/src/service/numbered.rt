@@ -129,6 +129,7 @@ impl<S: Service + Drop> Service for Numbered<S> {
     }
 
     fn text(reply: &Self::ReplyText) -> Option<&[u8]> {
+        // For the prover: the text is opened, not passed on.
         let text = S::text(&reply.reply)?;
         Some(text)
     }

@@ -47,6 +47,7 @@ fn write_line<W: Write>(writer: &mut W, line: &[u8]) -> Result<(), ScriptError> 
 // Writes the lines of a block.
 fn write_lines<W: Write>(writer: &mut W, text: &[u8]) -> Result<(), ScriptError> {
     let mut rest = text;
+    // For the prover: a block has fewer lines.
     'lines: for _ in 0..u64::MAX {
         let Some((line, later)) = cut_line(rest) else {
             break;
@@ -90,6 +91,7 @@ fn write_part<D: Log, W: Write>(
 ) -> Result<u64, ScriptError> {
     let mut count = 0u64;
     let mut at = from;
+    // For the prover: a file has fewer blocks.
     'writing: for _ in 0..u64::MAX {
         if at >= till {
             break;
