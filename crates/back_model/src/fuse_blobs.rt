@@ -12,9 +12,8 @@ use crate::fuse::Fuse;
 use crate::mem_blobs::MemBlobs;
 use crate::traits::BlobBackend;
 use meta_types::Digest;
-use row_tables::RowTable;
+use row_tables::{RowTable, Seed};
 use std::alloc::Global;
-use table_seed::Seed;
 
 /// Blobs in memory, with a device that fails once where it is armed.
 #[derive(Drop)]

@@ -4,10 +4,9 @@ ghost use Rattle.row_tables.specs.Arrived.{one_text, sorted};
 use crate::faults::{MakeFault, RemoveFault};
 use crate::traits::BlobBackend;
 use meta_types::{Digest, Fault};
-use row_tables::RowTable;
+use row_tables::{RowTable, Seed};
 use std::alloc::Global;
 use std::marker::Model;
-use table_seed::Seed;
 
 /// Blobs in memory, each found by a hash of its digest. No device fails.
 #[derive(Drop)]

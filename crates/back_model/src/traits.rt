@@ -11,9 +11,8 @@ ghost use Rattle.back_model.specs.Objects.{has_blob, without_blob, AreOrderedBlo
 
 use crate::faults::{MakeFault, RemoveFault};
 use meta_types::{Digest, Fault};
-use row_tables::RowTable;
+use row_tables::{RowTable, Seed};
 use std::alloc::Global;
-use table_seed::Seed;
 
 /// The snapshots of one snapshotter, by number.
 pub trait SnapBackend: Send + Drop {

@@ -4,8 +4,8 @@ use back_model::{
     Backends, BlobBackend, FuseBackend, FuseBlobs, FuseIngests, IngestBackend, SnapBackend,
 };
 use meta_types::{Digest, Fault, ShortName};
+use row_tables::Seed;
 use std::alloc::Global;
-use table_seed::Seed;
 
 type Fuses = Backends<FuseBackend, FuseBlobs, FuseIngests>;
 

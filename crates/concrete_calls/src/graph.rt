@@ -4,10 +4,10 @@ use gc_graph::{ListedRows, build};
 use lease_book::Leases;
 use meta_types::Instant;
 use object_tables::Tables;
+use row_tables::Seed;
 use std::alloc::Global;
 use std::mem::drop;
 use std::thread::Threads;
-use table_seed::Seed;
 
 // Whether the graph of these rows is made.
 fn makes_graph(

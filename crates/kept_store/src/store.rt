@@ -20,6 +20,7 @@ use back_model::{MemBackend, MemBlobs, MemIngests};
 use line_loop::{Answered, Mode, RunError, Service};
 use meta_types::{Fault, Workers};
 use request_core::State;
+use row_tables::Seed;
 use scripts::{Answered as Executed, Fresh, LineMemory, ReplyText, execute_line, write_reply_text};
 use std::alloc::{AllocError, Global};
 use std::io::Write;
@@ -28,7 +29,6 @@ use std::sync::Wait;
 use std::sync::ledger::Ledger;
 use std::thread::Threads;
 use store_front::{Locked, MemLocked, Session, WithoutHistory};
-use table_seed::Seed;
 
 /// The longest line that can be a request, in bytes without its line feed.
 pub(crate) const LINE_LIMIT: usize = 65536;

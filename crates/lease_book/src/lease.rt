@@ -8,10 +8,9 @@ ghost use Rattle.meta_types.specs.declared.fault.Fault.TheVariants.{InvalidArgum
 ghost use Rattle.row_tables.specs.Arrived.{sorted};
 
 use meta_types::{Data, Fault, Labels, Name, Resource, ShortName};
-use row_tables::{GroupedRow, NamedRow, RowTable, in_key_order};
+use row_tables::{GroupedRow, NamedRow, RowTable, Seed, in_key_order};
 use std::alloc::Global;
 use std::marker::Model;
-use table_seed::Seed;
 
 /// A lease, with what it holds (containerd leases service).
 #[derive(Drop)]

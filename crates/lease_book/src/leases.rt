@@ -13,10 +13,9 @@ use crate::edits::{Hold, OneLabel, Parts, Release};
 use crate::ids::ids_of;
 use crate::lease::Lease;
 use meta_types::{Data, Fault, Labels, Name, Resource, ShortName};
-use row_tables::{ArrivedByNamespace, ByNamespace};
+use row_tables::{ArrivedByNamespace, ByNamespace, Seed};
 use std::alloc::Global;
 use std::marker::Model;
-use table_seed::Seed;
 
 /// The leases of all namespaces, in the order of namespaces and ids (containerd leases service).
 /// Each is found by a hash of its id.

@@ -23,6 +23,7 @@ use crate::args::{ArgFault, parse_args};
 use crate::blocks::Blocks;
 use crate::stack::take_stack;
 use meta_types::{Fault, Workers};
+use row_tables::Seed;
 use scripts::run_script_with;
 use std::alloc::Global;
 use std::io::ErrorKind;
@@ -30,7 +31,6 @@ use std::process::ExitCode;
 use std::sync::Wait;
 use std::thread::Threads;
 use std::{env, io};
-use table_seed::Seed;
 
 // Why the program's words can't be had: one of them isn't UTF-8, so they ask for no run, or memory
 // runs out.

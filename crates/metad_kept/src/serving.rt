@@ -21,6 +21,7 @@ use crate::words::Serving;
 use journal::JournalError;
 use line_loop::RunBuffers;
 use meta_types::Fault;
+use row_tables::Seed;
 use scripts::Fresh;
 use sqlite_disk::Disk;
 use sqlite_std_file::Start;
@@ -30,7 +31,6 @@ use std::process::ExitCode;
 use std::sync::Wait;
 use std::sync::ledger::{Blank, Ledger};
 use std::thread::Threads;
-use table_seed::Seed;
 
 // Opens the store of the file that counts, and serves it. The blank has 65,536 parts.
 fn serve_named<

@@ -17,10 +17,9 @@ use crate::families::Families;
 use crate::parts::set_snap;
 use crate::stored::relabel_snap;
 use meta_types::{Data, Fault, Labels, Name, SnapKey, SnapRow};
-use row_tables::{ArrivedBySnapshotter, BySnapshotter, RemovedRows};
+use row_tables::{ArrivedBySnapshotter, BySnapshotter, RemovedRows, Seed};
 use std::alloc::Global;
 use std::marker::Model;
-use table_seed::Seed;
 
 /// The snapshots, with the names of each one's children.
 #[derive(Drop)]

@@ -8,10 +8,9 @@ ghost use Rattle.object_tables.specs.Children.{Enters, enters_keep, Leaves, ente
 
 use crate::names::Names;
 use meta_types::{Fault, Name, ShortName, SnapKey};
-use row_tables::{BySnapshotter, Change, GroupedRow, NamedRow, SnapshotterRow};
+use row_tables::{BySnapshotter, Change, GroupedRow, NamedRow, Seed, SnapshotterRow};
 use std::alloc::Global;
 use std::marker::Model;
-use table_seed::Seed;
 
 /// A snapshot that has children, and their names.
 #[derive(Drop)]

@@ -6,12 +6,11 @@ ghost use Rattle.row_tables.specs.Arrived.{by_name, sorted};
 ghost use Rattle.object_tables.specs.HeldNames.{names_held};
 
 use meta_types::Fault;
-use row_tables::{Named, NamedRow, RowTable, in_key_order};
+use row_tables::{Named, NamedRow, RowTable, Seed, in_key_order};
 use std::alloc::Global;
 use std::boxed::Box;
 use std::marker::Model;
 use std::mem;
-use table_seed::Seed;
 
 /// Names in arrival order, each found by a hash; contracts see them by their bytes.
 #[derive(Drop)]

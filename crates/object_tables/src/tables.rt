@@ -14,10 +14,9 @@ use crate::stored::names_in;
 use meta_types::{
     ContainerRow, ContentRow, Digest, Fault, ImageRow, IngestRow, Kind, Listing, Name, ShortName,
 };
-use row_tables::ByNamespace;
+use row_tables::{ByNamespace, Seed};
 use std::alloc::Global;
 use std::marker::Model;
-use table_seed::Seed;
 
 /// Rows of all kinds, by namespace.
 #[derive(Drop)]

@@ -12,9 +12,9 @@ use back_model::{Backends, BlobBackend, IngestBackend, SnapBackend};
 use lease_book::Leases;
 use meta_types::{Fault, MAX_NODES, Name, ShortName};
 use object_tables::Tables;
+use row_tables::Seed;
 use std::alloc::Global;
 use std::marker::Model;
-use table_seed::Seed;
 
 /// All rows and leases, the next backend number, from 1 on, and the profile, 1 or 2.
 #[derive(Drop)]

@@ -7,18 +7,18 @@ ghost use Rattle.row_tables.specs.Arrived.{sorted, same_key, kept, without_memor
 ghost use Rattle.row_tables.specs.Visiting.{gone, all_visited};
 ghost use Rattle.row_tables.specs.Namespaces.{full_key};
 
-use crate::marks::count_marks;
 use crate::named::Named;
 use crate::namespaces::places::PlacesByNamespace;
 use crate::namespaces::{change, find, keep, list};
 use crate::row::{Change, GroupedRow, RemovedRows, Test};
 use crate::row_table::RowTable;
+use crate::row_table::marks::count_marks;
+use crate::seed::Seed;
 use crate::slices::Slices;
 use indexmap::IndexMap;
 use meta_types::{Fault, ShortName};
 use std::alloc::Global;
 use std::marker::Model;
-use table_seed::Seed;
 
 /// Rows of all namespaces, as they arrived: those of one namespace stand together. A row's place is
 /// its number. Where one goes, the last of its namespace takes its place. A namespace comes with its

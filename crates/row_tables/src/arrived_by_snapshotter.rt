@@ -8,9 +8,10 @@ ghost use Rattle.row_tables.specs.Visiting.{gone, all_visited};
 ghost use Rattle.row_tables.specs.Namespaces.{full_key, layered_key};
 
 use crate::arrived_by_namespace::ArrivedByNamespace;
-use crate::marks::count_marks;
 use crate::named::Named;
 use crate::row::{Change, RemovedRows, SnapshotterRow, Test};
+use crate::row_table::marks::count_marks;
+use crate::seed::Seed;
 use crate::slices::Slices;
 use crate::snapshotters::places::PlacesBySnapshotter;
 use crate::snapshotters::{change, find, keep, list};
@@ -18,7 +19,6 @@ use indexmap::IndexMap;
 use meta_types::{Fault, ShortName};
 use std::alloc::Global;
 use std::marker::Model;
-use table_seed::Seed;
 
 /// Rows of all namespaces, by snapshotter, as they arrived: those of one snapshotter in a namespace
 /// stand together. A row's place is its number. Where one goes, the last of its snapshotter and

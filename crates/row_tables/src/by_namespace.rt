@@ -10,10 +10,10 @@ ghost use Rattle.row_tables.specs.Namespaces.{full_key};
 use crate::arrived_by_namespace::ArrivedByNamespace;
 use crate::named::Named;
 use crate::row::{Change, GroupedRow, Test};
+use crate::seed::Seed;
 use meta_types::{Fault, ShortName};
 use std::alloc::Global;
 use std::marker::Model;
-use table_seed::Seed;
 
 /// Rows by namespace and name, which contracts see in the order of their keys. A row is found in
 /// its namespace by a hash of its name.

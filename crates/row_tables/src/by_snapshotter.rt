@@ -10,10 +10,10 @@ ghost use Rattle.row_tables.specs.Namespaces.{layered_key};
 use crate::arrived_by_snapshotter::ArrivedBySnapshotter;
 use crate::named::Named;
 use crate::row::{Change, SnapshotterRow, Test};
+use crate::seed::Seed;
 use meta_types::{Fault, ShortName};
 use std::alloc::Global;
 use std::marker::Model;
-use table_seed::Seed;
 
 /// Rows by namespace, snapshotter and name, which contracts see in the order of their keys. A row
 /// is found by a hash of its name.

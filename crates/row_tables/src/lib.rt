@@ -1,4 +1,5 @@
-//! Rows in arrival order, each found by its name, and listed in key order.
+//! Rows in arrival order, each found by its name, and listed in key order; and the seed of the tables'
+//! hashes: who doesn't know it can't pick names that clash.
 #![tactic(auto)]
 
 mod arrived_by_namespace;
@@ -6,13 +7,13 @@ mod arrived_by_snapshotter;
 mod by_namespace;
 mod by_snapshotter;
 mod listing;
-mod marks;
 mod named;
 mod namespaces;
 mod resources;
 mod row;
 mod row_table;
 mod rows;
+mod seed;
 mod slices;
 mod snapshotters;
 mod visiting;
@@ -26,5 +27,7 @@ pub use named::Named;
 pub use namespaces::places::PlacesByNamespace;
 pub use row::{Change, GroupedRow, NamedRow, RemovedRows, SnapshotterRow, Test};
 pub use row_table::RowTable;
+pub use seed::Seed;
+pub use seed::folded::TableHasher;
 pub use slices::Slices;
 pub use snapshotters::places::PlacesBySnapshotter;

@@ -9,18 +9,19 @@ ghost use Rattle.row_tables.specs.Arrived.{sorted, by_name, same_key, kept, with
 ghost use Rattle.row_tables.specs.Visiting.{gone, all_visited};
 
 mod inserting;
+pub(crate) mod marks;
 
-use crate::marks::take_mark;
 use crate::named::Named;
 use crate::row::{Change, NamedRow, RemovedRows, Test};
 use crate::row_table::inserting::insert_new;
+use crate::row_table::marks::take_mark;
+use crate::seed::Seed;
 use crate::visiting::visit_removed;
 use indexmap::IndexMap;
 use meta_types::Fault;
 use std::alloc::{AllocFailed, Global};
 use std::hash::Hash;
 use std::marker::Model;
-use table_seed::Seed;
 
 /// Rows in the order in which they arrived, each found by its name. Where one goes, the last takes its
 /// place.

@@ -19,6 +19,7 @@ use crate::reply_text::ReplyText;
 use crate::script_store::{Fresh, ScriptStore};
 use crate::writing::flush;
 use meta_types::{Fault, Workers};
+use row_tables::Seed;
 use std::alloc::Global;
 use std::io::{Read, Write};
 use std::marker::Brand;
@@ -26,7 +27,6 @@ use std::mem::ManuallyDrop;
 use std::sync::Wait;
 use std::sync::ledger::{Blank, Ledger};
 use std::thread::Threads;
-use table_seed::Seed;
 
 /// A run makes fewer reads than this, which no run comes to.
 const READ_LIMIT: u64 = 1 << 62;

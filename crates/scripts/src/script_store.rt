@@ -15,6 +15,7 @@ use crate::reply_text::ReplyText;
 use crate::writing::write_reply_text;
 use meta_types::{Fault, Workers};
 use request_core::State;
+use row_tables::Seed;
 use std::alloc::Global;
 use std::io::Write;
 use std::marker::Model;
@@ -22,7 +23,6 @@ use std::sync::Wait;
 use std::sync::ledger::{Blank, Ledger};
 use std::thread::Threads;
 use store_front::{Locked, MemLocked, Session, WithoutHistory};
-use table_seed::Seed;
 
 /// What a new store is made of: the ledger of its sessions, and what its tables hash by.
 #[derive(Drop)]

@@ -14,11 +14,10 @@ use back_model::{
 };
 use meta_types::Fault;
 use request_core::{Records, State};
-use row_tables::RowTable;
+use row_tables::{RowTable, Seed};
 use std::alloc::Global;
 use std::marker::{Model, PhantomData};
 use std::sync::ledger::{Blank, Book, Ledger, Share};
-use table_seed::Seed;
 
 /// How many sessions a store may open.
 pub const SESSIONS: u32 = 65536;

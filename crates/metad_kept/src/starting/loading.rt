@@ -15,6 +15,7 @@ use crate::telling::{tell, tell_missing};
 use journal::{cut_line, is_commit, read_page};
 use kept_store::KeptStore;
 use meta_types::Fault;
+use row_tables::Seed;
 use scripts::Fresh;
 use sqlite_std_file::Start;
 use std::io::Read;
@@ -24,7 +25,6 @@ use std::process::ExitCode;
 use std::sync::Wait;
 use std::sync::ledger::{Blank, Ledger};
 use std::thread::Threads;
-use table_seed::Seed;
 
 /// What is loaded, and where.
 #[derive(Clone, Copy)]

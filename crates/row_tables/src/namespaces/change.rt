@@ -13,10 +13,10 @@ use crate::named::Named;
 use crate::namespaces::homes::{home, name_at};
 use crate::row::{Change, GroupedRow};
 use crate::row_table::{RowTable, take_at};
+use crate::seed::Seed;
 use indexmap::IndexMap;
 use meta_types::{Fault, ShortName};
 use std::alloc::Global;
-use table_seed::Seed;
 
 /// Adds a row where none has its key; one look in its namespace finds whether one has.
 pub(crate) fn add_new_row<K: Named, R: GroupedRow<K>>(

@@ -12,10 +12,10 @@ use crate::named::Named;
 use crate::namespaces::homes::home;
 use crate::row::{GroupedRow, Test};
 use crate::row_table::RowTable;
+use crate::seed::Seed;
 use indexmap::IndexMap;
 use meta_types::{Fault, ShortName};
 use std::alloc::Global;
-use table_seed::Seed;
 
 /// Where the rows of each namespace begin.
 pub(crate) fn starts_of<K: Named, R: GroupedRow<K>>(

@@ -3,9 +3,9 @@ ghost use Rattle.std.specs.Prelude.{◌≡◌, ◌<◌, false, IfSome, IfNone, S
 ghost use Rattle.meta_types.specs.Keys.{has_row};
 ghost use Rattle.meta_types.specs.Rows.{namespace_key};
 
+use crate::seed::Seed;
 use indexmap::IndexMap;
 use meta_types::ShortName;
-use table_seed::Seed;
 
 /// Where the namespace is, if it has rows.
 pub(crate) fn home<G>(groups: &IndexMap<ShortName, G, Seed>, ns: &ShortName) -> Option<usize>

@@ -9,9 +9,9 @@ ghost use Rattle.row_tables.specs.ArrivedNamespaces.{AreApart, AreFull, has_rows
 use crate::named::Named;
 use crate::row::{GroupedRow, RemovedRows};
 use crate::row_table::{RowTable, give_back};
+use crate::seed::Seed;
 use indexmap::IndexMap;
 use meta_types::ShortName;
-use table_seed::Seed;
 
 /// Keeps the rows whose mark is set.
 pub(crate) fn retain_all<K: Named, R: GroupedRow<K>>(

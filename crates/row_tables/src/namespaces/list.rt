@@ -15,11 +15,11 @@ use crate::named::Named;
 use crate::namespaces::homes::{home, name_at};
 use crate::row::GroupedRow;
 use crate::row_table::RowTable;
+use crate::seed::Seed;
 use indexmap::IndexMap;
 use meta_types::{Fault, ShortName};
 use std::alloc::Global;
 use std::cmp::Ordering;
-use table_seed::Seed;
 
 /// The rows of a namespace, in the order of their names.
 pub(crate) fn rows_in<'a, K: Named, R: GroupedRow<K>>(

@@ -11,11 +11,11 @@ use crate::named::Named;
 use crate::namespaces::find;
 use crate::row::GroupedRow;
 use crate::row_table::RowTable;
+use crate::seed::Seed;
 use indexmap::IndexMap;
 use meta_types::{Fault, ShortName};
 use std::alloc::Global;
 use std::marker::Model;
-use table_seed::Seed;
 
 /// The places of a table's rows, which it borrows. It knows where each namespace begins, so a
 /// look-up takes the same time in the last one as in the first.

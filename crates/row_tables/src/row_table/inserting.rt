@@ -5,10 +5,10 @@ ghost use Rattle.indexmap.specs.IndexMap.{IsUnique, get, insert_entry};
 
 use crate::named::Named;
 use crate::row::NamedRow;
+use crate::seed::Seed;
 use indexmap::IndexMap;
 use indexmap::map::Entry;
 use meta_types::Fault;
-use table_seed::Seed;
 
 // One look for the name gives its row's place, or the one where a row goes.
 fn insert_into_room<K: Named, R: NamedRow<K>>(

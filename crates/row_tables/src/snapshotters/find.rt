@@ -13,10 +13,10 @@ use crate::named::Named;
 use crate::namespaces::homes::home;
 use crate::namespaces::places::PlacesByNamespace;
 use crate::row::{SnapshotterRow, Test};
+use crate::seed::Seed;
 use indexmap::IndexMap;
 use meta_types::{Fault, ShortName};
 use std::alloc::Global;
-use table_seed::Seed;
 
 /// Where the rows of each namespace begin.
 pub(crate) fn starts_of<K: Named, R: SnapshotterRow<K>>(

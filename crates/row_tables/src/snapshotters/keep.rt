@@ -10,9 +10,9 @@ use crate::arrived_by_namespace::ArrivedByNamespace;
 use crate::named::Named;
 use crate::row::{RemovedRows, SnapshotterRow};
 use crate::row_table::give_back;
+use crate::seed::Seed;
 use indexmap::IndexMap;
 use meta_types::ShortName;
-use table_seed::Seed;
 
 /// Keeps the rows whose mark is set.
 pub(crate) fn retain_all<K: Named, R: SnapshotterRow<K>>(

@@ -11,12 +11,12 @@ use crate::arrived_by_namespace::ArrivedByNamespace;
 use crate::named::Named;
 use crate::namespaces::places::PlacesByNamespace;
 use crate::row::SnapshotterRow;
+use crate::seed::Seed;
 use crate::snapshotters::find;
 use indexmap::IndexMap;
 use meta_types::{Fault, ShortName};
 use std::alloc::Global;
 use std::marker::Model;
-use table_seed::Seed;
 
 /// The places of a table's rows, which it borrows. It knows where each namespace, and in it each
 /// snapshotter, begins.

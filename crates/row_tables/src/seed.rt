@@ -1,9 +1,11 @@
 //! What the hashes of all tables start from.
 ghost use Rattle.std.specs.Prelude.{IfOk};
-ghost use Rattle.table_seed.specs.Folded.{started};
-ghost use Rattle.table_seed.specs.Secrets.{IsSecret};
+ghost use Rattle.row_tables.specs.Folded.{started};
+ghost use Rattle.row_tables.specs.Secrets.{IsSecret};
 
-use crate::folded::TableHasher;
+pub(crate) mod folded;
+
+use crate::seed::folded::TableHasher;
 use std::hash::BuildHasher;
 use std::io;
 use std::random::RandomSource;

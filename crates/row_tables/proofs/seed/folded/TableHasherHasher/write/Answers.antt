@@ -2,8 +2,8 @@ use Rattle.std.specs.Prelude.{◌≡◌, ℕ, suc, ◌+◌, ◌-◌, ◌*◌, �
 use Rattle.std.proofs.Common.{refl}
 use Rattle.std.proofs.Common.{arith}
 use Rattle.std.proofs.lemmas.Bool.{le-leb, lt-leb}
-use Rattle.table_seed.specs.Folded.{mix_blocks, write}
-use Rattle.table_seed.proofs.folded.TableHasherHasher.write.Goals as goal
+use Rattle.row_tables.specs.Folded.{mix_blocks, write}
+use Rattle.row_tables.proofs.seed.folded.TableHasherHasher.write.Goals as goal
 
 pub returns-then-len-le8 : goal.returns-then-len-le8
 unfolding write

@@ -1,7 +1,7 @@
 use Rattle.std.specs.Prelude.{length}
 use Rattle.std.proofs.lemmas.Bool.{le-leb, lt-leb, lt-ltb, le-ltb}
-use Rattle.table_seed.specs.Folded.{read_short}
-use Rattle.table_seed.proofs.folded.read_short.Goals as goal
+use Rattle.row_tables.specs.Folded.{read_short}
+use Rattle.row_tables.proofs.seed.folded.read_short.Goals as goal
 
 pub returns-then-len-ge4 : goal.returns-then-len-ge4
 unfolding read_short

@@ -1,9 +1,9 @@
 -- What a `TableHasher` computes. Only the code's own proofs read it: no clause of a table speaks of
 -- hashes.
 use Rattle.std.specs.Prelude.{ℕ, zero, suc, ◌+◌, ◌-◌, ◌*◌, ◌/◌, ◌%◌, ◌^◌, List, length, if◌then◌else◌, nat_le, nat_lt, slice_index, bit_and, bit_or, bit_xor}
-use Rattle.table_seed.specs.declared.folded.TableHasher.{TableHasher}
-use Rattle.table_seed.specs.declared.seed.Seed.{Seed}
-use Rattle.table_seed.specs.declared.seed.Seed.TheVariants.{Fixed, Secret}
+use Rattle.row_tables.specs.declared.seed.folded.TableHasher.{TableHasher}
+use Rattle.row_tables.specs.declared.seed.Seed.{Seed}
+use Rattle.row_tables.specs.declared.seed.Seed.TheVariants.{Fixed, Secret}
 
 abbrev pub from : ℕ → ℕ → TableHasher
 from state key = record { state = state; key = key }

@@ -1,6 +1,6 @@
 use Rattle.std.specs.Prelude.{◌≡◌, ◌-◌, ◌/◌, ◌%◌, ◌<◌}
-use Rattle.table_seed.specs.Folded.{mix_blocks}
-use Rattle.table_seed.proofs.folded.TableHasherHasher.write.Given as goal
+use Rattle.row_tables.specs.Folded.{mix_blocks}
+use Rattle.row_tables.proofs.seed.folded.TableHasherHasher.write.Given as goal
 
 abbrev pub invariant-loop-at : goal.invariant-loop-at
 invariant-loop-at l =

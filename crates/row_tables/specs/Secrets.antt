@@ -1,7 +1,7 @@
 -- Seeds that nobody knows who picks names.
 use Rattle.std.specs.Prelude.{⊤}
-use Rattle.table_seed.specs.declared.seed.Seed.{Seed}
-use Rattle.table_seed.specs.declared.seed.Seed.TheVariants.{Fixed, Secret}
+use Rattle.row_tables.specs.declared.seed.Seed.{Seed}
+use Rattle.row_tables.specs.declared.seed.Seed.TheVariants.{Fixed, Secret}
 
 abbrev pub IsSecret : Seed → Type 0
 IsSecret Fixed = ⊥
