@@ -1,12 +1,15 @@
 """What a client may cost the others: memory, turns, and how long it may be quiet."""
+import fcntl
 import os
 import select
 import shlex
 import signal
+import struct
+import termios
 import threading
 import time
 
-from fronts import STAND_IN, TERM, Front, Told, all_of, ask, lines_of
+from fronts import STAND_IN, TERM, Front, Told, all_of, ask, lines_of, until
 
 MIB = 1 << 20
 ROW = 1_049_714  # bytes of a row with 256 labels of 4,096 bytes
@@ -118,9 +121,9 @@ def owed():
         wants("it waits for few of another's lines", waited < whole / 2, waited, whole)
 
 
-def turns():
-    """Clients with many lines each: the service gets some of each in turn, and a turn's bytes."""
-    count, line = 1500, b"=%d." + b"x" * 98 + b"\n"
+def served_order(count, line, all_waits):
+    """The clients, by their numbers, in the order in which the service gets their lines. It gets
+    none until they have sent; with all_waits, until the front has read all of their lines."""
     with Front() as folder:
         order, command = noted(folder.folder)
         with Front(command) as front:
@@ -136,28 +139,50 @@ def turns():
             for sender in senders:
                 sender.start()
             time.sleep(0.5)
+            if all_waits:
+                for sender in senders:
+                    sender.join()
+                wants("the front reads what may wait in it",
+                      until(lambda: not any(map(sent_and_unread, clients))))
             os.kill(stopped, signal.SIGCONT)
             got = [0] * len(clients)
             threads = [threading.Thread(target=lambda at: got.__setitem__(
                 at, lines_of(clients[at], count).count(b"\n")), args=(at,)) for at in range(5)]
-            for thread in threads + senders:
-                if thread not in senders:
-                    thread.start()
+            for thread in threads:
+                thread.start()
             for thread in threads + senders:
                 thread.join()
             wants("each gets all", got == [count] * 5, got)
         with open(order, "rb") as file:
-            served = [int(it[1:2]) for it in file.read().split(b"\n") if it[2:3] == b"."]
+            return [int(it[1:2]) for it in file.read().split(b"\n") if it[2:3] == b"."]
+
+
+def sent_and_unread(client):
+    """How many bytes it has sent that the front hasn't read."""
+    return struct.unpack("i", fcntl.ioctl(client, termios.TIOCOUTQ, bytes(4)))[0]
+
+
+def turns():
+    """Clients with many lines each: the service gets some of each in turn, and a turn's bytes."""
+    line = b"=%d." + b"x" * 98 + b"\n"
+    turn = TURN // len(line % 0)
+    count = 1500
+    served = served_order(count, line, all_waits=False)
     counts, most = [0] * 5, 0
     for at in served[: 5 * count // 2]:
         counts[at] += 1
         most = max(most, max(counts) - min(counts))
-    turn = TURN // len(line % 0)
     wants("they are served in turn", most <= 2 * turn + 2, most, turn)
+    # Whole turns of fewer lines than a client may be owed replies to: none of the five ever waits
+    # for anything but its turn, so no two turns of one client may stand one behind the other.
+    count = OWED // turn * turn
+    served = served_order(count, line, all_waits=True)
     longest, run = 0, 0
-    # until each client's first line is there, another one may have two turns, one behind the other
+    # that holds while all five have lines: from the last one's first line to the first one's last
     begun = max(served.index(at) for at in range(5))
-    for at in range(begun, 5 * count // 2):
+    ended = min(len(served) - 1 - served[::-1].index(at) for at in range(5))
+    wants("all five have lines for some turns", ended - begun > 5 * turn, begun, ended)
+    for at in range(begun, ended + 1):
         run = run + 1 if at > begun and served[at] == served[at - 1] else 1
         longest = max(longest, run)
     wants("a turn has its bytes", turn // 2 <= longest <= turn, longest, turn)
