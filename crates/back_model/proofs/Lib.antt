@@ -5,6 +5,10 @@ pub mod Recounts
 pub mod Sets
 pub mod ShardPlaces
 pub mod ShardSearches
+pub mod ShardLookups
+pub mod PlacedShards
+pub mod SettledShards
+pub mod SortedShards
 pub mod Listed
 pub mod Making
 pub mod Named

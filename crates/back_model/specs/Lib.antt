@@ -4,4 +4,5 @@ pub mod Snaps
 pub mod Objects
 pub mod Fuses
 pub mod Shown
+pub mod Settled
 pub mod Held

@@ -39,40 +39,40 @@ returns-then-is_err-clause-fault g c =
 pub make_there-requires-2-after_bounds : goal.make_there-requires-2-after_bounds
 make_there-requires-2-after_bounds g c κs within =
     let gone : shard_at c.args.snapshotter.now c.args.self.now ≡ None = not_shown (λ s. shown g.S.SnapBackend.contents g.S.SnapBackend.fails (c.args.snapshotter.now, s.now)) c.get.result (shard_at c.args.snapshotter.now c.args.self.now) c.get.ensures.shard (search rules) in
-    let set : c.set.new.self ≡ put_shard (record { snapshotter = c.args.snapshotter.now; snaps = finmap.empty; failures = 0 }) c.args.self.now = search rules in
-    is_there c.args.snapshotter.now c.args.self.now c.args.number c.args.parent gone c.set.new.self set
+    let set : c.push.new.self ≡ put_shard (record { snapshotter = c.args.snapshotter.now; snaps = finmap.empty; failures = 0 }) c.args.self.now = search rules in
+    is_there c.args.snapshotter.now c.args.self.now c.args.number c.args.parent gone c.push.new.self set
 
 pub returns-clause-fault : goal.returns-clause-fault
 returns-clause-fault g c =
     let gone : shard_at c.args.snapshotter.now c.args.self.now ≡ None = not_shown (λ s. shown g.S.SnapBackend.contents g.S.SnapBackend.fails (c.args.snapshotter.now, s.now)) c.get.result (shard_at c.args.snapshotter.now c.args.self.now) c.get.ensures.shard (search rules) in
-    let set : c.set.new.self ≡ put_shard (record { snapshotter = c.args.snapshotter.now; snaps = finmap.empty; failures = 0 }) c.args.self.now = search rules in
-    fault_fresh c.args.snapshotter.now c.args.self.now c.args.number c.args.parent gone c.make_there-2.result c.set.new.self set c.make_there-2.ensures.fault
+    let set : c.push.new.self ≡ put_shard (record { snapshotter = c.args.snapshotter.now; snaps = finmap.empty; failures = 0 }) c.args.self.now = search rules in
+    fault_fresh c.args.snapshotter.now c.args.self.now c.args.number c.args.parent gone c.make_there-2.result c.push.new.self set c.make_there-2.ensures.fault
 
 pub returns-clause-ok : goal.returns-clause-ok
 returns-clause-ok g c =
     let gone : shard_at c.args.snapshotter.now c.args.self.now ≡ None = not_shown (λ s. shown g.S.SnapBackend.contents g.S.SnapBackend.fails (c.args.snapshotter.now, s.now)) c.get.result (shard_at c.args.snapshotter.now c.args.self.now) c.get.ensures.shard (search rules) in
-    let set : c.set.new.self ≡ put_shard (record { snapshotter = c.args.snapshotter.now; snaps = finmap.empty; failures = 0 }) c.args.self.now = search rules in
-    let now = made_fresh c.args.snapshotter.now c.args.self.now c.args.number c.args.parent gone c.make_there-2.result c.set.new.self c.make_there-2.new.self set c.make_there-2.ensures.put in
+    let set : c.push.new.self ≡ put_shard (record { snapshotter = c.args.snapshotter.now; snaps = finmap.empty; failures = 0 }) c.args.self.now = search rules in
+    let now = made_fresh c.args.snapshotter.now c.args.self.now c.args.number c.args.parent gone c.make_there-2.result c.push.new.self c.make_there-2.new.self set c.make_there-2.ensures.put in
     search (rules, now)
 
 pub returns-clause-listed : goal.returns-clause-listed
 returns-clause-listed g c =
     let gone : shard_at c.args.snapshotter.now c.args.self.now ≡ None = not_shown (λ s. shown g.S.SnapBackend.contents g.S.SnapBackend.fails (c.args.snapshotter.now, s.now)) c.get.result (shard_at c.args.snapshotter.now c.args.self.now) c.get.ensures.shard (search rules) in
-    let set : c.set.new.self ≡ put_shard (record { snapshotter = c.args.snapshotter.now; snaps = finmap.empty; failures = 0 }) c.args.self.now = search rules in
-    let now = made_fresh c.args.snapshotter.now c.args.self.now c.args.number c.args.parent gone c.make_there-2.result c.set.new.self c.make_there-2.new.self set c.make_there-2.ensures.put in
-    let fault = fault_fresh c.args.snapshotter.now c.args.self.now c.args.number c.args.parent gone c.make_there-2.result c.set.new.self set c.make_there-2.ensures.fault in
+    let set : c.push.new.self ≡ put_shard (record { snapshotter = c.args.snapshotter.now; snaps = finmap.empty; failures = 0 }) c.args.self.now = search rules in
+    let now = made_fresh c.args.snapshotter.now c.args.self.now c.args.number c.args.parent gone c.make_there-2.result c.push.new.self c.make_there-2.new.self set c.make_there-2.ensures.put in
+    let fault = fault_fresh c.args.snapshotter.now c.args.self.now c.args.number c.args.parent gone c.make_there-2.result c.push.new.self set c.make_there-2.ensures.fault in
     rw now (made_listed c.args.snapshotter.now c.args.self.now c.args.number c.args.parent c.make_there-2.result (is_parent_held (snaps_at c.args.snapshotter.now c.args.self.now) c.args.parent) c.get.ensures.order fault)
 
 pub returns-clause-err : goal.returns-clause-err
 returns-clause-err g c =
     let gone : shard_at c.args.snapshotter.now c.args.self.now ≡ None = not_shown (λ s. shown g.S.SnapBackend.contents g.S.SnapBackend.fails (c.args.snapshotter.now, s.now)) c.get.result (shard_at c.args.snapshotter.now c.args.self.now) c.get.ensures.shard (search rules) in
-    let set : c.set.new.self ≡ put_shard (record { snapshotter = c.args.snapshotter.now; snaps = finmap.empty; failures = 0 }) c.args.self.now = search rules in
-    let now = made_fresh c.args.snapshotter.now c.args.self.now c.args.number c.args.parent gone c.make_there-2.result c.set.new.self c.make_there-2.new.self set c.make_there-2.ensures.put in
+    let set : c.push.new.self ≡ put_shard (record { snapshotter = c.args.snapshotter.now; snaps = finmap.empty; failures = 0 }) c.args.self.now = search rules in
+    let now = made_fresh c.args.snapshotter.now c.args.self.now c.args.number c.args.parent gone c.make_there-2.result c.push.new.self c.make_there-2.new.self set c.make_there-2.ensures.put in
     rw now (made_err c.args.snapshotter.now c.args.self.now c.args.number c.args.parent c.make_there-2.result c.get.ensures.order)
 
 pub returns-clause-fails : goal.returns-clause-fails
 returns-clause-fails g c =
     let gone : shard_at c.args.snapshotter.now c.args.self.now ≡ None = not_shown (λ s. shown g.S.SnapBackend.contents g.S.SnapBackend.fails (c.args.snapshotter.now, s.now)) c.get.result (shard_at c.args.snapshotter.now c.args.self.now) c.get.ensures.shard (search rules) in
-    let set : c.set.new.self ≡ put_shard (record { snapshotter = c.args.snapshotter.now; snaps = finmap.empty; failures = 0 }) c.args.self.now = search rules in
-    let now = made_fresh c.args.snapshotter.now c.args.self.now c.args.number c.args.parent gone c.make_there-2.result c.set.new.self c.make_there-2.new.self set c.make_there-2.ensures.put in
+    let set : c.push.new.self ≡ put_shard (record { snapshotter = c.args.snapshotter.now; snaps = finmap.empty; failures = 0 }) c.args.self.now = search rules in
+    let now = made_fresh c.args.snapshotter.now c.args.self.now c.args.number c.args.parent gone c.make_there-2.result c.push.new.self c.make_there-2.new.self set c.make_there-2.ensures.put in
     rw now (made_fails c.args.snapshotter.now c.args.self.now c.args.number c.args.parent c.make_there-2.result c.get.ensures.order)
