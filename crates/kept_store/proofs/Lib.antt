@@ -1,12 +1,9 @@
 mod PassedOn
 mod Unasked
-mod Stepping
-mod Letting
 mod Replayed
 mod Restarts
 mod Drafting
 mod Comparing
 mod NumberTexts
 mod LoadedLines
-mod Replying
 mod Stopping

@@ -10,10 +10,11 @@ use Rattle.journal.proofs.TextLines.{HasNoFeed, whole_lines-text, whole_lines-li
 use Rattle.journal.proofs.Groups.{lines_are_whole}
 use Rattle.store_front.specs.NextNumber.{raised}
 use Rattle.kept_store.specs.Numbers.{number_in}
-use Rattle.scripts.specs.Changes.{after_line}
+use Rattle.scripts.specs.Changes.{after_line, Changes}
 use Rattle.kept_store.specs.Replays.{after_kept_line, store_after, requests_among, requests_in, StepsOf, KeepsLines}
 use Rattle.line_loop.specs.JournalLines.{lines_of, lines_found}
-use Rattle.line_loop.specs.Runs.{Entry, accepted, Trace}
+use Rattle.line_loop.specs.Runs.{Entry, if_changed, accepted, Trace}
+use Rattle.kept_store.proofs.Unasked.{raises_none}
 
 pub store_after-append : (state : State) (lines more : List (List ℕ))
     → store_after state (lines ++ more) ≡ store_after (store_after state lines) more
@@ -67,7 +68,12 @@ raises state line number some =
     ap (λ (found : Option ℕ). option_map_or (λ (number : ℕ). raised number state) found
     (after_line state line)) (sym some)
 
--- the store after a run is the one after its accepted lines
+-- a line leaves the store that it leaves where it is kept, or it changes nothing
+kept_line : (old new : State) (line : List ℕ) (changes : Bool) → Changes old line changes new
+    → new ≡ store_after old (if_changed changes line)
+kept_line old new line true is = unraised old new line (raises_none line is.1) is.0
+kept_line old new line false is = is
+
 module _ {S : Type 0} (steps : StepsOf S) (store_of : S → State)
     (keeps : KeepsLines steps store_of) where
   -- the store after a run is the one after its logged lines
@@ -75,14 +81,12 @@ module _ {S : Type 0} (steps : StepsOf S) (store_of : S → State)
       → store_of to ≡ store_after (store_of from) (accepted entries)
   runs_replay from to [] goes = ap store_of (sym goes)
   runs_replay from to (entry ∷ entries) goes =
-      let kept = keeps from goes.0 entry.line entry.reply entry.changes goes.1 in
-      elim (cases_Bool entry.changes) [
-        | inl has ↦ rw has (runs_replay goes.0 to entries goes.2
-            ∙ ap (λ (s : State). store_after s (accepted entries))
-            (unraised (store_of from) (store_of goes.0) entry.line (kept.0 has).0 (kept.0 has).1))
-        | inr other ↦ rw other (runs_replay goes.0 to entries goes.2
-            ∙ ap (λ (s : State). store_after s (accepted entries)) (kept.1 other))
-      ]
+      runs_replay goes.0 to entries goes.2
+      ∙ ap (λ (s : State). store_after s (accepted entries))
+      (kept_line (store_of from) (store_of goes.0) entry.line entry.changes
+      (keeps from goes.0 entry.line entry.reply entry.changes goes.1))
+      ∙ sym (store_after-append (store_of from) (if_changed entry.changes entry.line)
+      (accepted entries))
 
 -- ---- replaying
 

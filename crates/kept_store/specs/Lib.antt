@@ -1,11 +1,9 @@
 pub mod Numbers
-pub mod Doing
 pub mod Replays
 pub mod Restarts
 pub mod Laws
 pub mod Starts
 pub mod Checkpoints
 pub mod Loads
-pub mod Work
 pub mod Clocked
 pub mod KeptLines

@@ -5,11 +5,11 @@ ghost use Rattle.kept_store.specs.Checkpoints.{IsBlank, Drafts, Makes};
 use crate::NotTaken;
 use crate::draft::Draft;
 use crate::loading::is_end;
-use crate::store::KeptStore;
 use crate::taking::compare;
 use checkpoint::Lines;
 use journal::{Journal, Log, cut_line, is_commit};
 use meta_types::Fault;
+use scripts::LineStore;
 use std::alloc::Global;
 use std::sync::Wait;
 use std::sync::ledger::{Blank, Ledger};
@@ -68,7 +68,7 @@ pub fn keep<L: Ledger, N: Ledger, E: Log + Drop, T: Threads + Wait + Sync>(
     rt: &T,
     alloc: Global,
     blank: Blank,
-    store: &KeptStore<L>,
+    store: &LineStore<L>,
     text: &[u8],
     file: BlankFile<E>,
 ) -> Result<Journal<E>, NotTaken<E>>

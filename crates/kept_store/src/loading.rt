@@ -8,9 +8,9 @@ ghost use Rattle.kept_store.specs.Loads.{is_end, loaded_among, loaded_in, is_ope
 use crate::StartError;
 use crate::numbers::{is_marked, number_in, number_of};
 use crate::replaying::replay_line;
-use crate::store::KeptStore;
 use journal::cut_line;
-use scripts::Fresh;
+use meta_types::Workers;
+use scripts::{Fresh, LineStore};
 use std::alloc::Global;
 use std::mem::drop;
 use std::sync::Wait;
@@ -46,7 +46,7 @@ pub struct NotLoaded {
 /// A store of loaded lines, and how many these are.
 #[derive(Drop)]
 pub struct Loaded<L: Ledger> {
-    pub store: KeptStore<L>,
+    pub store: LineStore<L>,
     pub lines: u64,
 }
 
@@ -91,7 +91,7 @@ fn is_open_behind(is_open: bool, line: &[u8]) -> bool
 }
 
 // Whether a line is a number below the next one.
-fn is_lower<L: Ledger>(store: &KeptStore<L>, line: &[u8]) -> bool {
+fn is_lower<L: Ledger>(store: &LineStore<L>, line: &[u8]) -> bool {
     match number_in(line) {
         Some(number) => number < store.state().records().next,
         None => false,
@@ -116,7 +116,7 @@ fn load_error(error: StartError) -> LoadError {
 
 // Does a line that ends no checkpoint.
 fn do_line<L: Ledger, T: Threads + Wait + Sync>(
-    store: &mut KeptStore<L>,
+    store: &mut LineStore<L>,
     rt: &T,
     line: &[u8],
     lines: &mut u64,
@@ -135,7 +135,7 @@ fn do_line<L: Ledger, T: Threads + Wait + Sync>(
 
 // Does a line.
 fn load_line<L: Ledger, T: Threads + Wait + Sync>(
-    store: &mut KeptStore<L>,
+    store: &mut LineStore<L>,
     rt: &T,
     line: &[u8],
     progress: &mut Progress,
@@ -158,7 +158,7 @@ fn load_line<L: Ledger, T: Threads + Wait + Sync>(
 
 // Does the whole lines of a text, in order.
 fn load_lines<L: Ledger, T: Threads + Wait + Sync>(
-    store: &mut KeptStore<L>,
+    store: &mut LineStore<L>,
     rt: &T,
     text: &[u8],
     progress: &mut Progress,
@@ -186,7 +186,7 @@ fn is_whole(text: &[u8]) -> bool {
 // Does the lines of a text that has whole lines alone, and no part of a checkpoint unless that is
 // wanted.
 fn load_all<L: Ledger, T: Threads + Wait + Sync>(
-    store: &mut KeptStore<L>,
+    store: &mut LineStore<L>,
     rt: &T,
     text: &[u8],
     takes_part: bool,
@@ -232,7 +232,7 @@ pub fn load<L: Ledger, T: Threads + Wait + Sync>(
         lines: 0,
         is_open: false,
     };
-    let Ok(mut store) = KeptStore::<L>::empty(alloc, fresh) else {
+    let Ok(mut store) = LineStore::<L>::open(alloc, fresh, Workers::ONE) else {
         return Err(NotLoaded {
             error: LoadError::OutOfMemory,
             line: 0,

@@ -11,10 +11,9 @@ ghost use Rattle.kept_store.specs.Starts.{Starts};
 use crate::StartError;
 use crate::error::start_error;
 use crate::replaying::replay;
-use crate::store::KeptStore;
 use journal::{Log, Sound, check, recover};
 use meta_types::Workers;
-use scripts::Fresh;
+use scripts::{Fresh, LineStore};
 use std::alloc::Global;
 use std::mem::drop;
 use std::sync::Wait;
@@ -24,7 +23,7 @@ use std::thread::Threads;
 /// A store as its journal tells it, how far the journal goes, and how many lines it has.
 #[derive(Drop)]
 pub struct Opened<L: Ledger> {
-    pub store: KeptStore<L>,
+    pub store: LineStore<L>,
     pub sound: Sound,
     pub lines: u64,
 }
@@ -32,7 +31,7 @@ pub struct Opened<L: Ledger> {
 // A store, and how many lines it was made of.
 #[derive(Drop)]
 struct Replayed<L: Ledger> {
-    store: KeptStore<L>,
+    store: LineStore<L>,
     lines: u64,
 }
 
@@ -74,7 +73,7 @@ fn read_store<L: Ledger, D: Log, T: Threads + Wait + Sync>(
     ensures crash { (c : List ℕ) → D.may_leave log.new c → D.may_leave log.old c }
 {
     let end = sound_part(alloc, first, log)?;
-    let Ok(mut store) = KeptStore::<L>::empty(alloc, fresh) else {
+    let Ok(mut store) = LineStore::<L>::open(alloc, fresh, Workers::ONE) else {
         return Err(StartError::OutOfMemory);
     };
     let lines = match replay(&mut store, rt, alloc, log, end) {

@@ -7,11 +7,10 @@ ghost use Rattle.kept_store.specs.Replays.{after_kept_line, store_after, request
 use crate::StartError;
 use crate::error::start_error;
 use crate::numbers::number_in;
-use crate::store::{KeptStore, LINE_LIMIT};
 use journal::{Log, cut_line, is_commit, read_lines};
 use meta_types::Fault;
 use reply_line::refusal_text;
-use scripts::ReplyText;
+use scripts::{LINE_LIMIT, LineStore, ReplyText};
 use std::alloc::Global;
 use std::sync::Wait;
 use std::sync::ledger::Ledger;
@@ -42,7 +41,7 @@ fn is_report(reply: &Option<ReplyText>) -> bool
 // Does a line again: raises the next number, or does a request. That was logged once, so it is
 // refused for memory alone, or by another metad.
 fn redo<L: Ledger, T: Threads + Wait + Sync>(
-    store: &mut KeptStore<L>,
+    store: &mut LineStore<L>,
     rt: &T,
     line: &[u8],
 ) -> Result<(), StartError>
@@ -72,7 +71,7 @@ fn redo<L: Ledger, T: Threads + Wait + Sync>(
 
 /// Does a line of a journal again, where it is no commit line.
 pub(crate) fn replay_line<L: Ledger, T: Threads + Wait + Sync>(
-    store: &mut KeptStore<L>,
+    store: &mut LineStore<L>,
     rt: &T,
     line: &[u8],
     lines: &mut u64,
@@ -95,7 +94,7 @@ pub(crate) fn replay_line<L: Ledger, T: Threads + Wait + Sync>(
 
 // Does the whole lines of a text again, in order.
 fn replay_lines<L: Ledger, T: Threads + Wait + Sync>(
-    store: &mut KeptStore<L>,
+    store: &mut LineStore<L>,
     rt: &T,
     text: &[u8],
     lines: &mut u64,
@@ -142,7 +141,7 @@ struct Blocks {
 
 // Does a block of lines again, from one place up to at most another, and answers where it ends.
 fn replay_block<L: Ledger, D: Log, T: Threads + Wait + Sync>(
-    store: &mut KeptStore<L>,
+    store: &mut LineStore<L>,
     rt: &T,
     log: &mut D,
     at: usize,
@@ -172,7 +171,7 @@ fn replay_block<L: Ledger, D: Log, T: Threads + Wait + Sync>(
 /// Does the lines of a file again that stand before a place, and answers how many they are. The file
 /// is left as it is.
 pub(crate) fn replay<L: Ledger, D: Log, T: Threads + Wait + Sync>(
-    store: &mut KeptStore<L>,
+    store: &mut LineStore<L>,
     rt: &T,
     alloc: Global,
     log: &mut D,

@@ -8,11 +8,11 @@ ghost use Rattle.kept_store.specs.Checkpoints.{IsBlank, Drafts, Makes};
 use crate::draft::Draft;
 use crate::error::replay_error;
 use crate::replaying::replay;
-use crate::store::KeptStore;
 use crate::{CheckpointError, NotTaken};
 use checkpoint::{is_same, write_checkpoint};
 use journal::{Journal, Log};
-use scripts::Fresh;
+use meta_types::Workers;
+use scripts::{Fresh, LineStore};
 use std::alloc::Global;
 use std::mem::drop;
 use std::sync::Wait;
@@ -23,7 +23,7 @@ use std::thread::Threads;
 fn write<L: Ledger, E: Log + Drop>(
     alloc: Global,
     first: &[u8; 64],
-    store: &KeptStore<L>,
+    store: &LineStore<L>,
     log: E,
 ) -> Result<Journal<E>, NotTaken<E>>
     requires blank { IsTrue (E.is_clean log) → IsBlank (E.text log) (E.may_leave log) }
@@ -43,8 +43,8 @@ fn write<L: Ledger, E: Log + Drop>(
 // Whether two stores are the same.
 fn are_same<L: Ledger, N: Ledger>(
     alloc: Global,
-    one: &KeptStore<L>,
-    other: &KeptStore<N>,
+    one: &LineStore<L>,
+    other: &LineStore<N>,
 ) -> Result<(), CheckpointError>
     ensures ok { OnOk result (one.now ≡ other.now) }
     ensures differs { IfErr result
@@ -61,7 +61,7 @@ fn are_same<L: Ledger, N: Ledger>(
 
 // Does the lines of a journal again.
 fn replay_journal<N: Ledger, E: Log + Drop, T: Threads + Wait + Sync>(
-    store: &mut KeptStore<N>,
+    store: &mut LineStore<N>,
     rt: &T,
     alloc: Global,
     journal: &mut Journal<E>,
@@ -87,7 +87,7 @@ fn made_again<N: Ledger, E: Log + Drop, T: Threads + Wait + Sync>(
     alloc: Global,
     fresh: Fresh,
     journal: &mut Journal<E>,
-) -> Result<KeptStore<N>, CheckpointError>
+) -> Result<LineStore<N>, CheckpointError>
     requires name { fresh.blank.name ≡ N.name }
     requires parts { (fresh.blank.parts ≡ N.parts) × (fresh.blank.parts ≡ 65536) }
     ensures ok { IfOk result (λ store. IsTrue (E.is_clean journal.new.log) → store
@@ -98,7 +98,7 @@ fn made_again<N: Ledger, E: Log + Drop, T: Threads + Wait + Sync>(
     ensures same { (journal.new.last ≡ journal.old.last) × (journal.new.end ≡ journal.old.end)
         × (journal.new.pending.items ≡ journal.old.pending.items) }
 {
-    let Ok(mut store) = KeptStore::<N>::empty(alloc, fresh) else {
+    let Ok(mut store) = LineStore::<N>::open(alloc, fresh, Workers::ONE) else {
         return Err(CheckpointError::OutOfMemory);
     };
     if let Err(error) = replay_journal(&mut store, rt, alloc, journal) {
@@ -114,7 +114,7 @@ pub(crate) fn compare<L: Ledger, N: Ledger, E: Log + Drop, T: Threads + Wait + S
     rt: &T,
     alloc: Global,
     blank: Blank,
-    store: &KeptStore<L>,
+    store: &LineStore<L>,
     journal: &mut Journal<E>,
 ) -> Result<(), CheckpointError>
     requires name { blank.name ≡ N.name }
@@ -151,7 +151,7 @@ pub fn take_checkpoint<L: Ledger, N: Ledger, E: Log + Drop, T: Threads + Wait + 
     alloc: Global,
     blank: Blank,
     first: &[u8; 64],
-    store: &KeptStore<L>,
+    store: &LineStore<L>,
     log: E,
 ) -> Result<Journal<E>, NotTaken<E>>
     requires name { blank.name ≡ N.name }

@@ -15,8 +15,9 @@ use crate::renewing::selecting::{select_first, select_second};
 use crate::renewing::writing::write_into;
 use crate::telling::{tell_renewed_after, tell_renewing};
 use journal::{Active, JournalError, Log, Note, Standby, first_sum};
-use kept_store::{CheckpointError, KeptStore};
+use kept_store::CheckpointError;
 use line_loop::RunError;
+use scripts::LineStore;
 use sqlite_disk::Disk;
 use std::alloc::Global;
 use std::sync::Wait;
@@ -52,7 +53,7 @@ pub fn next_size(end: usize) -> usize {
 // Files with a checkpoint in the second one, or as they were.
 fn renew_second<'a, L: Ledger, D: Disk + Drop, T: Threads + Wait + Sync>(
     threads: &T,
-    store: &KeptStore<L>,
+    store: &LineStore<L>,
     rt: &'a HostRuntime,
     names: Names<'a>,
     card: Note,
@@ -94,7 +95,7 @@ fn renew_second<'a, L: Ledger, D: Disk + Drop, T: Threads + Wait + Sync>(
 // Files with a checkpoint in the first one, or as they were.
 fn renew_first<'a, L: Ledger, D: Disk + Drop, T: Threads + Wait + Sync>(
     threads: &T,
-    store: &KeptStore<L>,
+    store: &LineStore<L>,
     rt: &'a HostRuntime,
     names: Names<'a>,
     card: Note,
@@ -179,7 +180,7 @@ pub fn leave_witness<'a, D: Disk + Drop>(
 // Writes a checkpoint into the file that doesn't count, and lets that one count.
 fn renew_spare<'a, L: Ledger, D: Disk + Drop, T: Threads + Wait + Sync>(
     threads: &T,
-    store: &KeptStore<L>,
+    store: &LineStore<L>,
     files: Files<'a, D, CountingFile<D>>,
 ) -> Result<Renewed<'a, D, CountingFile<D>>, RunError>
     requires { files.log.journal.pending.items ≡ [] }
@@ -213,7 +214,7 @@ fn millis_since(rt: &HostRuntime, moment: Option<Instant>) -> u128 {
 // counts.
 fn renew_back<'a, L: Ledger, D: Disk + Drop, T: Threads + Wait + Sync>(
     threads: &T,
-    store: &KeptStore<L>,
+    store: &LineStore<L>,
     files: Files<'a, D, CountingFile<D>>,
 ) -> Result<Files<'a, D, CountingFile<D>>, RunError>
     requires { files.log.journal.pending.items ≡ [] }
@@ -228,7 +229,7 @@ fn renew_back<'a, L: Ledger, D: Disk + Drop, T: Threads + Wait + Sync>(
 // counts, on a full disk, another checkpoint goes back there.
 fn keep_room<'a, L: Ledger, D: Disk + Drop, T: Threads + Wait + Sync>(
     threads: &T,
-    store: &KeptStore<L>,
+    store: &LineStore<L>,
     renewed: Renewed<'a, D, CountingFile<D>>,
 ) -> Result<Renewed<'a, D, CountingFile<D>>, RunError>
     requires { renewed.files.log.journal.pending.items ≡ [] }
@@ -251,7 +252,7 @@ fn keep_room<'a, L: Ledger, D: Disk + Drop, T: Threads + Wait + Sync>(
 /// counts at the end.
 pub fn renew<'a, L: Ledger, D: Disk + Drop, T: Threads + Wait + Sync>(
     threads: &T,
-    store: &KeptStore<L>,
+    store: &LineStore<L>,
     files: Files<'a, D, CountingFile<D>>,
 ) -> Result<Renewed<'a, D, CountingFile<D>>, RunError>
     requires { files.log.journal.pending.items ≡ [] }

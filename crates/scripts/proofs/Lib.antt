@@ -3,12 +3,14 @@ mod WithWords
 mod Unchanged
 mod Effects
 mod Changing
-mod SameLines
-mod FirstBytes
+mod Heard
+mod Stepping
+mod Letting
+mod Replying
 mod RenderedTexts
-pub mod Scripts
 pub mod Writers
 pub mod Runs
+mod Stops
 pub mod Outcomes
 pub mod WholeScripts
 pub mod AnsweredRuns

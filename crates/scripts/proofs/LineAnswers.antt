@@ -5,7 +5,7 @@ use Rattle.std.specs.Prelude.{IfOk}
 use Rattle.std.proofs.lemmas.Bool.{both_ways}
 use Rattle.std.proofs.lemmas.Bool.Decides.{nat_tests}
 use Rattle.meta_types.specs.declared.fault.Fault.{Fault}
-use Rattle.meta_types.specs.declared.fault.Fault.TheVariants.{TooLong}
+use Rattle.meta_types.specs.declared.fault.Fault.TheVariants.{OutOfMemory, TooLong}
 use Rattle.meta_types.specs.Rows.{State}
 use Rattle.meta_types.specs.Steps.{refused}
 use Rattle.meta_types.specs.Questions.{QuestionAnswer, LineAnswer, of_event}
@@ -132,6 +132,43 @@ true_at_long state line long =
 pub true_at_memory : (state : State) (line : List ℕ) → IsTrueAt state (Some out_of_memory) line
 true_at_memory state [] = tt
 true_at_memory state (byte ∷ line) = tt
+
+-- what a line is answered that is too long: a thread that is missing refuses no such line
+abbrev long_answer : Option Supplied → LineAnswer
+long_answer None = of_event (refused TooLong)
+long_answer (Some out_of_memory) = of_event (refused OutOfMemory)
+long_answer (Some no_worker) = of_event (refused TooLong)
+long_answer (Some (gives given)) = of_event (refused TooLong)
+
+answer_long : (state : State) (supplied : Option Supplied) (line : List ℕ) → 65536 < length line
+    → answer_step state supplied line ≡ (long_answer supplied, state)
+answer_long state None line long = rw (is_long (length line) long) refl
+answer_long state (Some out_of_memory) line long = refl
+answer_long state (Some no_worker) line long = rw (is_long (length line) long) refl
+answer_long state (Some (gives given)) line long = rw (is_long (length line) long) refl
+
+long_right : (state : State) (supplied : Option Supplied) (command : Option Command)
+    → IsTrueOf state command (long_answer supplied)
+long_right state None command = tt
+long_right state (Some out_of_memory) command = tt
+long_right state (Some no_worker) command = tt
+long_right state (Some (gives given)) command = tt
+
+-- such a line is answered by no more than what is supplied
+pub step_long : (state : State) (supplied : Option Supplied) (line : List ℕ)
+    → 65536 < length line
+    → line_step state supplied line
+    ≡ (with_line_feed (line_answer_text (long_answer supplied)), state)
+step_long state supplied line long =
+    line_step-answer state supplied line (long_answer supplied) state
+    (not_empty (length line) long) (answer_long state supplied line long)
+
+pub true_long : (state : State) (supplied : Option Supplied) (line : List ℕ)
+    → 65536 < length line → IsTrueAt state supplied line
+true_long state supplied line long =
+    true_at state supplied line (long_answer supplied) state
+    (answer_long state supplied line long)
+    (long_right state supplied (short_request line))
 
 -- `?` passes a fault on as it is
 pub passed_on : {T : Type 0} (result : Result T Fault) (fault : Fault) (P : Fault → Type 0)

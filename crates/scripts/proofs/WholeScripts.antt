@@ -31,7 +31,7 @@ use Rattle.scripts.specs.EventSteps.{collection_report, event_step, collects, pl
 use Rattle.scripts.specs.LineSteps.{Supplied, out_of_memory, no_worker, gives, supplied_answer, event_for, line_step_of, question_step, done_with_words, words_step, command_step, line_answer, answer_step, line_step, IsLineAnswer, IsTrueOf, IsTrueAt}
 use Rattle.scripts.specs.Lines.{short_request, asks_collection, with_line_feed, lines_of, whole_lines}
 use Rattle.scripts.specs.Output.{Supplies, first_supplied, output_from, output_of, AreTrue, IsOutput, IsWholeOutput, IsBeginning}
-use Rattle.scripts.specs.Progress.{Answers}
+use Rattle.scripts.specs.StoreSteps.{Answers}
 use Rattle.scripts.specs.WholeScripts.{command_fault, line_fault, MayBeRefused, IsDone, IsAnswered, AnswersLine, AnswersLines, AnswersScript, AnswersWholeLines, BeginsAnswers}
 use Rattle.scripts.specs.ScriptLaws.{WhatAnswersIsAnOutput, EachStoreIsSound}
 use Rattle.reply_line.specs.Explained.{line_answer_text}

@@ -14,4 +14,7 @@ pub mod WholeScripts
 pub mod ScriptLaws
 pub mod WorkedScripts
 pub mod OneOutput
-pub mod Progress
+pub mod StoreSteps
+pub mod Doing
+pub mod Work
+pub mod Endings

@@ -3,7 +3,7 @@ ghost use Rattle.std.specs.Prelude.{◌≡◌, ◌≤◌, ◌<◌, length, true,
 ghost use Rattle.meta_types.specs.Faults.{Refuses};
 ghost use Rattle.meta_types.specs.Limits.{is_worker_count};
 ghost use Rattle.meta_types.specs.Steps.{answered, refused};
-ghost use Rattle.meta_types.specs.declared.fault.Fault.TheVariants.{OutOfMemory as out_of_memory_fault, TooLong as too_long_fault};
+ghost use Rattle.meta_types.specs.declared.fault.Fault.TheVariants.{OutOfMemory as out_of_memory_fault};
 ghost use Rattle.meta_types.specs.Questions.{explains, foresees, of_event, of_shown, of_question};
 ghost use Rattle.meta_types.specs.Shown.{shows_rows};
 ghost use Rattle.reply_line.specs.Replies.{answer_text};
@@ -351,11 +351,4 @@ pub fn answer_line<L: Ledger, R: Threads + Wait + Sync>(
         Ok(answered) => Ok(answered.reply),
         Err(fault) => Err(fault),
     }
-}
-
-/// The reply to a line that is too long.
-pub fn too_long() -> ReplyText
-    ensures { reply_text_bytes result ≡ answer_text (refused too_long_fault) }
-{
-    ReplyText::Text(CowStr::Borrowed(refusal_text(Fault::TooLong)))
 }

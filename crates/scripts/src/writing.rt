@@ -1,6 +1,6 @@
 //! Writes replies: a writer that fails holds a beginning of what was meant.
 ghost use Rattle.std.specs.Prelude.{◌≡◌, ℕ, List, OnOk, OnErr, IfErr};
-ghost use Rattle.std.specs.Io.KnownBytes.{Appends, Keeps};
+ghost use Rattle.std.specs.Io.KnownBytes.{Appends};
 ghost use Rattle.reply_line.specs.Blocks.{WritesFront};
 ghost use Rattle.scripts.specs.Lines.{with_line_feed};
 ghost use Rattle.scripts.specs.ReplyTexts.{reply_text_bytes};
@@ -45,16 +45,5 @@ pub fn write_reply_text<W: Write>(
         ReplyText::Report(report) => write_report(writer, alloc, block, report.as_ref()),
         ReplyText::Rows(rows) => write_rows(writer, alloc, block, rows),
         ReplyText::Objects(lists) => write_objects(writer, alloc, block, lists.as_ref()),
-    }
-}
-
-/// Flushes the writer, so that whoever waits for a reply gets it.
-pub fn flush<W: Write>(writer: &mut W) -> Result<(), Fault>
-    ensures kept { Keeps (W.contents writer.old) (W.contents writer.new) }
-    ensures fault { IfErr result (λ fault. fault ≡ Fault.WriteFailed) }
-{
-    match writer.flush() {
-        Ok(()) => Ok(()),
-        Err(_) => Err(Fault::WriteFailed),
     }
 }

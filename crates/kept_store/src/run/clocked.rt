@@ -5,11 +5,11 @@ ghost use Rattle.line_loop.specs.Runs.{WritesFront, EndsAnswering, reply_bytes};
 ghost use Rattle.kept_store.specs.Clocked.{is_near, IsLet, IsKeptOut, refusal_bytes, refusal_of, clocked_bytes};
 
 use crate::run::moments::read_moment;
-use crate::store::LINE_LIMIT;
 use json::Scratch;
 use line_loop::{Answered, Mode, RunError, Service, write_bytes};
 use meta_types::{Fault, Instant};
 use reply_line::refusal_text;
+use scripts::LINE_LIMIT;
 use std::alloc::{AllocError, Global};
 use std::io::Write;
 use std::sync::Wait;

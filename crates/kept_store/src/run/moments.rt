@@ -3,11 +3,11 @@ ghost use Rattle.std.specs.Prelude.{◌≡◌, None, IfOk, option_map};
 ghost use Rattle.meta_types.specs.Faults.{Refuses};
 ghost use Rattle.kept_store.specs.Clocked.{opening_moment, asked_moment, moment_in};
 
-use crate::store::LINE_LIMIT;
 use gc_labels::read_instant;
 use json::Scratch;
 use meta_types::{Fault, Instant, Request};
 use request_line::{Command, read_line};
+use scripts::LINE_LIMIT;
 use std::alloc::Global;
 use std::mem::drop;
 

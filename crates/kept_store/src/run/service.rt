@@ -4,8 +4,8 @@ ghost use Rattle.meta_types.specs.Rows.{State};
 ghost use Rattle.kept_store.specs.Replays.{KeepsLines};
 
 use crate::run::clocked::{Clock, Clocked};
-use crate::store::KeptStore;
 use line_loop::{Numbered, Service};
+use scripts::LineStore;
 use std::sync::ledger::Ledger;
 
 /// A service that answers lines from a store: the store itself, or a service before one. Its logged
@@ -18,7 +18,7 @@ pub trait StoreService: Service {
     ghost store_of: { Self → State };
 
     /// The store.
-    fn store(&self) -> &KeptStore<Self::Sessions>
+    fn store(&self) -> &LineStore<Self::Sessions>
         ensures { result.now ≡ store_of self.now };
 
     /// From now on the only rows that make a checkpoint due are those that later lines look at.
@@ -33,14 +33,14 @@ pub trait StoreService: Service {
     ghost keeps: { KeepsLines Self.steps store_of };
 }
 
-impl<L: Ledger> StoreService for KeptStore<L> {
+impl<L: Ledger> StoreService for LineStore<L> {
     ghost use Rattle.kept_store.specs.KeptLines.{store_keeps};
 
     type Sessions = L;
 
     ghost store_of = { λ state. state };
 
-    fn store(&self) -> &KeptStore<L> {
+    fn store(&self) -> &LineStore<L> {
         self
     }
 
@@ -62,7 +62,7 @@ impl<S: StoreService + Drop> StoreService for Numbered<S> {
 
     ghost store_of = { λ numbered. S.store_of numbered.service };
 
-    fn store(&self) -> &KeptStore<S::Sessions> {
+    fn store(&self) -> &LineStore<S::Sessions> {
         self.service.store()
     }
 
@@ -86,7 +86,7 @@ impl<S: StoreService + Drop, C: Clock + Drop> StoreService for Clocked<S, C> {
 
     ghost store_of = { λ clocked. S.store_of clocked.service };
 
-    fn store(&self) -> &KeptStore<S::Sessions> {
+    fn store(&self) -> &LineStore<S::Sessions> {
         self.service.store()
     }
 

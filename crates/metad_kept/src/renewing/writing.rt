@@ -8,7 +8,8 @@ use journal::{
     CARD, Journal, JournalError, JournalFile, Log, Note, Paged, Selector, first_sum, has_head,
     make_anew, put_format, reads_page,
 };
-use kept_store::{CheckpointError, KeptStore, NotTaken, take_checkpoint};
+use kept_store::{CheckpointError, NotTaken, take_checkpoint};
+use scripts::LineStore;
 use sqlite_disk::Disk;
 use std::alloc::Global;
 use std::marker::Brand;
@@ -56,7 +57,7 @@ fn take_over<L: Ledger, E: Log + Drop, T: Threads + Wait + Sync>(
     threads: &T,
     alloc: Global,
     first: &[u8; 64],
-    store: &KeptStore<L>,
+    store: &LineStore<L>,
     log: E,
 ) -> Result<Journal<E>, NotTaken<E>>
     requires blank { IsTrue (E.is_clean log) → IsBlank (E.text log) (E.may_leave log) }
@@ -81,7 +82,7 @@ pub struct Written<E: Log + Drop> {
 pub fn write_into<L: Ledger, C: Selector, D: Disk + Drop, T: Threads + Wait + Sync>(
     threads: &T,
     alloc: Global,
-    store: &KeptStore<L>,
+    store: &LineStore<L>,
     witness: Note,
     disk: D,
 ) -> Result<Written<JournalFile<D, C>>, NotWritten<D>>
@@ -114,7 +115,7 @@ pub fn write_into<L: Ledger, C: Selector, D: Disk + Drop, T: Threads + Wait + Sy
 fn write_anew<L: Ledger, C: Selector, D: Disk + Drop, T: Threads + Wait + Sync>(
     threads: &T,
     alloc: Global,
-    store: &KeptStore<L>,
+    store: &LineStore<L>,
     witness: Note,
     log: JournalFile<D, C>,
 ) -> Result<Written<JournalFile<D, C>>, NotWritten<D>>

@@ -2,9 +2,9 @@
 ghost use Rattle.std.specs.Prelude.{◌≡◌, [], IfOk};
 
 use journal::{Journal, JournalError, Log, check, has_group};
-use kept_store::{KeptStore, StartError, open};
+use kept_store::{StartError, open};
 use meta_types::Workers;
-use scripts::Fresh;
+use scripts::{Fresh, LineStore};
 use std::alloc::Global;
 use std::sync::Wait;
 use std::sync::ledger::Ledger;
@@ -41,7 +41,7 @@ pub enum Cause {
 /// A store as its journal tells it, and the journal.
 #[derive(Drop)]
 pub struct Started<L: Ledger, E: Log + Drop> {
-    pub store: KeptStore<L>,
+    pub store: LineStore<L>,
     pub journal: Journal<E>,
     pub lines: u64,
 }

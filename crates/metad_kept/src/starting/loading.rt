@@ -13,10 +13,9 @@ use crate::starting::loading::putting::write_store;
 use crate::starting::loading::telling::{print_loaded, tell_mark, tell_not_loaded, tell_there};
 use crate::telling::{tell, tell_missing};
 use journal::{cut_line, is_commit, read_page};
-use kept_store::KeptStore;
 use meta_types::Fault;
 use row_tables::Seed;
-use scripts::Fresh;
+use scripts::{Fresh, LineStore};
 use sqlite_std_file::Start;
 use std::io::Read;
 use std::marker::Brand;
@@ -84,7 +83,7 @@ fn put_store<L: Ledger, S: Start, T: Threads + Wait + Sync>(
     rt: &HostRuntime,
     threads: &T,
     start_of: S,
-    store: &KeptStore<L>,
+    store: &LineStore<L>,
     lines: u64,
     source: Source<'_>,
 ) -> ExitCode {

@@ -1,4 +1,4 @@
-use Rattle.std.proofs.Common.{◌∙◌, sym, refl}
+use Rattle.std.proofs.Common.{◌∙◌, sym}
 use Rattle.kept_store.proofs.Replayed.{unraised, raises}
 use Rattle.kept_store.proofs.replaying.redo.Goals as goal
 
@@ -13,8 +13,11 @@ returns-in-Some g c = record {
 -- the line may have changed the store
 pub returns-then-answered : goal.returns-then-answered
 returns-then-answered g c =
-    let told = (rw c.if-answered.true at c.in-Ok.ensures.ok.1) refl in
-    record { ok = unraised c.args.store.now _ c.args.line.now told.0 told.1 }
+    let told = rw c.if-answered.true at c.in-Ok.ensures.ok.1 in
+    record {
+      ok = unraised c.args.store.now _ c.args.line.now (sym c.number_in.ensures ∙ c.in_default.is)
+          told.0;
+    }
 
 -- a collection that changed nothing
 pub returns-then-is_report : goal.returns-then-is_report

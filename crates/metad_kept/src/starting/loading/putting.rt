@@ -14,8 +14,9 @@ use crate::starting::making::make_head;
 use crate::starting::selecting::{Selection, select_file};
 use crate::telling::{checkpoint_text, tell, tell_missing};
 use journal::{Active, CARD, Journal, JournalFile, Log, Note, first_sum, make_anew};
-use kept_store::{BlankFile, KeptStore, NotTaken, keep};
+use kept_store::{BlankFile, NotTaken, keep};
 use meta_types::Fault;
+use scripts::LineStore;
 use sqlite_disk::{Disk, Files};
 use std::alloc::Global;
 use std::marker::Brand;
@@ -60,7 +61,7 @@ fn take_empty<D: Disk + Drop>(
 fn take_lines<L: Ledger, E: Log + Drop, T: Threads + Wait + Sync>(
     threads: &T,
     alloc: Global,
-    store: &KeptStore<L>,
+    store: &LineStore<L>,
     text: &[u8],
     file: BlankFile<E>,
 ) -> Result<Journal<E>, NotTaken<E>>
@@ -78,7 +79,7 @@ fn take_lines<L: Ledger, E: Log + Drop, T: Threads + Wait + Sync>(
 fn write_lines<L: Ledger, D: Disk + Drop, T: Threads + Wait + Sync>(
     rt: &HostRuntime,
     threads: &T,
-    store: &KeptStore<L>,
+    store: &LineStore<L>,
     source: Source<'_>,
     card: Note,
     log: JournalFile<D, Active>,
@@ -129,7 +130,7 @@ fn put_notes<D: Disk + Drop>(
 pub fn write_store<L: Ledger, D: Disk + Drop, T: Threads + Wait + Sync>(
     rt: &HostRuntime,
     threads: &T,
-    store: &KeptStore<L>,
+    store: &LineStore<L>,
     source: Source<'_>,
     files: Files<D>,
 ) -> Result<Note, ExitCode> {
