@@ -18,7 +18,7 @@ use Rattle.journal.proofs.Tearing.{whole_or_torn}
 
 -- ---- one text is one note
 
-one_note : (a b : Note) → IsNote a → IsNote b → note_text a ≡ note_text b
+pub one_note : (a b : Note) → IsNote a → IsNote b → note_text a ≡ note_text b
     → (a.identity ≡ b.identity) × (a.generation ≡ b.generation)
 one_note a b is its same =
     let size = length-note_text b its in
@@ -32,7 +32,7 @@ one_note a b is its same =
     )
 
 -- what was known of a note that was put, is known of the one that is read
-up_to_put : (identity : List ℕ) (generation : ℕ) (note put : Note) → IsNote note → IsNote put
+pub up_to_put : (identity : List ℕ) (generation : ℕ) (note put : Note) → IsNote note → IsNote put
     → note_text note ≡ note_text put → IsUpTo identity generation put
     → IsUpTo identity generation note
 up_to_put identity generation note put its is same up =
@@ -41,7 +41,7 @@ up_to_put identity generation note put its is same up =
       before = let n = one.1 in let le = up.before in omega (arith, n, le);
     }
 
-next_put : (identity : List ℕ) (generation : ℕ) (note put : Note) → IsNote note → IsNote put
+pub next_put : (identity : List ℕ) (generation : ℕ) (note put : Note) → IsNote note → IsNote put
     → note_text note ≡ note_text put → IsNext identity generation put
     → IsNext identity generation note
 next_put identity generation note put its is same next =
@@ -56,13 +56,13 @@ next_put identity generation note put its is same next =
 -- ---- the notes that a page keeps
 
 -- the card, where a witness is put
-kept_card : (old left : List ℕ) (note : Note) → take 512 left ≡ take 512 old
+pub kept_card : (old left : List ℕ) (note : Note) → take 512 left ≡ take 512 old
     → StandsAt 0 left note → StandsAt 0 old note
 kept_card old left note same stands =
     sym (take_front left old 197 512 (omega arith) same) ∙ stands
 
 -- the witness, where a card is put
-kept_witness : (old left : List ℕ) (note : Note) → drop 197 left ≡ drop 197 old
+pub kept_witness : (old left : List ℕ) (note : Note) → drop 197 left ≡ drop 197 old
     → StandsAt 512 left note → StandsAt 512 old note
 kept_witness old left note same stands =
     ap (take 197) (sym (drop-drop 315 197 old) ∙ ap (drop 315) (sym same)
@@ -114,14 +114,14 @@ card_leaves identity generation counting other left put is next one out = record
 
 -- ---- bytes are lost
 
-holes_behind : (n : ℕ) (old left : List ℕ) → Holes old left → Holes (drop n old) (drop n left)
+pub holes_behind : (n : ℕ) (old left : List ℕ) → Holes old left → Holes (drop n old) (drop n left)
 holes_behind zero old left holes = holes
 holes_behind (suc n) [] [] holes = holes
 holes_behind (suc n) [] (c ∷ left) holes = absurd holes
 holes_behind (suc n) (b ∷ old) [] holes = absurd holes
 holes_behind (suc n) (b ∷ old) (c ∷ left) holes = holes_behind n old left holes.1
 
-holes_before : (n : ℕ) (old left : List ℕ) → Holes old left → Holes (take n old) (take n left)
+pub holes_before : (n : ℕ) (old left : List ℕ) → Holes old left → Holes (take n old) (take n left)
 holes_before zero old left holes = tt
 holes_before (suc n) [] [] holes = holes
 holes_before (suc n) [] (c ∷ left) holes = absurd holes
@@ -129,7 +129,7 @@ holes_before (suc n) (b ∷ old) [] holes = absurd holes
 holes_before (suc n) (b ∷ old) (c ∷ left) holes = (holes.0, holes_before n old left holes.1)
 
 -- a note that can be read lost none
-still_stands : (at : ℕ) (old left : List ℕ) (note : Note) → IsNote note → Holes old left
+pub still_stands : (at : ℕ) (old left : List ℕ) (note : Note) → IsNote note → Holes old left
     → StandsAt at left note → StandsAt at old note
 still_stands at old left note is holes stands =
     elim (whole_or_torn (take 197 (drop at old)) (take 197 (drop at left))

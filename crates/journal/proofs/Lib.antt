@@ -1,32 +1,32 @@
-mod Behind
-mod Blanking
+pub mod Behind
+pub mod Blanking
 mod Blanks
 mod Blocks
-mod Bonding
+pub mod Bonding
 mod Chain
 mod Changed
 mod Clear
 mod Committing
 mod Errors
 mod Feeds
-mod FileHeads
+pub mod FileHeads
 mod Files
 mod FirstGroup
 mod Formats
-mod Fronts
+pub mod Fronts
 pub mod Groups
 pub mod Growing
-mod Growth
-mod Heads
-mod HiddenNotes
+pub mod Growth
+pub mod Heads
+pub mod HiddenNotes
 mod LastFeeds
 mod LineFeeds
 mod MixedBytes
 mod Most
 mod NewHeads
 pub mod Noise
-mod NotePuts
-mod NoteTexts
+pub mod NotePuts
+pub mod NoteTexts
 mod Openings
 mod Over
 mod Pairs
@@ -38,15 +38,15 @@ mod ReadHeads
 mod ReadOn
 mod Recovering
 mod Rooms
-mod Selectors
+pub mod Selectors
 mod Skipped
-mod Sums
-mod Tearing
+pub mod Sums
+pub mod Tearing
 pub mod TextLines
 mod Texts
 mod ThreeBytes
 mod Told
-mod Witnesses
+pub mod Witnesses
 mod WorkedFiles
 mod WorkedSums
 mod Writing
