@@ -1,10 +1,14 @@
 -- Records without the row that is removed with a collection, and which rows are listed then. Ours.
 use Rattle.std.specs.Prelude.{◌≡◌, ℤ, List, [], ◌∷◌, length, filter, Option, Some, None, ⊤}
+use Rattle.meta_types.specs.Collected.{collected_records}
 use Rattle.meta_types.specs.Rows.{Records, Tables, BackLists, LeaseRow, image_key, lease_key}
 use Rattle.meta_types.specs.declared.rows.ImageRow.{ImageRow}
-use Rattle.row_tables.specs.Arrived.{kept}
+use Rattle.row_tables.specs.Arrived.{kept, sorted}
+use Rattle.object_tables.specs.InKeyOrder.{in_key_order}
 use Rattle.gc_graph.specs.Others.{is_other}
+use Rattle.table_sweep.specs.InKeyOrder.{records_in_key_order}
 use Rattle.table_sweep.specs.Plans.{IsPlanOfRows}
+use Rattle.table_sweep.specs.Stays.{AreMasks, Collection}
 use Rattle.collection.specs.Removing.{without}
 use Rattle.collection.specs.declared.removal.RemovedRow.{RemovedRow}
 use Rattle.collection.specs.declared.removal.RemovedRow.TheVariants as N
@@ -72,3 +76,17 @@ pub record IsPlanLess (arrived : Records) (named : Option RemovedRow) (back : Ba
   pub others : AreOthers named arrived.tables.images arrived.leases planned.others
   pub plan_is : IsPlanOfRows (listed_by planned.others arrived) (length arrived.tables.namespaces)
       back at planned.plan
+
+-- the tables are those that a collection leaves by the masks of this plan
+abbrev pub SweepsTables : Planned → Tables → Tables → Type 0
+SweepsTables planned old new = (of : Collection) → tables_by planned.others old ≡ of.records.tables
+    → AreMasks of.records of.at of.reached planned.plan.masks
+    → in_key_order new
+    ≡ (collected_records of.at of.reached (records_in_key_order of.records)).tables
+
+-- the leases are those that a collection leaves by the masks of this plan
+abbrev pub SweepsLeases : Planned → List LeaseRow → List LeaseRow → Type 0
+SweepsLeases planned old new = (of : Collection) → leases_by planned.others old ≡ of.records.leases
+    → AreMasks of.records of.at of.reached planned.plan.masks
+    → sorted lease_key new
+    ≡ (collected_records of.at of.reached (records_in_key_order of.records)).leases

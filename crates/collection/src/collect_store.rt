@@ -1,20 +1,15 @@
 //! A collection of a store, from its check to its report.
 ghost use Rattle.std.specs.Prelude.{◌≡◌, ◌+◌, None, IfOk, OnErr, option_copied, false};
-ghost use Rattle.meta_types.specs.Collected.{collected_records};
 ghost use Rattle.meta_types.specs.Faults.{Refuses};
 ghost use Rattle.meta_types.specs.Limits.{is_too_large};
 ghost use Rattle.meta_types.specs.Reports.{Collects};
-ghost use Rattle.meta_types.specs.Rows.{lease_key};
 ghost use Rattle.meta_types.specs.Sound.{IsSound};
 ghost use Rattle.back_model.specs.Held.{held, failures};
-ghost use Rattle.row_tables.specs.Arrived.{sorted};
-ghost use Rattle.object_tables.specs.InKeyOrder.{in_key_order};
 ghost use Rattle.steal_mark.specs.Refusing.{RefusesThreads};
 ghost use Rattle.table_sweep.specs.BlobMarks.{AreBlobMarks};
-ghost use Rattle.table_sweep.specs.InKeyOrder.{records_in_key_order};
-ghost use Rattle.table_sweep.specs.Stays.{AreMasks, FitRows, StayNumbered, Collection};
+ghost use Rattle.table_sweep.specs.Stays.{FitRows, StayNumbered};
 ghost use Rattle.collection.specs.Arrived.{in_order, arrived_in};
-ghost use Rattle.collection.specs.Leaving.{less, FitOthers, tables_by, leases_by, IsPlanLess};
+ghost use Rattle.collection.specs.Leaving.{less, FitOthers, tables_by, leases_by, IsPlanLess, SweepsTables, SweepsLeases};
 ghost use Rattle.collection.specs.Refused.{large_fault};
 ghost use Rattle.collection.specs.Stores.{records_in, store_in};
 ghost use Rattle.backend_sweep.specs.Planned.{IsPlanned};
@@ -95,22 +90,13 @@ fn sweep_all<
         planned.now.plan.masks }
     ensures fault { Refuses result None }
     ensures ok { IfOk result (SweepsNames planned.now.plan.report.backend
-        (held B.contents I.contents backends.old)
-        (held B.contents I.contents backends.new)) }
+        (held B.contents I.contents backends.old) (held B.contents I.contents backends.new)) }
     ensures of { IfOk result (AreOutcomesOf planned.now.plan.report.backend) }
     ensures count { IfOk result (λ outcomes. failures B.fails I.fails backends.new
         ≡ failures B.fails I.fails backends.old + count_names
         (failed_of planned.now.plan.report.backend outcomes)) }
-    ensures tables { IfOk result (λ _. (of : Collection)
-        → tables_by planned.now.others tables.old ≡ of.records.tables
-        → AreMasks of.records of.at of.reached planned.now.plan.masks
-        → in_key_order tables.new
-        ≡ (collected_records of.at of.reached (records_in_key_order of.records)).tables) }
-    ensures leases { IfOk result (λ _. (of : Collection)
-        → leases_by planned.now.others leases.old ≡ of.records.leases
-        → AreMasks of.records of.at of.reached planned.now.plan.masks
-        → sorted lease_key leases.new
-        ≡ (collected_records of.at of.reached (records_in_key_order of.records)).leases) }
+    ensures tables { IfOk result (λ _. SweepsTables planned.now tables.old tables.new) }
+    ensures leases { IfOk result (λ _. SweepsLeases planned.now leases.old leases.new) }
     ensures tables_err { OnErr result (tables.new ≡ tables.old) }
     ensures leases_err { OnErr result (leases.new ≡ leases.old) }
     ensures backends_err { OnErr result (backends.new ≡ backends.old) }
@@ -131,16 +117,8 @@ fn sweep_all<
                 × FitRows (tables_by planned.now.others tables.now)
                 (leases_by planned.now.others leases.now) planned.now.plan.masks
                 × StayNumbered (tables_by planned.now.others tables.now) planned.now.plan.masks }
-            ensures tables { (of : Collection)
-                → tables_by planned.entry.now.others tables.entry.now ≡ of.records.tables
-                → AreMasks of.records of.at of.reached planned.entry.now.plan.masks
-                → in_key_order tables.exit.now
-                ≡ (collected_records of.at of.reached (records_in_key_order of.records)).tables }
-            ensures leases { (of : Collection)
-                → leases_by planned.entry.now.others leases.entry.now ≡ of.records.leases
-                → AreMasks of.records of.at of.reached planned.entry.now.plan.masks
-                → sorted lease_key leases.exit.now
-                ≡ (collected_records of.at of.reached (records_in_key_order of.records)).leases }
+            ensures tables { SweepsTables planned.entry.now tables.entry.now tables.exit.now }
+            ensures leases { SweepsLeases planned.entry.now leases.entry.now leases.exit.now }
         { planned.sweep(tables, leases) },
     )?;
     Ok(outcomes)

@@ -1,5 +1,5 @@
 -- When a journal has groups.
-use Rattle.std.specs.Prelude.{◌≡◌, ◌⊎◌, ◌++◌, ℕ, List, [], ◌∷◌, replicate}
+use Rattle.std.specs.Prelude.{◌≡◌, ◌⊎◌, ◌++◌, ℕ, List, [], ◌∷◌, replicate, Bool, IsTrue}
 use Rattle.journal.specs.Text.{sum_after, journal_text, journal_end, AreGroups}
 use Rattle.journal.specs.Reading.{found, sound}
 use Rattle.journal.specs.Crashes.{Only}
@@ -19,6 +19,12 @@ pub record HasGroups (text : List ℕ) (outcomes : List ℕ → Type 0) (last : 
   pub sum : last ≡ sum_after first groups
   pub ends : end ≡ journal_end first groups
   pub durable : Only text outcomes
+
+-- on a clean disk, whatever groups one file has, the other one has
+abbrev pub GroupsStay : Bool → (List ℕ → List (List (List ℕ)) → Type 0)
+    → (List ℕ → List (List (List ℕ)) → Type 0) → Type 0
+GroupsStay is_clean old new = (first : List ℕ) (groups : List (List (List ℕ))) → IsTrue is_clean
+    → old first groups → new first groups
 
 -- each crash leaves a file that is read as these groups, or as those
 abbrev pub LeavesEither : List ℕ → List (List (List ℕ)) → List (List (List ℕ)) → (List ℕ → Type 0)

@@ -1,5 +1,5 @@
 -- The head of a journal's file, and how much behind it is believed.
-use Rattle.std.specs.Prelude.{◌≡◌, ◌≤◌, ◌+◌, ◌-◌, ◌*◌, ℕ, suc, ◌==◌, ◌||◌, ◌&&◌, not, List, [], ◌∷◌, length, take, drop, replicate, slice_index, Bool, true, false, bytes_eq, if◌then◌else◌}
+use Rattle.std.specs.Prelude.{⊥, ◌≡◌, ◌⊎◌, ◌≤◌, ◌+◌, ◌-◌, ◌*◌, ℕ, suc, ◌==◌, ◌||◌, ◌&&◌, not, List, [], ◌∷◌, length, take, drop, replicate, slice_index, Bool, true, false, bytes_eq, if◌then◌else◌}
 use Rattle.std.specs.List.{list_any}
 
 -- "#metad journal ", a digit, and a line feed
@@ -91,3 +91,16 @@ is_blank_from at (byte ∷ bytes) =
 -- no head was ever whole in this file, and no byte stands behind it
 abbrev pub is_blank : List ℕ → Bool
 is_blank file = is_blank_from 0 file
+
+-- a file that is neither blank nor begins with a first line
+abbrev pub IsUnknown : List ℕ → Type 0
+IsUnknown file = (is_blank file ≡ false) × (is_first_line (take 17 file) ≡ false)
+
+-- a file that begins with a first line, and whose head can't be read
+abbrev pub HasLostHead : List ℕ → Type 0
+HasLostHead file = (is_first_line (take 17 file) ≡ true)
+    × ((steps : ℕ) → IsHeaded file steps → ⊥)
+
+-- a file is as it was, or was blank
+abbrev pub IsSameOrBlank : List ℕ → List ℕ → Type 0
+IsSameOrBlank old new = (new ≡ old) ⊎ (is_blank old ≡ true)

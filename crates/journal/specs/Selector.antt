@@ -63,6 +63,10 @@ pub record SameSelector (old new : List ℕ) : Type 0 where
   pub text : believed new ≡ believed old
   pub selector : other_counts new ≡ other_counts old
 
+-- what a crash may leave now it might have left before, or it has the old file's text and selector
+abbrev pub LeavesSelector : List ℕ → (List ℕ → Type 0) → (List ℕ → Type 0) → Type 0
+LeavesSelector old before now = (c : List ℕ) → now c → before c ⊎ SameSelector old c
+
 -- nothing is believed of a file, and the other one doesn't count
 pub record IsUnused (file : List ℕ) : Type 0 where
   pub text : believed file ≡ []

@@ -2,7 +2,7 @@
 ghost use Rattle.std.specs.Prelude.{◌≡◌, ◌≢◌, ◌<◌, ◌-◌, ◌++◌, ◌∷◌, [], List, ℕ, length, IsTrue, IfOk, IfErr, OnOk};
 ghost use Rattle.journal.specs.Text.{lines_text, commit_of, IsLine, AreLines};
 ghost use Rattle.journal.specs.Reading.{found, sound};
-ghost use Rattle.journal.specs.Groups.{HasGroups, LeavesEither, added};
+ghost use Rattle.journal.specs.Groups.{HasGroups, GroupsStay, LeavesEither, added};
 
 use crate::line_head::end_of;
 use crate::lines::is_line;
@@ -98,21 +98,17 @@ impl<D: Log + Drop> Journal<D> {
     /// Makes room behind the groups. Where that is refused the journal is as it was and goes on,
     /// unless the disk failed; then open the file again. No crash changes what is read.
     pub fn grow(&mut self) -> Result<(), JournalError>
-        ensures ok { OnOk result ((first : List ℕ) (groups : List (List (List ℕ)))
-            → IsTrue (D.is_clean self.old.log)
-            → HasGroups (D.text self.old.log)
-            (D.may_leave self.old.log) self.old.last self.old.end first groups
-            → HasGroups (D.text self.new.log)
-            (D.may_leave self.new.log) self.new.last self.new.end first groups) }
+        ensures ok { OnOk result (GroupsStay (D.is_clean self.old.log)
+            (HasGroups (D.text self.old.log) (D.may_leave self.old.log) self.old.last self.old.end)
+            (HasGroups (D.text self.new.log) (D.may_leave self.new.log) self.new.last
+            self.new.end)) }
         ensures larger { OnOk result (IsTrue (D.is_clean self.old.log)
             → length (D.text self.old.log) < length (D.text self.new.log)) }
         ensures refused { IfErr result (λ error. error ≢ JournalError.DiskFailed
-            → (first : List ℕ) (groups : List (List (List ℕ)))
-            → IsTrue (D.is_clean self.old.log)
-            → HasGroups (D.text self.old.log)
-            (D.may_leave self.old.log) self.old.last self.old.end first groups
-            → HasGroups (D.text self.new.log)
-            (D.may_leave self.new.log) self.new.last self.new.end first groups) }
+            → GroupsStay (D.is_clean self.old.log)
+            (HasGroups (D.text self.old.log) (D.may_leave self.old.log) self.old.last self.old.end)
+            (HasGroups (D.text self.new.log) (D.may_leave self.new.log) self.new.last
+            self.new.end)) }
         ensures same { (self.new.last ≡ self.old.last) × (self.new.end ≡ self.old.end)
             × (self.new.pending ≡ self.old.pending) }
         ensures calm { D.is_clean self.new.log ≡ D.is_clean self.old.log }

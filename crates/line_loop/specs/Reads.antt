@@ -4,6 +4,7 @@ use Rattle.std.specs.List.{list_any}
 use Rattle.std.specs.Io.KnownBytes.{Consumes}
 use Rattle.journal.specs.Text.{is_line_feed}
 use Rattle.journal.specs.Reading.{whole_lines, last_piece}
+use Rattle.line_loop.specs.declared.buffers.Buffers.{Buffers}
 
 -- A line as the service gets it. One of more than 65,536 bytes is cut to 65,537 of them: so much
 -- tells that it is too long.
@@ -42,6 +43,15 @@ pub record IsReady (block line replies : List ℕ) : Type 0 where
   pub begun : IsPiece line
   pub replies_wait : replies ≡ []
   pub room : 0 < length block
+
+-- the buffers of a run that is ready to read
+abbrev pub AreReady : Buffers → Type 0
+AreReady buffers =
+    IsReady buffers.block.items buffers.waiting.line.items buffers.waiting.replies.items
+
+-- bytes were read, and at least one
+abbrev pub GetsOn : Option (List ℕ) → Option (List ℕ) → Type 0
+GetsOn before after = (read : List ℕ) × Consumes before after read × (0 < length read)
 
 -- These lines were taken from what was begun and what was read. A piece of the next line is kept,
 -- and the rest of the bytes follows it.

@@ -1,7 +1,7 @@
 //! A run: block by block, each kept before its replies are written.
 ghost use Rattle.std.specs.Prelude.{◌≡◌, ◌<◌, ◌≤◌, [], List, ℕ, length, IsTrue, IfErr, IfOk, IfSome};
 ghost use Rattle.std.specs.Io.KnownBytes.{IsAtEnd, Consumes, ReadConsumes};
-ghost use Rattle.line_loop.specs.Reads.{IsReady};
+ghost use Rattle.line_loop.specs.Reads.{AreReady, GetsOn};
 ghost use Rattle.line_loop.specs.Runs.{EndsRun, stopped_at_end, from, Kept, Answers};
 
 use crate::block::{feed, finish};
@@ -37,8 +37,7 @@ fn serve<T: Threads + Wait + Sync, S: Service, L: LineLog, R: Read, W: Write>(
     reader: &mut R,
     writer: &mut W,
 ) -> Result<Stop, RunError>
-    requires ready { IsReady buffers.old.block.items buffers.old.waiting.line.items
-        buffers.old.waiting.replies.items }
+    requires ready { AreReady buffers.old }
     ensures end { IfOk result (λ stop. stop ≡ Stop.End → IsAtEnd (R.remaining reader.new)
         × (buffers.new.waiting.line.items ≡ [])) }
     ensures answers { IfSome (stopped_at_end result) (λ at_end. (kept : List (List ℕ))
@@ -52,15 +51,12 @@ fn serve<T: Threads + Wait + Sync, S: Service, L: LineLog, R: Read, W: Write>(
         buffers.old.waiting.line.items (R.remaining reader.old)) (W.contents writer.new)
         (R.remaining reader.new) (L.may_find log.new) }
     ensures gets_on { IfOk result (λ stop. stop ≡ Stop.CheckpointDue → IsTrue L.keeps
-        × (read : List ℕ) × Consumes (R.remaining reader.old) (R.remaining reader.new) read
-        × (0 < length read)) }
-    ensures settled { IfSome (stopped_at_end result)
-        (λ at_end. L.settled log.old → L.settled log.new) }
+        × GetsOn (R.remaining reader.old) (R.remaining reader.new)) }
+    ensures settled { IfSome (stopped_at_end result) (λ _. L.settled log.old → L.settled log.new) }
     ensures error { IfErr result (EndsRun L.keeps) }
     ensures lost { IfErr result (λ error. (error ≡ RunError.ReadFailed → ⊥)
         → buffers.new.waiting.line.items ≡ []) }
-    ensures ready { IsReady buffers.new.block.items buffers.new.waiting.line.items
-        buffers.new.waiting.replies.items }
+    ensures ready { AreReady buffers.new }
 {
     // For the prover: a run takes in fewer blocks.
     'serving: for _ in 1..BLOCK_LIMIT {

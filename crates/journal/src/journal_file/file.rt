@@ -34,10 +34,10 @@ pub struct JournalFile<D: Disk + Drop, C: Selector> {
 }
 
 impl<D: Disk + Drop, C: Selector> JournalFile<D, C> {
-    ghost use Rattle.std.specs.Prelude.{◌≡◌, ◌⊎◌, List, ℕ, IsTrue, OnOk, IsErrOf, take, bytes_eq, true, false};
+    ghost use Rattle.std.specs.Prelude.{◌≡◌, true, IsTrue, OnOk, IsErrOf};
     ghost use Rattle.journal.specs.Crashes.{Only};
-    ghost use Rattle.journal.specs.Head.{is_first_line, believed, is_blank, Texts, IsHeaded};
-    ghost use Rattle.journal.specs.Selector.{other_counts, AllSelect, SameSelector};
+    ghost use Rattle.journal.specs.Head.{believed, Texts, IsHeaded, IsUnknown, HasLostHead, IsSameOrBlank};
+    ghost use Rattle.journal.specs.Selector.{AllSelect, SameSelector, LeavesSelector};
 
     /// The file of a disk. It has to be opened.
     pub fn new(alloc: Global, disk: D) -> JournalFile<D, C>
@@ -59,30 +59,22 @@ impl<D: Disk + Drop, C: Selector> JournalFile<D, C> {
     pub fn open(&mut self) -> Result<(), JournalError>
         ensures rests { OnOk result (Only (believed (D.Disk.seen self.new.disk))
             (Texts (D.Disk.may_leave self.new.disk))) }
-        ensures text { IsTrue (D.Disk.is_clean self.new.disk)
-            → believed (D.Disk.seen self.new.disk) ≡ believed (D.Disk.seen self.old.disk) }
         ensures same { IsTrue (D.Disk.is_clean self.new.disk)
-            → other_counts (D.Disk.seen self.new.disk) ≡ other_counts (D.Disk.seen self.old.disk) }
+            → SameSelector (D.Disk.seen self.old.disk) (D.Disk.seen self.new.disk) }
         ensures opened { OnOk result (self.new.was_opened ≡ true) }
         ensures selected { OnOk result (IsTrue (D.Disk.is_clean self.new.disk)
             → AllSelect C.IS_STANDBY (D.Disk.may_leave self.new.disk)) }
         ensures headed { OnOk result (IsTrue (D.Disk.is_clean self.new.disk)
             → IsHeaded (D.Disk.seen self.new.disk) self.new.steps) }
         ensures changed { IsTrue (D.Disk.is_clean self.new.disk)
-            → (D.Disk.seen self.new.disk ≡ D.Disk.seen self.old.disk)
-            ⊎ (is_blank (D.Disk.seen self.old.disk) ≡ true) }
+            → IsSameOrBlank (D.Disk.seen self.old.disk) (D.Disk.seen self.new.disk) }
         ensures unknown { IsErrOf result JournalError.UnknownFormat
-            → IsTrue (D.Disk.is_clean self.new.disk)
-            → (is_blank (D.Disk.seen self.old.disk) ≡ false)
-            × (is_first_line (take 17 (D.Disk.seen self.old.disk)) ≡ false) }
+            → IsTrue (D.Disk.is_clean self.new.disk) → IsUnknown (D.Disk.seen self.old.disk) }
         ensures damaged { IsErrOf result JournalError.Damaged
-            → IsTrue (D.Disk.is_clean self.new.disk)
-            → (is_first_line (take 17 (D.Disk.seen self.old.disk)) ≡ true)
-            × ((steps : ℕ) → IsHeaded (D.Disk.seen self.old.disk) steps → ⊥) }
+            → IsTrue (D.Disk.is_clean self.new.disk) → HasLostHead (D.Disk.seen self.old.disk) }
         ensures crash { IsTrue (D.Disk.is_clean self.new.disk)
-            → (c : List ℕ) → D.Disk.may_leave self.new.disk c
-            → (D.Disk.may_leave self.old.disk c)
-            ⊎ SameSelector (D.Disk.seen self.old.disk) c }
+            → LeavesSelector (D.Disk.seen self.old.disk) (D.Disk.may_leave self.old.disk)
+            (D.Disk.may_leave self.new.disk) }
         ensures clean { IsTrue (D.Disk.is_clean self.new.disk)
             → IsTrue (D.Disk.is_clean self.old.disk) }
     {

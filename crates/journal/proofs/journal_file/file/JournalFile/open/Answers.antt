@@ -4,12 +4,6 @@ use Rattle.journal.proofs.Selectors.{opened_selector}
 use Rattle.journal.proofs.Texts.{rests_from}
 use Rattle.journal.proofs.journal_file.file.JournalFile.open.Goals as goal
 
-pub returns-in_err-found-clause-text : goal.returns-in_err-found-clause-text
-returns-in_err-found-clause-text g c clean = (c.find.ensures.same clean).text
-
-pub returns-in_err-found-clause-same : goal.returns-in_err-found-clause-same
-returns-in_err-found-clause-same g c clean = (c.find.ensures.same clean).selector
-
 pub returns-in_err-found-clause-unknown : goal.returns-in_err-found-clause-unknown
 returns-in_err-found-clause-unknown g c is =
     c.in_err-found.ensures.unknown
@@ -20,20 +14,7 @@ returns-in_err-found-clause-damaged g c is =
     c.in_err-found.ensures.damaged
     (same_error _ _ _ _ refl c.from_residual.ensures.1 is)
 
--- another selector
-pub returns-then-not-is_alike-clause-text : goal.returns-then-not-is_alike-clause-text
-returns-then-not-is_alike-clause-text g c clean = (c.find.ensures.same clean).text
-
-pub returns-then-not-is_alike-clause-same : goal.returns-then-not-is_alike-clause-same
-returns-then-not-is_alike-clause-same g c clean = (c.find.ensures.same clean).selector
-
 -- this selector
-pub returns-clause-text : goal.returns-clause-text
-returns-clause-text g c clean = (c.find.ensures.same clean).text
-
-pub returns-clause-same : goal.returns-clause-same
-returns-clause-same g c clean = (c.find.ensures.same clean).selector
-
 pub returns-clause-rests : goal.returns-clause-rests
 returns-clause-rests g c = rests_from _ _ c.in_ok-found.ensures.durable
 
