@@ -1,5 +1,5 @@
 -- The head of a journal's file, and how much behind it is believed.
-use Rattle.std.specs.Prelude.{⊥, ◌≡◌, ◌⊎◌, ◌≤◌, ◌+◌, ◌-◌, ◌*◌, ℕ, suc, ◌==◌, ◌||◌, ◌&&◌, not, List, [], ◌∷◌, length, take, drop, replicate, slice_index, Bool, true, false, bytes_eq, if◌then◌else◌}
+use Rattle.std.specs.Prelude.{◌≡◌, ◌⊎◌, ◌≤◌, ◌+◌, ◌-◌, ◌*◌, ℕ, suc, ◌==◌, ◌||◌, ◌&&◌, not, List, [], ◌∷◌, length, take, drop, replicate, slice_index, Bool, true, false, bytes_eq, if◌then◌else◌}
 use Rattle.std.specs.List.{list_any}
 
 -- "#metad journal ", a digit, and a line feed
