@@ -1,12 +1,13 @@
 //! The beginning of an ingest, which happens whole or not at all.
-ghost use Rattle.std.specs.Prelude.{◌≡◌, true, false, OnOk, OnErr, IfOk, Err};
+ghost use Rattle.std.specs.Prelude.{◌≡◌, true, false, None, OnOk, OnErr, IfOk, Err};
 ghost use Rattle.meta_types.specs.Keys.{has_row, add_row};
 ghost use Rattle.meta_types.specs.Rows.{ingest_key};
+ghost use Rattle.meta_types.specs.Sound.{AreNumbered};
 ghost use Rattle.meta_types.specs.Changes.{has_namespace, hold_under};
 ghost use Rattle.meta_types.specs.declared.fault.Fault.TheVariants as F;
 ghost use Rattle.meta_types.specs.declared.resource.Resource.TheVariants as H;
+ghost use Rattle.object_tables.specs.Calls.{adding_fault};
 ghost use Rattle.back_model.specs.Objects.{has_number, put_number};
-ghost use Rattle.request_core.specs.Adding.{IsNumberedIngest, HasSameRows};
 ghost use Rattle.request_core.specs.Parts.{is_lease_there, MakesOrFails};
 
 use crate::add::content::{hold, release};
@@ -93,7 +94,10 @@ pub(crate) fn grow_ingest<S: SnapBackend, B: BlobBackend, I: IngestBackend>(
     requires lease { is_lease_there row.ns lease.now records.old.leases ≡ true }
     requires free { has_row ingest_key (ingest_key row) records.old.tables.ingests ≡ false }
     requires number { has_number row.number (I.contents backends.old.ingests) ≡ false }
-    requires numbered { IsNumberedIngest records.old.tables row }
+    requires numbered { adding_fault records.old.tables row.ns
+        (has_row ingest_key (ingest_key row) records.old.tables.ingests) ≡ None
+        → AreNumbered records.old.tables.snapshots
+        (add_row ingest_key row records.old.tables.ingests) }
     ensures tables { OnOk result (records.new.tables ≡ record records.old.tables
         { ingests = add_row ingest_key row records.old.tables.ingests }) }
     ensures leases { OnOk result
@@ -102,7 +106,8 @@ pub(crate) fn grow_ingest<S: SnapBackend, B: BlobBackend, I: IngestBackend>(
         × (records.new.profile ≡ records.old.profile) }
     ensures ingests { OnOk result (I.contents backends.new.ingests
         ≡ put_number row.number (I.contents backends.old.ingests)) }
-    ensures err { OnErr result (HasSameRows records.old records.new
+    ensures err { OnErr result ((records.new.tables ≡ records.old.tables)
+        × (records.new.leases ≡ records.old.leases)
         × (I.contents backends.new.ingests ≡ I.contents backends.old.ingests)) }
     ensures others { (backends.new.shards ≡ backends.old.shards)
         × (backends.new.blobs ≡ backends.old.blobs) }
