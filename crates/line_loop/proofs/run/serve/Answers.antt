@@ -76,10 +76,12 @@ returns-then-is_due-clause-answers g c kept has =
 pub returns-then-is_due-clause-gets_on : goal.returns-then-is_due-clause-gets_on
 returns-then-is_due-clause-gets_on g c stop = (
   c.is_due.ensures c.if-is_due.true,
-  (c.serving.invariant.goes.0 ++ take c.in_ok-count.count c.read_block.new.block.items,
-  Consumes-append _ _ _ _ _ c.serving.invariant.goes.1 c.in_ok-count.ensures.bytes.0,
-  some_more c.serving.invariant.goes.0 c.read_block.new.block.items c.in_ok-count.count
-      c.in_ok-count.ensures.bound c.if-count-eq0.false),
+  (
+    c.serving.invariant.goes.0 ++ take c.in_ok-count.count c.read_block.new.block.items,
+    Consumes-append _ _ _ _ _ c.serving.invariant.goes.1 c.in_ok-count.ensures.bytes.0,
+    some_more c.serving.invariant.goes.0 c.read_block.new.block.items c.in_ok-count.count
+        c.in_ok-count.ensures.bound c.if-count-eq0.false,
+  ),
 )
 
 pub serving-preserved : goal.serving-preserved
