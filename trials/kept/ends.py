@@ -18,6 +18,13 @@ wants = Told.wants
 
 LARGE = 1 << 32  # bytes of a file that isn't a journal
 ROOM = 64 << 20  # bytes that a run has to refuse it
+# what the program answers to words of a store that ask for nothing, and to all others
+USAGE = (
+    b"usage: metad serve --dir DIR [--new] [--workers 1..16] [--checkpoint] [--accept-loss]"
+    b" [--numbered] [--clock SECONDS] | new --dir DIR | load --dir DIR [--part] | check --dir DIR"
+    b" | check FILE | script --dir DIR | backup --dir DIR FILE\n"
+)
+USAGE_OF_RUN = b"usage: metad run [--workers 1..16]\n"
 
 
 def little_room():
@@ -26,19 +33,35 @@ def little_room():
 
 
 def words(folder):
-    """What asks for nothing is answered with the usage."""
+    """What asks for nothing is answered with the usage; options may be given in either form."""
     for it in (
-        [], ["serve"], ["serve", "--dir"], ["serve", "--dir="], ["serve", "--dir", folder, "x"],
-        ["check", "--dir", folder, "--workers=2"], ["script"], ["other", "--dir", folder],
-        ["serve", "--dir", folder, "--dir", folder], ["new"], ["new", "--dir", folder, "--new"],
+        ["serve"], ["serve", "--dir"], ["serve", "--dir="], ["serve", "--dir", folder, "x"],
+        ["check", "--dir", folder, "--workers=2"], ["script"], ["new"], ["load"], ["backup"],
+        ["serve", "--dir", folder, "--dir", folder], ["new", "--dir", folder, "--new"],
         ["serve", "--dir", folder, "--new", "--new"], ["check", "--dir", folder, "--new"],
+        ["serve", "--dir", folder, "--new=yes"], ["serve", "--dir", folder, "--ne"],
+        ["serve", "--dir", folder, "--clock", "x"], ["serve", "--dir", folder, "--clock", "--new"],
+        ["serve", "--dir", folder, "--clock=1000000001"], ["serve", "--dir", b"\xff", "--new"],
+        ["serve", "--dir", folder, "--workers", "2", "--workers=2"], ["serve", "--help"],
+        ["serve", "help"], ["new", "-h"], ["check", "--dir", folder, "file"], ["check", ""],
+        ["check", "--numbered"], ["check", "one", "two"], ["check", "--dir", folder, "--part"],
+        ["backup", "--dir", folder], ["backup", "--dir", folder, "--new"], ["backup", "file"],
+        ["load", "--dir", folder, "--part", "--part"], ["script", "--dir", folder, "--clock=1"],
     ):
-        wants("other words end with 2", run([KEPT, *it]).status == 2, it)
+        done = run([KEPT, *it])
+        wants("other words have the usage", done == (2, b"", USAGE), it, done)
+    for it in ([], ["other", "--dir", folder], ["help"], ["--dir", folder, "new"], [b"\xff"]):
+        done = run([KEPT, *it])
+        wants("no word of a store has that of run", done == (2, b"", USAGE_OF_RUN), it, done)
     for it in ("0", "17", "x", "-1", ""):
         wants("another number of workers", serve(folder, b"", "--workers", it).status == 2, it)
     wants("no file was made", os.listdir(folder) == [])
-    with open(os.path.join(TOP, "crates/metad_kept/stdout"), "rb") as usage:
-        wants("help prints what the gate compares", run([KEPT, "help"]).out == usage.read())
+    own = os.path.join(folder, "-x")
+    os.mkdir(own)
+    program = os.path.abspath(KEPT)
+    for it in (["new", "--dir", "-x"], ["check", "--dir=-x"], ["backup", "--dir", "-x", "-h"]):
+        wants("a hyphen before a name", run([program, *it], cwd=folder).status == 0, it)
+    wants("and of a file", run([program, "check", "-h"], cwd=folder).status == 0)
     wants("16 workers", serve(folder, b"", "--workers=16").status == 0)
 
 

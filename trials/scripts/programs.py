@@ -1,14 +1,14 @@
 #!/usr/bin/env python3
-"""The two programs that answer lines, each by its word: `run` answers a script, and `serve` does so
-over a store, whose journal is in a folder. Trials that try both take them from here.
+"""The two words that answer lines: `run` answers a script, and `serve` does so over a store, whose
+journal is in a folder. Trials that try both take them, and the program of each, from here.
 
 trials/scripts/programs.py TRIAL [run | serve ..]
-    prints 'WORD PATH', a line for each program: for trials in sh, which then read programs.sh
+    prints 'WORD PATH', a line for each word: for trials in sh, which then read programs.sh
 
-METAD names another program than that of ./metad build, METAD_KEPT another than that of
-./metad serve. If only METAD is set, there is no program of `serve`. If there is none, a trial says
-so in a line 'not run: ..', and tries the other one. It ends with 1 if there is no program of a word
-that it was asked for, or none of `run`.
+METAD names another program of `run` than that of ./metad build, METAD_KEPT another one of `serve`.
+If only METAD is set, there is no program of `serve`. If there is none, a trial says so in a line
+'not run: ..', and tries the other word. It ends with 1 if there is no program of a word that it was
+asked for, or none of `run`.
 """
 import contextlib
 import os
@@ -51,8 +51,7 @@ def chosen(trial, words):
     found = {word: path_of(word) for word in asked or WORDS}
     for word in (word for word, path in found.items() if path is None):
         if word == "run" or asked:
-            build = "./metad build" if word == "run" else "tools/build metad_kept"
-            sys.exit(f"{trial}: the program of {word} isn't built: {build}")
+            sys.exit(f"{trial}: the program of {word} isn't built: ./metad build")
         why = "METAD_KEPT names none" if os.environ.get("METAD") else "it isn't built"
         print(f"not run: {trial} by the program of serve: {why}", file=sys.stderr, flush=True)
     programs = [Program(word, path) for word, path in found.items() if path is not None]

@@ -1,5 +1,5 @@
 # shellcheck shell=sh disable=SC2154
-# Read by trials in sh that try both programs (programs.py). Their stores are in memory where they
+# Read by trials in sh that try both words (programs.py). Their stores are in memory where they
 # can be, since a sync costs nothing there.
 if [ -z "${TMPDIR-}" ] && [ -d /dev/shm ] && [ -w /dev/shm ]; then export TMPDIR=/dev/shm; fi
 

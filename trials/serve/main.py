@@ -29,7 +29,7 @@ PARTS = {
     "load": (load, ("METAD",)),
     "kept": (kept, ("METAD_KEPT",)),
 }
-PROGRAMS = {"METAD": "metad", "METAD_KEPT": "metad_kept"}
+PROGRAMS = {"METAD": "the program of run", "METAD_KEPT": "the program of serve"}
 
 
 def run_one(part, function):

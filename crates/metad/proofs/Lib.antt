@@ -1,3 +1,4 @@
 pub mod Handing
+mod Rooms
 mod Through
 mod WorkerCounts

@@ -1,7 +1,7 @@
 -- What a writer in blocks holds. Ours, unless a source stands beside.
 use Rattle.std.specs.Prelude.{ℕ, List, Option}
 use Rattle.std.specs.Io.KnownBytes.{append_known}
-use Rattle.metad.specs.declared.blocks.Blocks.{Blocks}
+use Rattle.metad.specs.declared.script_run.blocks.Blocks.{Blocks}
 
 -- the writer that the bytes are handed on to
 abbrev pub inner_of : {W : Type 0} → Blocks W → W
