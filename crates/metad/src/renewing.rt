@@ -249,7 +249,8 @@ fn keep_room<'a, L: Ledger, D: Disk + Drop, T: Threads + Wait + Sync>(
 /// Writes a checkpoint into the file that doesn't count, and lets that one count. Tells before it and
 /// after it how long clients wait. Where there is no checkpoint, the file that counts goes on. Where
 /// the selector can't be put, either file has the store. If the disk is full, the longer of both files
-/// counts at the end.
+/// counts at the end. The code is there once, whatever service calls it.
+#[inline(never)]
 pub fn renew<'a, L: Ledger, D: Disk + Drop, T: Threads + Wait + Sync>(
     threads: &T,
     store: &LineStore<L>,

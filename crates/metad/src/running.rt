@@ -89,7 +89,8 @@ fn try_checkpoint<'a, S: StoreService, T: Threads + Wait + Sync, D: Disk + Drop,
 }
 
 // Leaves a witness in the file that doesn't count, and tells where that failed. The next one is
-// left once the journal is so much longer.
+// left once the journal is so much longer. The code is there once, whatever calls it.
+#[inline(never)]
 fn leave<'a, D: Disk + Drop, N: Teller>(
     pauses: &mut Pauses,
     files: Files<'a, D, CountingFile<D>>,

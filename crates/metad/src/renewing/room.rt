@@ -101,7 +101,8 @@ fn has_more_room<D: Disk + Drop>(bytes: usize, journal: &mut Counting<D>) -> boo
 
 /// Makes the file that doesn't count as long as the last checkpoint, so that the next one has room
 /// there, even if the disk is full. Answers whether it is longer than the file that counts, though that
-/// one can't grow.
+/// one can't grow. The code is there once, whatever calls it.
+#[inline(never)]
 pub fn keep_length<'a, D: Disk + Drop>(
     files: Files<'a, D, CountingFile<D>>,
 ) -> (Files<'a, D, CountingFile<D>>, bool)
