@@ -74,8 +74,8 @@ fn answer<T: Threads + Wait + Sync>(rt: &HostRuntime, threads: &T, words: Words<
     }
 }
 
-/// Does what the program's words ask for, if they do; else tells what they are. Takes a quarter more
-/// of the stack than a service uses.
+/// Does what the program's words ask for, if they do; else tells what they are. Takes a quarter
+/// more of the stack than a service uses.
 #[inline(never)]
 pub fn keep_store<T: Threads + Wait + Sync>(rt: &HostRuntime, threads: &T) -> ExitCode {
     if take_stack::<28672>(rt).is_err() {

@@ -86,36 +86,31 @@ fn file<'a>(alloc: Global) -> Arg<'a> {
     Arg::new(alloc, "file").allow_hyphen_values(true)
 }
 
-// A word, and the folder that it is given. No word asks for help.
-fn with_folder<'a>(alloc: Global, name: &'a str) -> Result<clap::Command<'a>, AllocError> {
-    let folder = option(alloc, "dir");
+// The word of a service, with its options.
+fn with_options<'a>(
+    alloc: Global,
+    word: clap::Command<'a>,
+) -> Result<clap::Command<'a>, AllocError> {
+    let mut word = word;
+    for name in ["workers", "clock"] {
+        word = word.arg(option(alloc, name))?;
+    }
+    for name in ["new", "checkpoint", "accept-loss", "numbered"] {
+        word = word.arg(switch(alloc, name))?;
+    }
+    Ok(word)
+}
+
+// A word, the folder that it is given, and what else it takes. No word asks for help.
+fn word_of<'a>(alloc: Global, name: &'a str) -> Result<clap::Command<'a>, AllocError> {
     let word = clap::Command::new(alloc, name).disable_help_flag(true);
-    word.arg(folder)
-}
-
-// The word of a service, and its options.
-fn serve<'a>(alloc: Global) -> Result<clap::Command<'a>, AllocError> {
-    with_folder(alloc, "serve")?
-        .arg(option(alloc, "workers"))?
-        .arg(option(alloc, "clock"))?
-        .arg(switch(alloc, "new"))?
-        .arg(switch(alloc, "checkpoint"))?
-        .arg(switch(alloc, "accept-loss"))?
-        .arg(switch(alloc, "numbered"))
-}
-
-// All words.
-fn all<'a>(alloc: Global) -> Result<clap::Command<'a>, AllocError> {
-    let load = with_folder(alloc, "load")?.arg(switch(alloc, "part"))?;
-    let check = with_folder(alloc, "check")?.arg(file(alloc))?;
-    let backup = with_folder(alloc, "backup")?.arg(file(alloc))?;
-    clap::Command::new(alloc, "metad")
-        .subcommand(serve(alloc)?)?
-        .subcommand(with_folder(alloc, "new")?)?
-        .subcommand(load)?
-        .subcommand(check)?
-        .subcommand(with_folder(alloc, "script")?)?
-        .subcommand(backup)
+    let word = word.arg(option(alloc, "dir"))?;
+    match name {
+        "serve" => with_options(alloc, word),
+        "load" => word.arg(switch(alloc, "part")),
+        "check" | "backup" => word.arg(file(alloc)),
+        _ => Ok(word),
+    }
 }
 
 // What a service is asked for.
@@ -174,8 +169,13 @@ fn words_of<'a>(matches: &ArgMatches<'a>) -> Option<Words<'a>> {
     })
 }
 
-/// What the words ask for, the program's name first among them.
+/// What the words ask for, the program's name first among them. `clap` learns the word that is given,
+/// and no other: each would be text of the program, and memory of a start.
 pub fn read_words<'a>(alloc: Global, words: &'a [&'a str]) -> Result<Words<'a>, ArgFault> {
-    let matches = all(alloc)?.try_get_matches_from(words)?;
+    let Some(name) = words.get(1) else {
+        return Err(ArgFault::Usage);
+    };
+    let metad = clap::Command::new(alloc, "metad").subcommand(word_of(alloc, name)?)?;
+    let matches = metad.try_get_matches_from(words)?;
     words_of(&matches).ok_or(ArgFault::Usage)
 }
