@@ -108,7 +108,9 @@ fn leave<'a, D: Disk + Drop, N: Teller>(
     files
 }
 
-// Takes a checkpoint where one is due, and leaves a witness.
+// Takes a checkpoint where one is due, and leaves a witness. Where files are handed on by a call of
+// its own, their fields aren't copied one by one.
+#[inline(never)]
 fn pause<'a, S: StoreService, T: Threads + Wait + Sync, D: Disk + Drop, N: Teller>(
     threads: &T,
     service: &mut S,
@@ -128,6 +130,7 @@ fn pause<'a, S: StoreService, T: Threads + Wait + Sync, D: Disk + Drop, N: Telle
 }
 
 // Answers lines until the input ends, or until the log is due. No line waits then.
+#[inline(never)]
 fn run_on<
     S: StoreService,
     T: Threads + Wait + Sync,
@@ -157,6 +160,7 @@ fn run_on<
 }
 
 // Answers lines until the input ends, or until a witness or a checkpoint is due, and does that.
+#[inline(never)]
 fn go_on<
     'a,
     S: StoreService,
