@@ -1,7 +1,9 @@
 //! What a store is kept by: the words of a service, and those that make, read and copy a store.
 
+mod stack;
 mod words;
 
+use crate::commands::stack::take_stack;
 pub use crate::commands::words::Serving;
 use crate::commands::words::{Command, Words, read_words};
 use crate::names::{Names, first_name, second_name};
@@ -11,7 +13,6 @@ use crate::script_run::args::ArgFault;
 use crate::serving::serve;
 use crate::starting::loading::load;
 use crate::starting::making::make;
-use crate::take_stack;
 use crate::telling::tell;
 use meta_types::Fault;
 use sqlite_std_file::Unknown;
@@ -74,11 +75,10 @@ fn answer<T: Threads + Wait + Sync>(rt: &HostRuntime, threads: &T, words: Words<
     }
 }
 
-/// Does what the program's words ask for, if they do; else tells what they are. Takes a quarter
-/// more of the stack than a service uses.
+/// Does what the program's words ask for, if they do; else tells what they are.
 #[inline(never)]
 pub fn keep_store<T: Threads + Wait + Sync>(rt: &HostRuntime, threads: &T) -> ExitCode {
-    if take_stack::<28672>(rt).is_err() {
+    if take_stack(rt).is_err() {
         return tell(rt, Fault::ReadFailed);
     }
     let alloc = rt.alloc();

@@ -10,6 +10,7 @@ ghost use Rattle.metad.specs.Runs.{ExchangesFrom};
 
 pub mod args;
 mod blocks;
+mod stack;
 #[cfg(test)]
 mod tests;
 #[cfg(test)]
@@ -19,7 +20,7 @@ mod tests_flush;
 
 use crate::script_run::args::{ArgFault, parse_args};
 use crate::script_run::blocks::Blocks;
-use crate::take_stack;
+use crate::script_run::stack::take_stack;
 use meta_types::{Fault, Workers};
 use row_tables::Seed;
 use scripts::run_script_with;
@@ -115,8 +116,7 @@ fn ended(rt: &HostRuntime, fault: Fault) -> ExitCode {
     ExitCode::from(1)
 }
 
-/// Runs the script of the program, if its words ask for a run; else tells what they are. Takes four
-/// times as much of the stack as a run uses beyond it.
+/// Runs the script of the program, if its words ask for a run; else tells what they are.
 #[inline(never)]
 pub fn answer_script<T: Threads + Wait + Sync>(rt: &HostRuntime, threads: &T) -> ExitCode {
     let alloc = rt.alloc();
@@ -130,7 +130,7 @@ pub fn answer_script<T: Threads + Wait + Sync>(rt: &HostRuntime, threads: &T) ->
             };
         }
     };
-    if take_stack::<8192>(rt).is_err() {
+    if take_stack(rt).is_err() {
         return ended(rt, Fault::ReadFailed);
     }
     let Ok(mut writer) = Blocks::new(alloc, io::writer(rt)) else {
