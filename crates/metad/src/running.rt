@@ -2,15 +2,17 @@
 ghost use Rattle.std.specs.Prelude.{◌≡◌, [], IfOk, IfSome, OnOk};
 
 pub mod host_clock;
+mod pausing;
 pub mod teller;
 
 use crate::files::{CountingFile, CountingLog, Files, Text};
 use crate::heads::Unfit;
-use crate::renewing::{keep_length, leave_witness, next_size, renew};
+use crate::renewing::next_size;
+use crate::running::pausing::{Pauses, after_stop, begin_run, forget_tried};
 use crate::running::teller::Teller;
 use crate::starting::beginning::{Cause, NotStarted};
 use crate::telling_file::TellingFile;
-use journal::{JournalError, Log, Paged, STEP};
+use journal::{JournalError, Log, Paged};
 use kept_store::{StartError, StoreService, due_at, run_store};
 use line_loop::{RunBuffers, RunError, Stop};
 use sqlite_disk::Disk;
@@ -25,13 +27,6 @@ pub struct Streams<R: Read + Drop, W: Write + Drop, N: Teller + Drop> {
     pub reader: R,
     pub writer: W,
     pub teller: N,
-}
-
-/// The lengths of a journal behind which a run stops for a checkpoint, and for a witness.
-#[derive(Drop)]
-struct Pauses {
-    checkpoint: usize,
-    witness: usize,
 }
 
 /// Why a service ended early, and where.
@@ -59,74 +54,6 @@ pub fn failure_of<'a, D: Disk + Drop>(
         Cause::Empty => Failure::Empty(path),
         Cause::Taken => Failure::Taken,
     }
-}
-
-// Tries a checkpoint, and tells what became of it. The next one is due by its size; where there is
-// none, as if there were one now.
-fn try_checkpoint<'a, S: StoreService, T: Threads + Wait + Sync, D: Disk + Drop, N: Teller>(
-    threads: &T,
-    service: &mut S,
-    pauses: &mut Pauses,
-    files: Files<'a, D, CountingFile<D>>,
-    teller: &mut N,
-) -> Result<Files<'a, D, CountingFile<D>>, Failure<'a, CountingFile<D>>>
-    requires { files.log.journal.pending.items ≡ [] }
-    ensures { IfOk result (λ files. files.log.journal.pending.items ≡ []) }
-{
-    let names = files.names;
-    let renewed = match renew(threads, service.store(), files) {
-        Ok(renewed) => renewed,
-        Err(error) => return Err(Failure::Run(names.first, error)),
-    };
-    // the file that took it counts; one that took none doesn't
-    let is_second = renewed.files.spare.is_second() == renewed.why.is_some();
-    let path = names.of(is_second);
-    let end = renewed.files.log.journal.end;
-    teller.renewed(path, end, renewed.why);
-    pauses.checkpoint = due_at(next_size(end));
-    service.forget_rows();
-    Ok(renewed.files)
-}
-
-// Leaves a witness in the file that doesn't count, and tells where that failed. The next one is
-// left once the journal is so much longer. The code is there once, whatever calls it.
-#[inline(never)]
-fn leave<'a, D: Disk + Drop, N: Teller>(
-    pauses: &mut Pauses,
-    files: Files<'a, D, CountingFile<D>>,
-    teller: &mut N,
-) -> Files<'a, D, CountingFile<D>>
-    requires { files.log.journal.pending.items ≡ [] }
-    ensures { result.log.journal.pending.items ≡ [] }
-{
-    let path = files.names.of(files.spare.is_second());
-    let (files, is_left) = leave_witness(files);
-    if !is_left {
-        teller.unwitnessed(path);
-    }
-    pauses.witness = files.log.journal.end.saturating_add(STEP - 1);
-    files
-}
-
-// Takes a checkpoint where one is due, and leaves a witness. Where files are handed on by a call of
-// its own, their fields aren't copied one by one.
-#[inline(never)]
-fn pause<'a, S: StoreService, T: Threads + Wait + Sync, D: Disk + Drop, N: Teller>(
-    threads: &T,
-    service: &mut S,
-    pauses: &mut Pauses,
-    files: Files<'a, D, CountingFile<D>>,
-    teller: &mut N,
-) -> Result<Files<'a, D, CountingFile<D>>, Failure<'a, CountingFile<D>>>
-    requires { files.log.journal.pending.items ≡ [] }
-    ensures { IfOk result (λ files. files.log.journal.pending.items ≡ []) }
-{
-    let end = files.log.journal.end;
-    if end <= pauses.checkpoint && service.work() <= end as u128 {
-        return Ok(leave(pauses, files, teller));
-    }
-    let files = try_checkpoint(threads, service, pauses, files, teller)?;
-    Ok(leave(pauses, files, teller))
 }
 
 // Answers lines until the input ends, or until the log is due. No line waits then.
@@ -180,19 +107,13 @@ fn go_on<
     ensures { IfOk result (λ next. IfSome next (λ files. files.log.journal.pending.items ≡ [])) }
 {
     let mut files = files;
-    let path = files.names.of(!files.spare.is_second());
     files.log.due_at = pauses.checkpoint.min(pauses.witness);
-    match run_on(threads, service, &mut files.log, streams) {
-        Ok(Stop::End) => {
-            let _ended = leave(pauses, files, &mut streams.teller);
-            Ok(None)
-        }
-        Ok(Stop::CheckpointDue) => {
-            let next = pause(threads, service, pauses, files, &mut streams.teller)?;
-            Ok(Some(next))
-        }
-        Err(error) => Err(Failure::Run(path, error)),
-    }
+    let stopped = run_on(threads, service, &mut files.log, streams);
+    pauses.work = service.work();
+    let store = service.store();
+    let next = after_stop(threads, store, stopped, pauses, files, &mut streams.teller)?;
+    forget_tried(service, pauses);
+    Ok(next)
 }
 
 // Answers lines until the input ends.
@@ -247,13 +168,12 @@ pub fn run<
     let mut pauses = Pauses {
         checkpoint: due_at(next_size(files.card.end)),
         witness: 0,
+        work: 0,
+        was_tried: false,
     };
-    let files = leave(&mut pauses, files, &mut streams.teller);
-    let (files, _has_more) = keep_length(files);
-    if has_checkpoint {
-        let files = try_checkpoint(threads, service, &mut pauses, files, &mut streams.teller)?;
-        let files = leave(&mut pauses, files, &mut streams.teller);
-        return answer_all(threads, service, &mut pauses, files, streams);
-    }
+    let store = service.store();
+    let teller = &mut streams.teller;
+    let files = begin_run(threads, store, has_checkpoint, &mut pauses, files, teller)?;
+    forget_tried(service, &mut pauses);
     answer_all(threads, service, &mut pauses, files, streams)
 }
