@@ -51,6 +51,7 @@ pub fn next_size(end: usize) -> usize {
 }
 
 // Files with a checkpoint in the second one, or as they were.
+#[inline(never)]
 fn renew_second<'a, L: Ledger, D: Disk + Drop, T: Threads + Wait + Sync>(
     threads: &T,
     store: &LineStore<L>,
@@ -93,6 +94,7 @@ fn renew_second<'a, L: Ledger, D: Disk + Drop, T: Threads + Wait + Sync>(
 }
 
 // Files with a checkpoint in the first one, or as they were.
+#[inline(never)]
 fn renew_first<'a, L: Ledger, D: Disk + Drop, T: Threads + Wait + Sync>(
     threads: &T,
     store: &LineStore<L>,
@@ -227,6 +229,7 @@ fn renew_back<'a, L: Ledger, D: Disk + Drop, T: Threads + Wait + Sync>(
 
 // Makes the file that counted before as long as the checkpoint. If it is longer than the file that
 // counts, on a full disk, another checkpoint goes back there.
+#[inline(never)]
 fn keep_room<'a, L: Ledger, D: Disk + Drop, T: Threads + Wait + Sync>(
     threads: &T,
     store: &LineStore<L>,

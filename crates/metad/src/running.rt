@@ -117,6 +117,7 @@ fn go_on<
 }
 
 // Answers lines until the input ends.
+#[inline(never)]
 fn answer_all<
     'a,
     S: StoreService,

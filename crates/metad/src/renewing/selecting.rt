@@ -54,6 +54,7 @@ fn watched<D: Disk + Drop>(
 }
 
 /// Lets the second file count, which has the checkpoint, in place of the first.
+#[inline(never)]
 pub fn select_second<D: Disk + Drop>(
     rt: &HostRuntime,
     first: Counting<D>,
@@ -81,6 +82,7 @@ pub fn select_second<D: Disk + Drop>(
 }
 
 /// Lets the first file count, which has the checkpoint, in place of the second.
+#[inline(never)]
 pub fn select_first<D: Disk + Drop>(
     rt: &HostRuntime,
     first: Written<JournalFile<D, Standby>>,

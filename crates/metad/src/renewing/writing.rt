@@ -79,6 +79,7 @@ pub struct Written<E: Log + Drop> {
 
 /// Takes a checkpoint into a file that doesn't count, and that has this selector, and puts its card
 /// there. It has a line, since a second file without one counts as missing.
+#[inline(never)]
 pub fn write_into<L: Ledger, C: Selector, D: Disk + Drop, T: Threads + Wait + Sync>(
     threads: &T,
     alloc: Global,
@@ -112,6 +113,7 @@ pub fn write_into<L: Ledger, C: Selector, D: Disk + Drop, T: Threads + Wait + Sy
 }
 
 // Takes a checkpoint into a file that was just opened, whatever stands there.
+#[inline(never)]
 fn write_anew<L: Ledger, C: Selector, D: Disk + Drop, T: Threads + Wait + Sync>(
     threads: &T,
     alloc: Global,

@@ -74,6 +74,7 @@ fn leave<'a, D: Disk + Drop, N: Teller>(
 }
 
 // Takes a checkpoint where one is due, and leaves a witness.
+#[inline(never)]
 fn pause<'a, L: Ledger, T: Threads + Wait + Sync, D: Disk + Drop, N: Teller>(
     threads: &T,
     store: &LineStore<L>,

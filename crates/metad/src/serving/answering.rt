@@ -44,6 +44,7 @@ fn spare_room(alloc: Global) -> Option<Vec<u8>> {
 }
 
 // Tells what a start found, and answers lines.
+#[inline(never)]
 fn answer_lines<
     'a,
     S: StoreService + Drop,
@@ -89,6 +90,7 @@ fn answer_lines<
 }
 
 // The same with numbered replies, where these are wanted.
+#[inline(never)]
 fn serve_numbered<
     'a,
     S: StoreService + Drop,
@@ -122,6 +124,7 @@ fn serve_numbered<
 
 /// Answers lines from a store that a start made of this number of lines, with a clock before it where
 /// that is wanted. The clock's room is taken before the room that the run keeps free.
+#[inline(never)]
 pub fn serve_store<
     'a,
     S: StoreService + Drop,
