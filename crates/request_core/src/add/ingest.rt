@@ -1,13 +1,12 @@
 //! The beginning of an ingest, which happens whole or not at all.
-ghost use Rattle.std.specs.Prelude.{◌≡◌, true, false, None, OnOk, OnErr, IfOk, Err};
+ghost use Rattle.std.specs.Prelude.{◌≡◌, true, false, OnOk, OnErr, IfOk, Err};
 ghost use Rattle.meta_types.specs.Keys.{has_row, add_row};
 ghost use Rattle.meta_types.specs.Rows.{ingest_key};
-ghost use Rattle.meta_types.specs.Sound.{AreNumbered};
 ghost use Rattle.meta_types.specs.Changes.{has_namespace, hold_under};
 ghost use Rattle.meta_types.specs.declared.fault.Fault.TheVariants as F;
 ghost use Rattle.meta_types.specs.declared.resource.Resource.TheVariants as H;
-ghost use Rattle.object_tables.specs.Calls.{adding_fault};
 ghost use Rattle.back_model.specs.Objects.{has_number, put_number};
+ghost use Rattle.request_core.specs.Adding.{IsNumberedIngest};
 ghost use Rattle.request_core.specs.Parts.{is_lease_there, MakesOrFails};
 
 use crate::add::content::{hold, release};
@@ -94,10 +93,7 @@ pub(crate) fn grow_ingest<S: SnapBackend, B: BlobBackend, I: IngestBackend>(
     requires lease { is_lease_there row.ns lease.now records.old.leases ≡ true }
     requires free { has_row ingest_key (ingest_key row) records.old.tables.ingests ≡ false }
     requires number { has_number row.number (I.contents backends.old.ingests) ≡ false }
-    requires numbered { adding_fault records.old.tables row.ns
-        (has_row ingest_key (ingest_key row) records.old.tables.ingests) ≡ None
-        → AreNumbered records.old.tables.snapshots
-        (add_row ingest_key row records.old.tables.ingests) }
+    requires numbered { IsNumberedIngest records.old.tables row }
     ensures tables { OnOk result (records.new.tables ≡ record records.old.tables
         { ingests = add_row ingest_key row records.old.tables.ingests }) }
     ensures leases { OnOk result

@@ -6,10 +6,11 @@ ghost use Rattle.meta_types.specs.Keys.{add_row, put_in_order};
 ghost use Rattle.meta_types.specs.Rows.{snap_key};
 ghost use Rattle.meta_types.specs.Changes.{hold_under, stands_before};
 ghost use Rattle.meta_types.specs.Backends.{is_named};
-ghost use Rattle.meta_types.specs.Sound.{AreTables, AreNumbered};
+ghost use Rattle.meta_types.specs.Sound.{AreTables};
 ghost use Rattle.meta_types.specs.declared.resource.Resource.TheVariants as H;
 ghost use Rattle.object_tables.specs.Calls.{adding_snap_fault};
 ghost use Rattle.back_model.specs.Shown.{all_snaps, all_failures, back_snap};
+ghost use Rattle.request_core.specs.Adding.{IsNumberedSnap, has_snap, has_above};
 ghost use Rattle.request_core.specs.Parts.{is_lease_there, MakesOrFails};
 
 use crate::add::commit::snapshot_resource;
@@ -97,14 +98,10 @@ pub(crate) fn grow_snap<S: SnapBackend, B: BlobBackend, I: IngestBackend>(
 ) -> Result<(), Fault>
     requires fine { adding_snap_fault records.old.tables row ≡ None }
     requires sound { AreTables records.old.tables }
-    requires numbered { adding_snap_fault records.old.tables row ≡ None
-        → AreNumbered (add_row snap_key row records.old.tables.snapshots)
-        records.old.tables.ingests }
+    requires numbered { IsNumberedSnap records.old.tables row }
     requires lease { is_lease_there row.key.ns lease.now records.old.leases ≡ true }
-    requires number { list_any (is_named (row.key.snapshotter, row.number))
-        (all_snaps backends.old.shards) ≡ false }
-    requires above { option_map_or (λ n. list_any (is_named (row.key.snapshotter, n))
-        (all_snaps backends.old.shards)) above true ≡ true }
+    requires number { has_snap backends.old.shards row.key.snapshotter row.number ≡ false }
+    requires above { has_above backends.old.shards row.key.snapshotter above ≡ true }
     ensures tables { OnOk result (records.new.tables ≡ record records.old.tables
         { snapshots = add_row snap_key row records.old.tables.snapshots }) }
     ensures leases { OnOk result (records.new.leases ≡ hold_under row.key.ns lease.now
@@ -113,9 +110,8 @@ pub(crate) fn grow_snap<S: SnapBackend, B: BlobBackend, I: IngestBackend>(
         × (records.new.profile ≡ records.old.profile) }
     ensures snapshots { OnOk result (all_snaps backends.new.shards ≡ put_in_order stands_before
         (back_snap row.key.snapshotter (row.number, above)) (all_snaps backends.old.shards)) }
-    ensures err { OnErr result ((records.new.tables ≡ records.old.tables)
-        × (records.new.leases ≡ records.old.leases)
-        × (all_snaps backends.new.shards ≡ all_snaps backends.old.shards)) }
+    ensures err { OnErr result ((records.new.tables ≡ records.old.tables) × (records.new.leases
+        ≡ records.old.leases) × (all_snaps backends.new.shards ≡ all_snaps backends.old.shards)) }
     ensures others { (backends.new.blobs ≡ backends.old.blobs)
         × (backends.new.ingests ≡ backends.old.ingests) }
     ensures fault { MakesOrFails result (all_failures backends.old.shards)

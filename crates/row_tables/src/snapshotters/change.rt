@@ -199,9 +199,8 @@ pub(crate) fn change_row<K: Named, R: SnapshotterRow<K>, A, C: Change<K, R, A>>(
         ≡ false) }
     ensures same { IfNone result (all_rows groups.new.entries ≡ all_rows groups.old.entries) }
     ensures changed { IfSome result (λ answer. (row : R) × (after : R)
-        × C.changes change row answer after × Becomes
-        (layered_key K.texts_of R.name_of R.group_of R.ns_of)
-        (ns.now ∷ snapshotter.now ∷ K.texts_of name.now) row after
+        × C.changes change row answer after × Becomes (layered_key K.texts_of R.name_of R.group_of
+        R.ns_of) (ns.now ∷ snapshotter.now ∷ K.texts_of name.now) row after
         (sorted (layered_key K.texts_of R.name_of R.group_of R.ns_of) (all_rows groups.old.entries))
         (sorted (layered_key K.texts_of R.name_of R.group_of R.ns_of)
         (all_rows groups.new.entries))) }
