@@ -5,10 +5,11 @@ ghost use Rattle.line_loop.specs.Runs.{EndsAnswering, FindsOnly};
 ghost use Rattle.line_loop.specs.Modes.{room_of};
 
 use crate::{LineLog, Mode, RunError};
+use meta_types::LINE_LIMIT;
 use std::alloc::{AllocError, Global};
 
 /// A line that is longer is cut to this length: so much tells that it is too long.
-const LINE_ROOM: usize = 65_537;
+const LINE_ROOM: usize = LINE_LIMIT + 1;
 
 /// The replies to the lines of a block have room, but for long ones.
 const REPLIES_ROOM: usize = 131_072;

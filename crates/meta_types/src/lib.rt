@@ -34,7 +34,7 @@ pub use explanation::{By, Explanation, PathStep};
 pub use fault::Fault;
 pub use instant::Instant;
 pub use labels::Labels;
-pub use limits::{MAX_NODES, MAX_NUMBER, MAX_WORKERS, Workers, is_worker_count};
+pub use limits::{LINE_LIMIT, MAX_NODES, MAX_NUMBER, MAX_WORKERS, Workers, is_worker_count};
 pub use listed::Listed;
 pub use name::Name;
 pub use object::Object;

@@ -12,6 +12,9 @@ pub const MAX_NODES: usize = 16_777_216;
 /// The largest number of a backend snapshot or ingest.
 pub const MAX_NUMBER: u64 = 4_000_000_000;
 
+/// The longest line that can be a request, in bytes without its line feed.
+pub const LINE_LIMIT: usize = 65_536;
+
 /// Whether a collection may be asked to use this number of workers.
 pub fn is_worker_count(workers: usize) -> bool
     ensures { result ≡ is_worker_count workers }

@@ -22,7 +22,7 @@ pub use answering::{answer_line, execute_line};
 pub use line_memory::LineMemory;
 pub use line_room::adds_nothing;
 pub use line_store::rows::work_of;
-pub use line_store::{Fresh, LINE_LIMIT, LineStore};
+pub use line_store::{Fresh, LineStore};
 pub use reply_text::{Answered, ReplyText};
 pub use reserve::{Reserve, Stored, is_listing};
 pub use script::{run_script, run_script_with};

@@ -5,12 +5,9 @@ ghost use Rattle.meta_types.specs.Faults.{Refuses};
 use crate::line_room::LineRoom;
 use crate::reserve::Reserve;
 use json::Scratch;
-use meta_types::Fault;
+use meta_types::{Fault, LINE_LIMIT};
 use reply_line::BLOCK_ROOM;
 use std::alloc::Global;
-
-// The bytes of the longest line that is read.
-const LONGEST: usize = 65536;
 
 /// What is kept for a collection, and for the next line.
 #[derive(Drop)]
@@ -36,7 +33,7 @@ impl LineMemory {
     {
         let reserve = Reserve::open(alloc)?;
         let mut scratch = Scratch::new(alloc);
-        scratch.reserve(LONGEST)?;
+        scratch.reserve(LINE_LIMIT)?;
         let room = LineRoom::new(alloc);
         let block = Vec::with_capacity(alloc, BLOCK_ROOM)?;
         Ok(LineMemory {

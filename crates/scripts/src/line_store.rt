@@ -22,7 +22,7 @@ use crate::reply_text::{Answered as Executed, ReplyText};
 use crate::writing::write_reply_text;
 use back_model::{MemBackend, MemBlobs, MemIngests};
 use line_loop::{Answered, Mode, RunError, Service};
-use meta_types::{Fault, Workers};
+use meta_types::{Fault, LINE_LIMIT, Workers};
 use request_core::State;
 use row_tables::Seed;
 use std::alloc::{AllocError, Global};
@@ -32,9 +32,6 @@ use std::sync::Wait;
 use std::sync::ledger::{Blank, Ledger};
 use std::thread::Threads;
 use store_front::{Locked, MemLocked, Session, WithoutHistory};
-
-/// The longest line that can be a request, in bytes without its line feed. Ours.
-pub const LINE_LIMIT: usize = 65536;
 
 /// What a new store is made of: the ledger of its sessions, and what its tables hash by.
 #[derive(Drop)]

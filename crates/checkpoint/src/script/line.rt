@@ -4,11 +4,8 @@ ghost use Rattle.meta_types.specs.declared.fault.Fault.{Fault};
 ghost use Rattle.checkpoint.specs.Writing.{Stops};
 
 use json::Writer;
-use meta_types::{Fault, Labels};
+use meta_types::{Fault, LINE_LIMIT, Labels};
 use std::alloc::{AllocError, Global};
-
-// The longest line that can be a request, in bytes without its line feed.
-const LINE_LIMIT: usize = 65536;
 
 /// Takes the lines of a checkpoint.
 pub trait Lines {

@@ -7,9 +7,8 @@ ghost use Rattle.kept_store.specs.Clocked.{is_near, IsLet, IsKeptOut, refusal_by
 use crate::run::moments::read_moment;
 use json::Scratch;
 use line_loop::{Answered, Mode, RunError, Service, write_bytes};
-use meta_types::{Fault, Instant};
+use meta_types::{Fault, Instant, LINE_LIMIT};
 use reply_line::refusal_text;
-use scripts::LINE_LIMIT;
 use std::alloc::{AllocError, Global};
 use std::io::Write;
 use std::sync::Wait;

@@ -5,9 +5,8 @@ ghost use Rattle.kept_store.specs.Clocked.{opening_moment, asked_moment, moment_
 
 use gc_labels::read_instant;
 use json::Scratch;
-use meta_types::{Fault, Instant, Request};
+use meta_types::{Fault, Instant, LINE_LIMIT, Request};
 use request_line::{Command, read_line};
-use scripts::LINE_LIMIT;
 use std::alloc::Global;
 use std::mem::drop;
 
