@@ -11,12 +11,6 @@ ghost use Rattle.metad.specs.Runs.{ExchangesFrom};
 pub mod args;
 mod blocks;
 mod stack;
-#[cfg(test)]
-mod tests;
-#[cfg(test)]
-mod tests_blocks;
-#[cfg(test)]
-mod tests_flush;
 
 use crate::script_run::args::{ArgFault, parse_args};
 use crate::script_run::blocks::Blocks;
