@@ -1,6 +1,6 @@
 -- Which of two files counts, as the head of the first one says.
 use Rattle.std.specs.Prelude.{◌≡◌, ◌⊎◌, ℕ, ◌==◌, ◌&&◌, ◌||◌, List, [], ◌∷◌, take, drop, slice_index, Bool, true, false}
-use Rattle.journal.specs.Head.{believed, IsHeaded}
+use Rattle.journal.specs.Head.{believed, IsHeaded, IsSameOrBlank}
 
 -- the end of a head: three bytes of selector, a zero and a line feed
 abbrev pub tail_of : List ℕ → List ℕ
@@ -66,6 +66,13 @@ pub record SameSelector (old new : List ℕ) : Type 0 where
 -- what a crash may leave now it might have left before, or it has the old file's text and selector
 abbrev pub LeavesSelector : List ℕ → (List ℕ → Type 0) → (List ℕ → Type 0) → Type 0
 LeavesSelector old before now = (c : List ℕ) → now c → before c ⊎ SameSelector old c
+
+-- What reading a head leaves: the text and the selector as they were. Only a file that was blank is
+-- changed.
+pub record ReadsHead (old new : List ℕ) (before now : List ℕ → Type 0) : Type 0 where
+  pub same : SameSelector old new
+  pub changed : IsSameOrBlank old new
+  pub crash : LeavesSelector old before now
 
 -- nothing is believed of a file, and the other one doesn't count
 pub record IsUnused (file : List ℕ) : Type 0 where

@@ -12,7 +12,7 @@ mod selector;
 mod steps;
 
 pub use blanking::blank;
-pub use file::JournalFile;
+pub use file::{JournalFile, NotOpen};
 pub use format::{put_format, reads_page};
 pub(crate) use head::make_zeros;
 pub use head::{HEAD, STEP, has_page, is_blank, read_head};

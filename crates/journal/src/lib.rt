@@ -19,8 +19,8 @@ mod sum;
 pub use error::JournalError;
 pub use journal::Journal;
 pub use journal_file::{
-    Active, HEAD, JournalFile, STEP, Selector, Standby, blank, has_head, has_page, is_blank,
-    put_format, read_head, reads_page, select, selects,
+    Active, HEAD, JournalFile, NotOpen, STEP, Selector, Standby, blank, has_head, has_page,
+    is_blank, put_format, read_head, reads_page, select, selects,
 };
 pub use lines::{cut_line, is_commit};
 pub use log::Log;

@@ -15,8 +15,7 @@ use std::marker::PhantomData;
 
 /// A file over a disk: a head, and behind it the bytes that are believed. Bytes are put only to a
 /// disk that mixes: then each byte of a write that a crash cut short is the old one or the new one.
-/// Once it was opened, each file that a crash may leave has the selector of the type, whatever was
-/// asked of it since.
+/// Each file that a crash may leave has the selector of the type, whatever was asked of it.
 #[derive(Drop)]
 pub struct JournalFile<D: Disk + Drop, C: Selector> {
     alloc: Global,
@@ -24,80 +23,81 @@ pub struct JournalFile<D: Disk + Drop, C: Selector> {
     steps: usize,
     size: usize,
     is_open: bool,
-    was_opened: bool,
     selector: PhantomData<C>,
     ghost headed: { is_open ≡ true → IsTrue (D.Disk.is_clean disk)
         → IsHeaded (D.Disk.seen disk) steps },
     ghost sized: { is_open ≡ true → (size ≡ 1048576 * steps) × (steps ≤ 2037) },
-    ghost selected: { was_opened ≡ true → IsTrue (D.Disk.is_clean disk)
+    ghost selected: { IsTrue (D.Disk.is_clean disk)
         → AllSelect C.IS_STANDBY (D.Disk.may_leave disk) },
 }
 
-impl<D: Disk + Drop, C: Selector> JournalFile<D, C> {
-    ghost use Rattle.std.specs.Prelude.{◌≡◌, true, IsTrue, OnOk, IsErrOf};
-    ghost use Rattle.journal.specs.Crashes.{Only};
-    ghost use Rattle.journal.specs.Head.{believed, Texts, IsHeaded, IsUnknown, HasLostHead, IsSameOrBlank};
-    ghost use Rattle.journal.specs.Selector.{AllSelect, SameSelector, LeavesSelector};
+/// Why a file isn't opened, and its disk.
+#[derive(Drop)]
+pub struct NotOpen<D: Disk + Drop> {
+    pub error: JournalError,
+    pub disk: D,
+}
 
-    /// The file of a disk. It has to be opened.
-    pub fn new(alloc: Global, disk: D) -> JournalFile<D, C>
-        ensures { result.disk ≡ disk }
+impl<D: Disk + Drop, C: Selector> JournalFile<D, C> {
+    ghost use Rattle.std.specs.Prelude.{◌≡◌, true, IsTrue, IfOk, IfErr};
+    ghost use Rattle.journal.specs.Crashes.{Only};
+    ghost use Rattle.journal.specs.Head.{believed, Texts, IsHeaded, IsUnknown, HasLostHead};
+    ghost use Rattle.journal.specs.Selector.{AllSelect, ReadsHead};
+
+    /// Opens the file of a disk: reads its head. An empty file, or one that holds no more than zeros
+    /// and a part of a new head, gets a head; any other isn't changed. One with another selector is
+    /// refused.
+    pub fn open(alloc: Global, disk: D) -> Result<JournalFile<D, C>, NotOpen<D>>
+        ensures rests { IfOk result (λ file. Only (believed (D.Disk.seen file.disk))
+            (Texts (D.Disk.may_leave file.disk))) }
+        ensures headed { IfOk result (λ file. IsTrue (D.Disk.is_clean file.disk)
+            → IsHeaded (D.Disk.seen file.disk) file.steps) }
+        ensures opened { IfOk result (λ file. IsTrue (D.Disk.is_clean file.disk)
+            → ReadsHead (D.Disk.seen disk) (D.Disk.seen file.disk) (D.Disk.may_leave disk)
+            (D.Disk.may_leave file.disk)) }
+        ensures refused { IfErr result (λ not. IsTrue (D.Disk.is_clean not.disk)
+            → ReadsHead (D.Disk.seen disk) (D.Disk.seen not.disk) (D.Disk.may_leave disk)
+            (D.Disk.may_leave not.disk)) }
+        ensures unknown { IfErr result (λ not. not.error ≡ JournalError.UnknownFormat
+            → IsTrue (D.Disk.is_clean not.disk) → IsUnknown (D.Disk.seen disk)) }
+        ensures damaged { IfErr result (λ not. not.error ≡ JournalError.Damaged
+            → IsTrue (D.Disk.is_clean not.disk) → HasLostHead (D.Disk.seen disk)) }
+        ensures clean { IfOk result (λ file. IsTrue (D.Disk.is_clean file.disk)
+            → IsTrue (D.Disk.is_clean disk)) }
+        ensures still { IfErr result (λ not. IsTrue (D.Disk.is_clean not.disk)
+            → IsTrue (D.Disk.is_clean disk)) }
     {
-        JournalFile {
+        let mut disk = disk;
+        if !disk.may_be_used() {
+            return Err(NotOpen {
+                error: JournalError::DiskFailed,
+                disk,
+            });
+        }
+        let found = match find(alloc, &mut disk) {
+            Ok(found) => found,
+            Err(error) => return Err(NotOpen { error, disk }),
+        };
+        if !is_alike(found.is_standby, C::IS_STANDBY) {
+            return Err(NotOpen {
+                error: JournalError::DiskFailed,
+                disk,
+            });
+        }
+        Ok(JournalFile {
             alloc,
             disk,
-            steps: 0,
-            size: 0,
-            is_open: false,
-            was_opened: false,
+            steps: found.steps,
+            size: STEP * found.steps,
+            is_open: true,
             selector: PhantomData,
-        }
-    }
-
-    /// Reads the head of the file. An empty file, or one that holds no more than zeros and a part
-    /// of a new head, gets a head; any other isn't changed. One with another selector is refused.
-    pub fn open(&mut self) -> Result<(), JournalError>
-        ensures rests { OnOk result (Only (believed (D.Disk.seen self.new.disk))
-            (Texts (D.Disk.may_leave self.new.disk))) }
-        ensures same { IsTrue (D.Disk.is_clean self.new.disk)
-            → SameSelector (D.Disk.seen self.old.disk) (D.Disk.seen self.new.disk) }
-        ensures opened { OnOk result (self.new.was_opened ≡ true) }
-        ensures selected { OnOk result (IsTrue (D.Disk.is_clean self.new.disk)
-            → AllSelect C.IS_STANDBY (D.Disk.may_leave self.new.disk)) }
-        ensures headed { OnOk result (IsTrue (D.Disk.is_clean self.new.disk)
-            → IsHeaded (D.Disk.seen self.new.disk) self.new.steps) }
-        ensures changed { IsTrue (D.Disk.is_clean self.new.disk)
-            → IsSameOrBlank (D.Disk.seen self.old.disk) (D.Disk.seen self.new.disk) }
-        ensures unknown { IsErrOf result JournalError.UnknownFormat
-            → IsTrue (D.Disk.is_clean self.new.disk) → IsUnknown (D.Disk.seen self.old.disk) }
-        ensures damaged { IsErrOf result JournalError.Damaged
-            → IsTrue (D.Disk.is_clean self.new.disk) → HasLostHead (D.Disk.seen self.old.disk) }
-        ensures crash { IsTrue (D.Disk.is_clean self.new.disk)
-            → LeavesSelector (D.Disk.seen self.old.disk) (D.Disk.may_leave self.old.disk)
-            (D.Disk.may_leave self.new.disk) }
-        ensures clean { IsTrue (D.Disk.is_clean self.new.disk)
-            → IsTrue (D.Disk.is_clean self.old.disk) }
-    {
-        if !self.disk.may_be_used() {
-            return Err(JournalError::DiskFailed);
-        }
-        self.is_open = false;
-        self.was_opened = false;
-        let found = find(self.alloc, &mut self.disk)?;
-        if !is_alike(found.is_standby, C::IS_STANDBY) {
-            return Err(JournalError::DiskFailed);
-        }
-        self.steps = found.steps;
-        self.size = STEP * found.steps;
-        self.was_opened = true;
-        self.is_open = true;
-        Ok(())
+        })
     }
 
     /// The disk of the file.
     pub fn into_disk(self) -> D
         ensures disk { result ≡ self.disk }
-        ensures selected { self.was_opened ≡ true → IsTrue (D.Disk.is_clean result)
+        ensures selected { IsTrue (D.Disk.is_clean result)
             → AllSelect C.IS_STANDBY (D.Disk.may_leave result) }
     {
         self.disk
@@ -105,7 +105,6 @@ impl<D: Disk + Drop, C: Selector> JournalFile<D, C> {
 }
 
 impl<D: Disk + Drop, C: Selector> Log for JournalFile<D, C> {
-    ghost use Rattle.std.specs.Prelude.{◌&&◌};
     ghost use Rattle.journal.specs.Crashes.{Only};
     ghost use Rattle.journal.specs.Head.{believed, Texts};
 
@@ -115,7 +114,7 @@ impl<D: Disk + Drop, C: Selector> Log for JournalFile<D, C> {
 
     ghost rests = { λ f. Only (believed (D.Disk.seen f.disk)) (Texts (D.Disk.may_leave f.disk)) };
 
-    ghost is_clean = { λ f. D.Disk.is_clean f.disk && f.was_opened };
+    ghost is_clean = { λ f. D.Disk.is_clean f.disk };
 
     ghost rested = { λ f c only left. only c left };
 

@@ -37,11 +37,11 @@ fn notes_in<D: Disk + Drop, C: Selector>(
     alloc: Global,
     disk: D,
 ) -> (D, Result<Notes, JournalError>) {
-    let mut log = JournalFile::<D, C>::new(alloc, disk);
-    let notes = match log.open() {
-        Ok(()) => read_page(alloc, &mut log),
-        Err(error) => Err(error),
+    let mut log = match JournalFile::<D, C>::open(alloc, disk) {
+        Ok(log) => log,
+        Err(not) => return (not.disk, Err(not.error)),
     };
+    let notes = read_page(alloc, &mut log);
     (log.into_disk(), notes)
 }
 

@@ -55,8 +55,10 @@ pub fn open_head<D: Disk + Drop>(
         return Err(JournalError::DiskFailed);
     }
     let has_page = reads_page(&mut disk)?;
-    let mut log = JournalFile::<D, Active>::new(alloc, disk);
-    log.open()?;
+    let log = match JournalFile::<D, Active>::open(alloc, disk) {
+        Ok(log) => log,
+        Err(not) => return Err(not.error),
+    };
     // For the prover: it reads the clause of a result that was opened.
     let head = read_head(alloc, log, has_page)?;
     Ok(head)

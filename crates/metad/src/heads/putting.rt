@@ -59,18 +59,16 @@ pub fn put_witness<D: Disk + Drop, C: Selector>(
         Ok(_) => {}
         Err(error) => return (disk, Err(error)),
     }
-    let mut log = JournalFile::<D, C>::new(alloc, disk);
+    let mut log = match JournalFile::<D, C>::open(alloc, disk) {
+        Ok(log) => log,
+        Err(not) => return (not.disk, Err(not.error)),
+    };
     let put = put_into(alloc, &mut log, note);
     (log.into_disk(), put)
 }
 
-// Opens a file and puts a witness into its page.
-fn put_into<D: Disk + Drop, C: Selector>(
-    alloc: Global,
-    log: &mut JournalFile<D, C>,
-    note: Note,
-) -> Result<(), JournalError> {
-    log.open()?;
+// Puts a witness into the page of a file.
+fn put_into<L: Log>(alloc: Global, log: &mut L, note: Note) -> Result<(), JournalError> {
     make_page(log)?;
     put_note(alloc, log, WITNESS, note)
 }

@@ -19,23 +19,17 @@ fn grow_to<L: Log>(log: &mut L, bytes: usize) -> Result<usize, JournalError> {
     Err(JournalError::CannotGrow)
 }
 
-// Opens a file that doesn't count, and makes it longer.
-fn open_to<D: Disk + Drop, C: Selector>(
-    log: &mut JournalFile<D, C>,
-    bytes: usize,
-) -> Result<usize, JournalError> {
-    log.open()?;
-    grow_to(log, bytes)
-}
-
 // Makes a file longer that doesn't count, and gives its disk back.
 fn lengthen<D: Disk + Drop, C: Selector>(
     alloc: Global,
     disk: D,
     bytes: usize,
 ) -> (D, Result<usize, JournalError>) {
-    let mut log = JournalFile::<D, C>::new(alloc, disk);
-    let size = open_to(&mut log, bytes);
+    let mut log = match JournalFile::<D, C>::open(alloc, disk) {
+        Ok(log) => log,
+        Err(not) => return (not.disk, Err(not.error)),
+    };
+    let size = grow_to(&mut log, bytes);
     (log.into_disk(), size)
 }
 

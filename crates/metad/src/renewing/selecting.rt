@@ -98,11 +98,10 @@ pub fn select_first<D: Disk + Drop>(
         Ok(()) => {}
         Err(error) => return Err(select_error(error)),
     }
-    let mut log = JournalFile::<D, Active>::new(rt.alloc(), disk);
-    match log.open() {
-        Ok(()) => {}
-        Err(error) => return Err(select_error(error)),
-    }
+    let log = match JournalFile::<D, Active>::open(rt.alloc(), disk) {
+        Ok(log) => log,
+        Err(not) => return Err(select_error(not.error)),
+    };
     let journal = Journal {
         log: Paged::new(log, true),
         last,

@@ -99,17 +99,13 @@ pub fn write_into<L: Ledger, C: Selector, D: Disk + Drop, T: Threads + Wait + Sy
             });
         }
     }
-    let mut log = JournalFile::<D, C>::new(alloc, disk);
-    match log.open() {
-        Ok(()) => {}
-        Err(error) => {
-            return Err(NotWritten {
-                why: Why::Opening(error),
-                disk: log.into_disk(),
-            });
-        }
+    match JournalFile::<D, C>::open(alloc, disk) {
+        Ok(log) => write_anew(threads, alloc, store, witness, log),
+        Err(not) => Err(NotWritten {
+            why: Why::Opening(not.error),
+            disk: not.disk,
+        }),
     }
-    write_anew(threads, alloc, store, witness, log)
 }
 
 // Takes a checkpoint into a file that was just opened, whatever stands there.

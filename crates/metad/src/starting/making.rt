@@ -72,11 +72,10 @@ pub fn make_head<D: Disk + Drop>(
 ) -> Result<Head<JournalFile<D, Active>>, ExitCode>
     ensures { IfOk result (λ head. ⟦<JournalFile<D, Active> as Log>⟧.rests head.log) }
 {
-    let mut log = JournalFile::<D, Active>::new(rt.alloc(), disk);
-    match log.open() {
-        Ok(()) => {}
-        Err(error) => return Err(not_read(rt, names.first, error)),
-    }
+    let log = match JournalFile::<D, Active>::open(rt.alloc(), disk) {
+        Ok(log) => log,
+        Err(not) => return Err(not_read(rt, names.first, not.error)),
+    };
     match open_head(rt.alloc(), log.into_disk()) {
         Ok(head) => Ok(head),
         Err(error) => Err(not_read(rt, names.first, error)),

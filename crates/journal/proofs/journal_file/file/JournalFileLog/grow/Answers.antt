@@ -1,7 +1,6 @@
-use Rattle.std.proofs.Common.{◌≡◌, ◌∙◌, ap, sym, ◌+◌, ◌-◌, ◌*◌, ◌<◌, Bool, ◌&&◌, inl, inr, arith}
+use Rattle.std.proofs.Common.{◌≡◌, ◌∙◌, sym, ◌+◌, ◌-◌, ◌*◌, ◌<◌, inl, inr, arith}
 use Rattle.std.proofs.lemmas.Bool.{false≢true}
 use Rattle.journal.proofs.Selectors.{follows_selector, zeros_selector}
-use Rattle.journal.proofs.Most.{both_are}
 use Rattle.journal.proofs.Texts.{behind, unmarked_text, more_headed, more_long, grown_text, grown_left, longer_same, at_any_error, rests_from}
 use Rattle.journal.proofs.journal_file.file.JournalFileLog.grow.Goals as goal
 
@@ -23,22 +22,22 @@ invariant_of-self g c =
           (behind _ it.steps c.end_of-from.result _ head c.end_of-from.ensures
           _ c.add_zeros.ensures.torn).0;
       sized = λ now. it.sized is_open;
-      selected = λ opened still.
+      selected = λ still.
           let end = c.end_of-from.ensures in
           zeros_selector g.C.Selector.IS_STANDBY c.end_of-from.result _ _ _ _
           (g.met.D.Disk.seen_may_stay it.disk) (inl (omega (arith, end)))
-          c.add_zeros.ensures.crash (it.selected opened (sym c.add_zeros.ensures.calm ∙ still));
+          c.add_zeros.ensures.crash (it.selected (sym c.add_zeros.ensures.calm ∙ still));
     }
 
 pub returns-in_err-add_zeros-clause-calm : goal.returns-in_err-add_zeros-clause-calm
 returns-in_err-add_zeros-clause-calm g c =
-    ap (λ (b : Bool). b && c.args.self.now.was_opened) c.add_zeros.ensures.calm
+    c.add_zeros.ensures.calm
 
 pub returns-in_err-add_zeros-clause-refused : goal.returns-in_err-add_zeros-clause-refused
 returns-in_err-add_zeros-clause-refused g c =
     at_any_error c.from_residual.result (λ error other both.
     let it = c.args.self.now in
-    let clean = (both_are _ it.was_opened both).0 in
+    let clean = both in
     let is_open = c.if-not-self.false in
     let head = it.headed is_open clean in (
       (behind _ it.steps c.end_of-from.result _ head c.end_of-from.ensures
@@ -50,7 +49,7 @@ returns-in_err-add_zeros-clause-refused g c =
 pub returns-in_err-add_zeros-clause-crash : goal.returns-in_err-add_zeros-clause-crash
 returns-in_err-add_zeros-clause-crash g c both only out left =
     let it = c.args.self.now in
-    let clean = (both_are _ it.was_opened both).0 in
+    let clean = both in
     let is_open = c.if-not-self.false in
     let head = it.headed is_open clean in
     longer_same _ out (only out
@@ -60,7 +59,7 @@ returns-in_err-add_zeros-clause-crash g c both only out left =
 pub returns-in-Err-clause-crash : goal.returns-in-Err-clause-crash
 returns-in-Err-clause-crash g c both only out left =
     let it = c.args.self.now in
-    let clean = (both_are _ it.was_opened both).0 in
+    let clean = both in
     let is_open = c.if-not-self.false in
     let head = it.headed is_open clean in
     let from = c.end_of-from.result in
@@ -98,7 +97,7 @@ invariant_of-self-2-clause-sized g c now =
 pub returns-clause-ok : goal.returns-clause-ok
 returns-clause-ok g c both =
     let it = c.args.self.now in
-    let clean = (both_are _ it.was_opened both).0 in
+    let clean = both in
     let is_open = c.if-not-self.false in
     let head = it.headed is_open clean in
     let from = c.end_of-from.result in
@@ -120,7 +119,7 @@ returns-clause-ok g c both =
 pub returns-clause-crash : goal.returns-clause-crash
 returns-clause-crash g c both only out left =
     let it = c.args.self.now in
-    let clean = (both_are _ it.was_opened both).0 in
+    let clean = both in
     let is_open = c.if-not-self.false in
     let head = it.headed is_open clean in
     let from = c.end_of-from.result in
@@ -133,7 +132,7 @@ returns-clause-crash g c both only out left =
     _ _ c.in_ok-add_zeros.ensures.durable c.put_marks.ensures.crash out left
 
 pub invariant_of-self-2-clause-selected : goal.invariant_of-self-2-clause-selected
-invariant_of-self-2-clause-selected g c opened still =
+invariant_of-self-2-clause-selected g c still =
     let clean = sym c.add_zeros.ensures.calm ∙ sym c.put_marks.ensures.calm ∙ still in
     let it = c.args.self.now in
     let end = c.end_of-from.ensures in
@@ -142,19 +141,17 @@ invariant_of-self-2-clause-selected g c opened still =
     c.put_marks.ensures.torn
     (zeros_selector g.C.Selector.IS_STANDBY c.end_of-from.result _ _ _ _
     (g.met.D.Disk.seen_may_stay it.disk) (inl (omega (arith, end)))
-    c.add_zeros.ensures.crash (it.selected opened clean))
+    c.add_zeros.ensures.crash (it.selected clean))
 
 pub returns-clause-durable : goal.returns-clause-durable
 returns-clause-durable g c both = rests_from _ _ c.in-Ok.ensures.durable
 
 pub returns-in-Err-clause-calm : goal.returns-in-Err-clause-calm
 returns-in-Err-clause-calm g c =
-    ap (λ (b : Bool). b && c.args.self.now.was_opened)
     (c.put_marks.ensures.calm ∙ c.add_zeros.ensures.calm)
 
 pub returns-clause-calm : goal.returns-clause-calm
 returns-clause-calm g c =
-    ap (λ (b : Bool). b && c.args.self.now.was_opened)
     (c.put_marks.ensures.calm ∙ c.add_zeros.ensures.calm)
 
 -- the marks were put, or a part of them
@@ -166,11 +163,11 @@ invariant_of-self-in-Err g c =
     record {
       headed = λ now. absurd (false≢true now);
       sized = λ now. absurd (false≢true now);
-      selected = λ opened still.
+      selected = λ still.
           let clean = sym c.add_zeros.ensures.calm ∙ sym c.put_marks.ensures.calm ∙ still in
           follows_selector g.C.Selector.IS_STANDBY (17 + 2 * it.steps) 2 _ _
           (inr (omega (arith, room))) c.put_marks.ensures.torn
           (zeros_selector g.C.Selector.IS_STANDBY c.end_of-from.result _ _ _ _
           (g.met.D.Disk.seen_may_stay it.disk) (inl (omega (arith, end)))
-          c.add_zeros.ensures.crash (it.selected opened clean));
+          c.add_zeros.ensures.crash (it.selected clean));
     }

@@ -1,14 +1,13 @@
-use Rattle.std.proofs.Common.{◌∙◌, ap, sym, [], Bool, ◌&&◌, inl, inr, arith}
+use Rattle.std.proofs.Common.{◌∙◌, sym, [], inl, inr, arith}
 use Rattle.std.proofs.lemmas.Bool.{false≢true}
 use Rattle.journal.proofs.Selectors.{follows_selector}
-use Rattle.journal.proofs.Most.{both_are}
 use Rattle.journal.proofs.Texts.{put_fits, put_text, put_keeps, put_crash, rests_from}
 use Rattle.journal.proofs.journal_file.file.JournalFileLog.put.Goals as goal
 
 pub returns-in_err-put-clause-crash : goal.returns-in_err-put-clause-crash
 returns-in_err-put-clause-crash g c both only =
     let it = c.args.self.now in
-    let clean = (both_are _ it.was_opened both).0 in
+    let clean = both in
     let is_open = c.if-not-self.false in
     let head = it.headed is_open clean in
     let sized = it.sized is_open in
@@ -38,7 +37,7 @@ invariant_of-self-2-clause-sized g c now = c.args.self.now.sized c.if-not-self.f
 pub returns-clause-ok : goal.returns-clause-ok
 returns-clause-ok g c both =
     let it = c.args.self.now in
-    let clean = (both_are _ it.was_opened both).0 in
+    let clean = both in
     let is_open = c.if-not-self.false in
     let head = it.headed is_open clean in
     let sized = it.sized is_open in
@@ -49,7 +48,7 @@ returns-clause-ok g c both =
 pub returns-clause-fits : goal.returns-clause-fits
 returns-clause-fits g c both =
     let it = c.args.self.now in
-    let clean = (both_are _ it.was_opened both).0 in
+    let clean = both in
     let is_open = c.if-not-self.false in
     let head = it.headed is_open clean in
     let sized = it.sized is_open in
@@ -59,7 +58,7 @@ returns-clause-fits g c both =
 pub returns-clause-crash : goal.returns-clause-crash
 returns-clause-crash g c both only =
     let it = c.args.self.now in
-    let clean = (both_are _ it.was_opened both).0 in
+    let clean = both in
     let is_open = c.if-not-self.false in
     let head = it.headed is_open clean in
     let sized = it.sized is_open in
@@ -77,24 +76,24 @@ returns-clause-durable g c both = rests_from _ _ c.in_ok-put.ensures.durable
 
 pub returns-in_err-put-clause-calm : goal.returns-in_err-put-clause-calm
 returns-in_err-put-clause-calm g c =
-    ap (λ (b : Bool). b && c.args.self.now.was_opened) c.put.ensures.calm
+    c.put.ensures.calm
 
 pub returns-clause-calm : goal.returns-clause-calm
 returns-clause-calm g c =
-    ap (λ (b : Bool). b && c.args.self.now.was_opened) c.put.ensures.calm
+    c.put.ensures.calm
 
 -- behind a head nothing is put that selects
 pub invariant_of-self : goal.invariant_of-self
 invariant_of-self g c = record {
   headed = λ now. absurd (false≢true now);
   sized = λ now. absurd (false≢true now);
-  selected = λ opened still. follows_selector g.C.Selector.IS_STANDBY c.in_ok-place.place _ _ _
+  selected = λ still. follows_selector g.C.Selector.IS_STANDBY c.in_ok-place.place _ _ _
       (inl (omega (arith, c.in_ok-place.ensures.ok))) c.put.ensures.crash
-      (c.args.self.now.selected opened (sym c.put.ensures.calm ∙ still));
+      (c.args.self.now.selected (sym c.put.ensures.calm ∙ still));
 }
 
 pub invariant_of-self-2-clause-selected : goal.invariant_of-self-2-clause-selected
-invariant_of-self-2-clause-selected g c opened still =
+invariant_of-self-2-clause-selected g c still =
     follows_selector g.C.Selector.IS_STANDBY c.in_ok-place.place _ _ _
     (inl (omega (arith, c.in_ok-place.ensures.ok))) c.put.ensures.crash
-    (c.args.self.now.selected opened (sym c.put.ensures.calm ∙ still))
+    (c.args.self.now.selected (sym c.put.ensures.calm ∙ still))

@@ -1,6 +1,5 @@
 use Rattle.std.proofs.Common.{sym, subst, List, ℕ}
 use Rattle.journal.specs.Head.{IsHeaded}
-use Rattle.journal.proofs.Most.{both_are, both_is}
 use Rattle.journal.proofs.Texts.{read_text, still_rests, fewer_texts}
 use Rattle.journal.proofs.journal_file.file.JournalFileLog.read.Goals as goal
 
@@ -15,8 +14,7 @@ returns-in_err-read_block-clause-crash g c out left =
 pub returns-in_err-read_block-clause-clean : goal.returns-in_err-read_block-clause-clean
 returns-in_err-read_block-clause-clean g c both =
     let it = c.args.self.now in
-    let now = both_are _ it.was_opened both in
-    both_is _ it.was_opened (c.read_block.ensures.clean now.0) now.1
+    c.read_block.ensures.clean both
 
 pub returns-clause-rests : goal.returns-clause-rests
 returns-clause-rests g c only =
@@ -28,13 +26,12 @@ returns-clause-crash g c out left = fewer_texts _ _ c.read_block.ensures.crash o
 pub returns-clause-clean : goal.returns-clause-clean
 returns-clause-clean g c both =
     let it = c.args.self.now in
-    let now = both_are _ it.was_opened both in
-    both_is _ it.was_opened (c.read_block.ensures.clean now.0) now.1
+    c.read_block.ensures.clean both
 
 pub returns-clause-bytes : goal.returns-clause-bytes
 returns-clause-bytes g c both =
     let it = c.args.self.now in
-    let clean = (both_are _ it.was_opened both).0 in
+    let clean = both in
     let is_open = c.if-not-self.false in
     read_text _ it.steps it.size (it.headed is_open (c.read_block.ensures.clean clean))
     (it.sized is_open).0 c.args.at c.args.count c.in_ok-place.place _ c.if-count-self.false
@@ -47,6 +44,6 @@ invariant_of-self g c =
       headed = λ now still. subst (λ (t : List ℕ). IsHeaded t it.steps)
           (sym c.read_block.ensures.seen) (it.headed now (c.read_block.ensures.clean still));
       sized = it.sized;
-      selected = λ opened still out left. it.selected opened (c.read_block.ensures.clean still) out
+      selected = λ still out left. it.selected (c.read_block.ensures.clean still) out
           (c.read_block.ensures.crash out left);
     }
