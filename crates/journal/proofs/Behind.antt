@@ -21,6 +21,7 @@ pub behind_rests : (from : ℕ) (text now : List ℕ) (outcomes left : List ℕ 
 behind_rests from text now outcomes left same fewer only c may =
     only c (fewer_behind from outcomes left fewer c may) ∙ ap (drop from) (sym same)
 
+-- where one file alone may be left, so what stands behind a place of it
 pub behind_only : (from : ℕ) (text : List ℕ) (outcomes : List ℕ → Type 0) → Only text outcomes
     → Only (drop from text) (Behind from outcomes)
 behind_only from text outcomes only c may = may.2 ∙ ap (drop from) (only may.0 may.1)
@@ -102,6 +103,7 @@ same_note text block size count at is less are near =
       | inr more ↦ slice_within count at 197 text (omega (arith, near, less, more))
     ]
 
+-- what is read of a note depends on the bytes at its place alone
 pub reads_from : (at : ℕ) (a b : List ℕ) (found : Option Note)
     → take 197 (drop at a) ≡ take 197 (drop at b) → Reads at a found → Reads at b found
 reads_from at a b (Some note) same reads = (reads.0, sym same ∙ reads.1)

@@ -18,6 +18,7 @@ use Rattle.journal.proofs.Tearing.{whole_or_torn}
 
 -- ---- one text is one note
 
+-- where one text is that of two notes, they have one store and one generation
 pub one_note : (a b : Note) → IsNote a → IsNote b → note_text a ≡ note_text b
     → (a.identity ≡ b.identity) × (a.generation ≡ b.generation)
 one_note a b is its same =

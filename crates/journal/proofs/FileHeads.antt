@@ -17,6 +17,7 @@ same_marks a b same = slice_front a b 17 4074 (take_front a b 4091 4096 (omega a
 pub same_selector : (a b : List ℕ) → take 4096 a ≡ take 4096 b → selector_of a ≡ selector_of b
 same_selector a b same = slice_front a b 4091 3 (take_front a b 4094 4096 (omega arith) same)
 
+-- a file that begins by the same 4,096 bytes, and is no shorter, has the same head
 pub head_same : (a b : List ℕ) (size more steps : ℕ) → take 4096 a ≡ take 4096 b → size ≤ more
     → IsHead a size steps → IsHead b more steps
 head_same a b size more steps same le head =
@@ -38,6 +39,7 @@ module _ (file : List ℕ) (steps : ℕ) (head : IsHeaded file steps) where
   pub believed_is : believed file ≡ take (1048576 * steps) (drop 4096 file)
   believed_is = ap (λ (n : ℕ). take (1048576 * n) (drop 4096 file)) head.count
 
+  -- as many bytes are believed as the steps of the head have
   pub size_is : length (believed file) ≡ 1048576 * steps
   size_is = ap length believed_is
       ∙ length-take-le (1048576 * steps) (drop 4096 file)
@@ -76,6 +78,7 @@ believed_length file =
     let some = length-take (1048576 * pairs (marks_of file)) (drop 4096 file) in
     let here = length-drop 4096 file in omega (arith, some, here)
 
+-- bytes that are believed, where the file has them
 pub read_within : (file : List ℕ) (steps at n : ℕ) → IsHeaded file steps → at + n ≤ 1048576 * steps
     → take n (drop (4096 + at) file) ≡ take n (drop at (believed file))
 read_within file steps at n head le =
@@ -85,6 +88,7 @@ read_within file steps at n head le =
 
 module _ (at : ℕ) (bytes file : List ℕ) (inside : 4096 + at ≤ length file)
     (fits : at + length bytes ≤ length (believed file)) where
+  -- bytes that are put behind a head are put into what is believed
   pub put_believed : believed (written (4096 + at) bytes file) ≡ written at bytes (believed file)
   put_believed =
       let new = written (4096 + at) bytes file in
@@ -94,6 +98,7 @@ module _ (at : ℕ) (bytes file : List ℕ) (inside : 4096 + at ≤ length file)
       ∙ ap (take (1048576 * pairs (marks_of file))) (written_behind 4096 at bytes file inside)
       ∙ written_within (1048576 * pairs (marks_of file)) at bytes (drop 4096 file) fits
 
+-- and the head stays as it was
 pub put_headed : (at : ℕ) (bytes file new : List ℕ) (steps : ℕ) → 4096 + at ≤ length file
     → new ≡ written (4096 + at) bytes file → length new ≡ length file
     → IsHeaded file steps → IsHeaded new steps

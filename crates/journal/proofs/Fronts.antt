@@ -11,6 +11,7 @@ pub take_front : (a b : List ℕ) (m n : ℕ) → m ≤ n → take n a ≡ take 
 take_front a b m n le same =
     sym (take-take m n a le) ∙ ap (take m) same ∙ take-take m n b le
 
+-- two texts with one front have the same bytes in it
 pub slice_front : (a b : List ℕ) (h s : ℕ) → take (h + s) a ≡ take (h + s) b
     → take s (drop h a) ≡ take s (drop h b)
 slice_front a b h s same = sym (drop-take h s a) ∙ ap (drop h) same ∙ drop-take h s b
@@ -28,6 +29,7 @@ torn_front at n old new torn within =
 
 -- ---- a part of a part
 
+-- a part of a front is that part of the text
 pub slice_within : (s at n : ℕ) (file : List ℕ) → at + n ≤ s
     → take n (drop at (take s file)) ≡ take n (drop at file)
 slice_within s at n file le =
@@ -84,6 +86,7 @@ written_within s at bytes file fits =
     ∙ ap (λ (t : List ℕ). t ++ (bytes ++ drop k (take s file)))
     (sym (take-take at s file (omega (arith, fits, short))))
 
+-- bytes that are written leave what stands behind them
 pub written_after : (at n : ℕ) (bytes file : List ℕ) → at ≤ length file → at + length bytes ≤ n
     → drop n (written at bytes file) ≡ drop n file
 written_after at n bytes file within le =

@@ -89,6 +89,7 @@ module _ (note : Note) where
         let other = length-place_text note.end in
         omega (arith, both, front, other)
 
+    -- a note takes 197 bytes
     pub length-note_text : length (note_text note) ≡ 197
     length-note_text =
         let parts = ap length behind_end in
@@ -118,6 +119,7 @@ module _ (note : Note) where
         ) refl
 
     module _ (bytes : List ℕ) (stands : take 197 bytes ≡ note_text note) where
+      -- bytes in which a note stands are no shorter than it
       pub long_enough : 197 ≤ length bytes
       long_enough =
           let size = ap length stands in
@@ -149,9 +151,11 @@ module _ (note : Note) where
       generation_read = ap (λ (t : List ℕ). 32 ∷ t) (digits_in 32 16
           ∙ ap (drop 1) generation_is) ∙ place_blank note.generation
 
+      -- the digits of where the groups end
       pub end_read : 32 ∷ take 16 (drop 50 bytes) ≡ end
       end_read = ap (λ (t : List ℕ). 32 ∷ t) (digits_in 49 16
           ∙ ap (drop 1) end_is) ∙ place_blank note.end
 
+      -- the last sum of the groups
       pub sum_read : take 64 (drop 67 bytes) ≡ note.sum
       sum_read = digits_in 66 64 ∙ ap (drop 1) sum_is

@@ -30,6 +30,7 @@ end_long file feed = elim (cases_lt (length file) 4096) [
 
 -- ---- files that have no selector
 
+-- where two of three bytes of selector are 0, the other file doesn't count
 pub unselected : (file : List ℕ) → slice_index file 4091 ≡ 0 → slice_index file 4092 ≡ 0
     → other_counts file ≡ false
 unselected file one two =

@@ -46,6 +46,7 @@ pub sum_has_none : (text : List ℕ) → HasNoFeed (sum_of text)
 unfolding sum_of
 sum_has_none text = digits_have_none (sha256 text)
 
+-- a sum has 64 digits
 pub length-sum_of : (text : List ℕ) → length (sum_of text) ≡ 64
 unfolding sum_of
 length-sum_of text = length-encode_with lower_digits (sha256 text)
@@ -128,6 +129,7 @@ sha_are_bytes : (text : List ℕ) → AreBytes (sha256 text)
 unfolding sha256
 sha_are_bytes text = digest_are_bytes _ 8
 
+-- no byte of a sum is 0
 pub sum_is_marked : (text : List ℕ) → is_torn (sum_of text) ≡ false
 unfolding sum_of
 sum_is_marked text = digits_are_marked (sha256 text) (sha_are_bytes text)

@@ -39,6 +39,7 @@ both_holes [] b (c ∷ front) back one other = absurd one
 both_holes (x ∷ a) b [] back one other = absurd one
 both_holes (x ∷ a) b (c ∷ front) back one other = (one.0, both_holes a b front back one.1 other)
 
+-- a text of which nothing is lost
 pub all_there : (text : List ℕ) → Holes text text
 all_there [] = tt
 all_there (b ∷ text) = (inr refl, all_there text)
@@ -73,6 +74,7 @@ left_has_none (b ∷ text) (c ∷ left) e holes =
 pub torn_more : (a b : List ℕ) → is_torn a ≡ true → is_torn (a ++ b) ≡ true
 torn_more a b torn = list_any-append is_zero a b ∙ rw torn refl
 
+-- a text with a byte of 0 is torn
 pub torn_by : (a b : List ℕ) → is_torn (a ++ 0 ∷ b) ≡ true
 torn_by [] b = refl
 torn_by (x ∷ a) b = elim (cases_Bool (is_zero x)) [

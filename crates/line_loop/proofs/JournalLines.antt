@@ -15,6 +15,7 @@ lines_of-append [] b = refl
 lines_of-append (group ∷ a) b = ap (λ (ls : List (List ℕ)). group ++ ls) (lines_of-append a b)
     ∙ sym (append_assoc group (lines_of a) (lines_of b))
 
+-- the lines of groups to which one is added
 pub lines_of-added : (groups : List (List (List ℕ))) (lines : List (List ℕ))
     → lines_of (added groups lines) ≡ lines_of groups ++ lines
 lines_of-added groups [] = sym (append-nil (lines_of groups))

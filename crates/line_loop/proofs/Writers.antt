@@ -5,6 +5,7 @@ use Rattle.std.specs.Io.KnownBytes.{Appends, Keeps}
 use Rattle.std.proofs.lemmas.List.{append-nil, take-append-drop, take_rest, take_at}
 use Rattle.line_loop.specs.Runs.{WritesFront}
 
+-- nothing is written
 pub Appends-none : (held : Option (List ℕ)) → Appends held held []
 Appends-none None = tt
 Appends-none (Some xs) = sym (append-nil xs)

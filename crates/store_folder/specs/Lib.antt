@@ -1,0 +1,10 @@
+pub mod Choices
+pub mod Folders
+pub mod Laws
+pub mod Logs
+pub mod Openings
+pub mod Spares
+pub mod Takings
+pub mod Blanks
+pub mod Serves
+pub mod Steps
